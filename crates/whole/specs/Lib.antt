@@ -1,0 +1,6 @@
+-- To be believed: First, Root, Width, Sign. Proved of them, and arithmetic for later proofs: laws.
+pub mod First
+pub mod Root
+pub mod Width
+pub mod Sign
+pub mod laws

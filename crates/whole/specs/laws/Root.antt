@@ -1,0 +1,103 @@
+-- The least and the nearest root by inequalities, and that these settle them.
+use mathlib.Core.Path.{_≡_, refl, sym, _∙_, subst}
+use Prim.Native.Nat.{ℕ, zero, suc, _+_, _-_, _*_, _≤_, _<_}
+use native.Mathlib.Nat.{lt-of-not-le, lt-of-lt-of-le}
+use native.Mathlib.Decide.{decLe}
+use native.Mathlib.Omega.{arith}
+use lib.Dec.{T, leb, leb→le, le→leb}
+use Rattle.whole.specs.First.{firstFrom}
+use Rattle.whole.specs.Root.{leastRoot, nearestRoot}
+use Rattle.whole.specs.laws.First.{Least, unique, first-least}
+use Rattle.whole.specs.laws.Squares.{square-le, square-lt, next-square}
+
+-- ---- the least root
+
+pub record LeastRoot (s q : ℕ) : Type 0 where
+  pub above : s ≤ q * q
+  pub least : (k : ℕ) → s ≤ k * k → q ≤ k
+
+self-square : (s : ℕ) → s ≤ (0 + s) * (0 + s)
+self-square zero = omega arith
+self-square (suc n) = omega arith
+
+first-least-root : (s : ℕ) → Least (λ q. leb s (q * q)) (leastRoot s)
+unfolding leastRoot
+first-least-root s = first-least (λ q. leb s (q * q)) s 0 (le→leb s _ (self-square s)) (λ j t. omega arith)
+
+pub least-root : (s : ℕ) → LeastRoot s (leastRoot s)
+least-root s =
+    let r = first-least-root s in
+    record { above = leb→le s _ (r .passes); least = λ k h. r .least k (le→leb s (k * k) h) }
+
+pub least-root-is : {s q : ℕ} → LeastRoot s q → q ≡ leastRoot s
+least-root-is {s} {q} r =
+    let l : Least (λ q. leb s (q * q)) q = record { passes = le→leb s (q * q) (r .above); least = λ k t. r .least k (leb→le s (k * k) t) } in
+    unique l (first-least-root s)
+
+-- by two products: how code tests a root that it is handed
+pub least-root-between : (s q : ℕ) → q * q < s → s ≤ suc q * suc q → suc q ≡ leastRoot s
+least-root-between s q low high = least-root-is (record { above = high; least = λ k h. square-lt q k (lt-of-lt-of-le low h) })
+
+-- ---- the nearest root
+
+suc-sub-one : (q : ℕ) → suc q - 1 ≡ q
+suc-sub-one q = omega arith
+
+pub record NearestRoot (n r : ℕ) : Type 0 where
+  pub below : r * r < n + r
+  pub above : n ≤ r * r + r
+
+first-nearest-root : (n : ℕ) → Least (λ r. leb n (r * r + r)) (nearestRoot n)
+unfolding nearestRoot
+first-nearest-root n = first-least (λ r. leb n (r * r + r)) n 0 (le→leb n _ (omega (arith, self-square n))) (λ j t. omega arith)
+
+-- r² - r is (r - 1)² + (r - 1), which the least r leaves below n
+pub nearest-root : (n : ℕ) → 0 < n → NearestRoot n (nearestRoot n)
+nearest-root n some = by (nearestRoot n) (first-nearest-root n)
+  where
+    by : (r : ℕ) → Least (λ r. leb n (r * r + r)) r → NearestRoot n r
+    by zero l = absurd (omega (arith, leb→le n (0 * 0 + 0) (l .passes)))
+    by (suc r) l =
+        let small : r * r + r < n = lt-of-not-le (λ h. not-suc (l .least r (le→leb n (r * r + r) h))) in
+        record { below = omega arith; above = leb→le n _ (l .passes) }
+      where
+        not-suc : suc r ≤ r → ⊥
+        not-suc h = omega arith
+
+pub nearest-root-is : {n r : ℕ} → NearestRoot n r → r ≡ nearestRoot n
+nearest-root-is {n} {r} p =
+    let l : Least (λ r. leb n (r * r + r)) r = record { passes = le→leb n (r * r + r) (p .above); least = λ k t. beyond k (leb→le n (k * k + k) t) } in
+    unique l (first-nearest-root n)
+  where
+    beyond : (k : ℕ) → n ≤ k * k + k → r ≤ k
+    beyond k h = by (decLe r k)
+      where
+        by : Dec (r ≤ k) → r ≤ k
+        by (yes g) = g
+        by (no f) = absurd (omega (arith, next-square (lt-of-not-le f)))
+
+pub nearest-root-zero : nearestRoot 0 ≡ 0
+unfolding nearestRoot firstFrom
+nearest-root-zero = refl
+
+-- from the least root by one comparison
+module _ (n q : ℕ) (root : LeastRoot n (suc q)) where
+  below-root : q * q < n
+  below-root = lt-of-not-le (λ h. self (root .least q h))
+    where
+      self : suc q ≤ q → ⊥
+      self h = omega arith
+
+  one-down : n ≤ suc q * q → q ≡ nearestRoot n
+  one-down h = nearest-root-is (record { below = omega (arith, below-root); above = omega arith })
+
+  itself : suc q * q < n → suc q ≡ nearestRoot n
+  itself h = nearest-root-is (record { below = omega arith; above = omega (arith, root .above) })
+
+pub nearest-down : (n q : ℕ) → LeastRoot n q → 0 < q → n ≤ q * (q - 1) → q - 1 ≡ nearestRoot n
+nearest-down n zero root some h = absurd (omega arith)
+nearest-down n (suc q) root some h = rw (suc-sub-one q) (one-down n q root (rw (suc-sub-one q) at h))
+
+pub nearest-same : (n q : ℕ) → LeastRoot n q → 0 < q → q * (q - 1) < n → q ≡ nearestRoot n
+nearest-same n zero root some h = absurd (omega arith)
+nearest-same n (suc q) root some h = itself n q root (rw (suc-sub-one q) at h)

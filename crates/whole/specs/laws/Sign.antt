@@ -1,0 +1,54 @@
+-- Parting and joining are inverse, and what the code's steps give: offset binary and its differences.
+use mathlib.Core.Path.{_≡_, refl, ap}
+use mathlib.Core.Bool.{Bool, true, false}
+use Prim.Native.Nat.{ℕ, zero, suc, _+_, _-_, _^_, _≤_, _<_}
+use native.Mathlib.Omega.{arith}
+use lib.IntN.{ℤ, pos, negsuc, negℤ, natAbs, _+ℤ_, _-ℤ_}
+use mir.Syntax.{w64}
+use mir.Val.{SFits}
+use Rattle.whole.specs.declared.sign.SignMagnitude.{SignMagnitude}
+use Rattle.whole.specs.Sign.{isNegative, signed, partOf, joinOf, differenceOf, offsetOf}
+use Rattle.whole.specs.laws.Difference.{up, down, Difference, parts, natural, negated, added, size-up}
+use Rattle.whole.specs.laws.Order.{range}
+
+-- exact for every whole number, 0 among them
+pub join-part : (x : ℤ) → joinOf (partOf x) ≡ x
+join-part (pos n) = refl
+join-part (negsuc n) = refl
+
+pub signed-size : (negative : Bool) (m : ℕ) → natAbs (signed negative m) ≡ m
+signed-size true zero = refl
+signed-size true (suc m) = refl
+signed-size false m = refl
+
+-- a number that an i64 holds has a magnitude of 2^63 at most
+pub signed-fits : (negative : Bool) (m : ℕ) → SFits w64 (signed negative m) → m ≤ 2 ^ 63
+signed-fits true m f = omega (arith, negated (natural m), range (negℤ (pos m)) f)
+signed-fits false m f = omega arith
+
+-- ---- a difference of naturals, by its sign
+
+pub part-negative : {z : ℤ} {p n : ℕ} → Difference z p n → p < n → (m : ℕ) → m + p ≡ n → record { negative = true; magnitude = m } ≡ partOf z
+part-negative {z = pos a} h l m e = absurd (omega arith)
+part-negative {z = negsuc a} h l m e = ap (λ (t : ℕ). record { negative = true; magnitude = t }) (omega arith)
+
+pub part-positive : {z : ℤ} {p n : ℕ} → Difference z p n → n ≤ p → (m : ℕ) → m + n ≡ p → record { negative = false; magnitude = m } ≡ partOf z
+part-positive {z = pos a} h l m e = ap (λ (t : ℕ). record { negative = false; magnitude = t }) (omega arith)
+part-positive {z = negsuc a} h l m e = absurd (omega arith)
+
+-- ---- offset binary
+
+pub offset-sum : (x : ℤ) → SFits w64 x → offsetOf x + down x ≡ up x + 2 ^ 63
+unfolding offsetOf
+offset-sum x f = omega (arith, size-up (added (parts x) (natural (2 ^ 63))) (omega (arith, range x f)))
+
+module _ (from to : ℤ) (from-fits : SFits w64 from) (to-fits : SFits w64 to) where
+  pub difference-down : offsetOf to < offsetOf from → record { negative = true; magnitude = offsetOf from - offsetOf to } ≡ differenceOf from to
+  difference-down l =
+      part-negative (added (parts to) (negated (parts from))) (omega (arith, offset-sum from from-fits, offset-sum to to-fits)) _
+      (omega (arith, offset-sum from from-fits, offset-sum to to-fits))
+
+  pub difference-up : offsetOf from ≤ offsetOf to → record { negative = false; magnitude = offsetOf to - offsetOf from } ≡ differenceOf from to
+  difference-up l =
+      part-positive (added (parts to) (negated (parts from))) (omega (arith, offset-sum from from-fits, offset-sum to to-fits)) _
+      (omega (arith, offset-sum from from-fits, offset-sum to to-fits))
