@@ -6,3 +6,4 @@ pub mod Difference
 pub mod Order
 pub mod Sign
 pub mod Bounded
+pub mod Test

@@ -1,16 +1,16 @@
 -- The order of whole numbers as one of naturals, which `omega` reads; the tests of signed code; sizes and the range of an i64.
 use mathlib.Core.Path.{_≡_, refl, sym, ap, subst, _∙_}
-use mathlib.Core.Bool.{Bool, true, false}
-use Prim.Native.Nat.{ℕ, zero, suc, _+_, _*_, _≤_, _<_, _^_}
+use mathlib.Core.Bool.{true, false}
+use Prim.Native.Nat.{ℕ, zero, suc, _+_, _-_, _*_, _≤_, _<_, _^_}
 use native.Mathlib.Omega.{arith}
-use lib.Dec.{T, leb→le, le→leb, ltb→lt, lt→ltb}
+use lib.Dec.{T, leb→le, le→leb}
 use lib.IntN.{ℤ, pos, negsuc, negℤ, natAbs, _+ℤ_, _-ℤ_, _*ℤ_}
 use lib.Signed.{ltZ, leZ, nonNeg, _≤ℤ_}
 use mir.Syntax.{w64}
 use mir.Val.{SFits, Fits, toZ, ofZ}
 use mir.Facts.{toZ-ofZ}
-use borrow.Author.Tests.{ltb-true, ltb-false, leb-true, leb-false}
-use Rattle.whole.specs.laws.Difference.{up, down, Difference, parts, natural, negated, added, size}
+use borrow.Author.Tests.{ltb-true, ltb-false, leb-true, leb-false, lt-ltb, le-ltb, le-leb, lt-leb}
+use Rattle.whole.specs.laws.Difference.{up, down, Difference, parts, negated, added, equal, size}
 
 -- x is at most y, and x is below y, for `omega`
 infix 5 _≼_ _≺_
@@ -59,6 +59,31 @@ leZ-false (pos a) (negsuc b) e = omega arith
 leZ-false (negsuc a) (pos b) e = absurd (subst T e tt)
 leZ-false (negsuc a) (negsuc b) e = omega (arith, leb-false b a e)
 
+-- and the tests from the facts
+pub ≼-leZ : (x y : ℤ) → x ≼ y → leZ x y ≡ true
+≼-leZ (pos a) (pos b) h = le-leb a b (omega arith)
+≼-leZ (pos a) (negsuc b) h = absurd (omega arith)
+≼-leZ (negsuc a) (pos b) h = refl
+≼-leZ (negsuc a) (negsuc b) h = le-leb b a (omega arith)
+
+pub ≺-leZ : (x y : ℤ) → y ≺ x → leZ x y ≡ false
+≺-leZ (pos a) (pos b) h = lt-leb a b (omega arith)
+≺-leZ (pos a) (negsuc b) h = refl
+≺-leZ (negsuc a) (pos b) h = absurd (omega arith)
+≺-leZ (negsuc a) (negsuc b) h = lt-leb b a (omega arith)
+
+pub ≺-ltZ : (x y : ℤ) → x ≺ y → ltZ x y ≡ true
+≺-ltZ (pos a) (pos b) h = lt-ltb a b (omega arith)
+≺-ltZ (pos a) (negsuc b) h = absurd (omega arith)
+≺-ltZ (negsuc a) (pos b) h = refl
+≺-ltZ (negsuc a) (negsuc b) h = lt-ltb b a (omega arith)
+
+pub ≼-ltZ : (x y : ℤ) → y ≼ x → ltZ x y ≡ false
+≼-ltZ (pos a) (pos b) h = le-ltb a b (omega arith)
+≼-ltZ (pos a) (negsuc b) h = refl
+≼-ltZ (negsuc a) (pos b) h = absurd (omega arith)
+≼-ltZ (negsuc a) (negsuc b) h = le-ltb b a (omega arith)
+
 -- the same of two values that the code reads back from their bits
 module _ (x y : ℤ) (fx : SFits w64 x) (fy : SFits w64 y) where
   pub test-lt : ltZ (toZ w64 (ofZ w64 x)) (toZ w64 (ofZ w64 y)) ≡ true → x ≺ y
@@ -100,6 +125,10 @@ abs-mul (pos a) (negsuc b) = abs-neg (pos (a * suc b))
 abs-mul (negsuc a) (pos b) = abs-neg (pos (suc a * b))
 abs-mul (negsuc a) (negsuc b) = refl
 
+-- no way between two numbers: they are the same
+pub no-way : (x y : ℤ) → natAbs (y -ℤ x) ≡ 0 → x ≡ y
+no-way x y h = equal (parts x) (parts y) (omega (arith, abs-is (y -ℤ x), added (parts y) (negated (parts x))))
+
 -- a square is that of the magnitude
 pub square-is : (z : ℤ) → z *ℤ z ≡ pos (natAbs z * natAbs z)
 square-is (pos a) = refl
@@ -123,3 +152,12 @@ range (negsuc a) h = omega arith
 pub to-unsigned : (z : ℤ) → pos 0 ≼ z → SFits w64 z → T (nonNeg z) × Fits w64 (natAbs z)
 to-unsigned (pos a) h f = (tt, omega arith)
 to-unsigned (negsuc a) h f = absurd (omega arith)
+
+-- between the least and the greatest i64
+pub fits-between : (z : ℤ) → negsuc (2 ^ 63 - 1) ≼ z → z ≼ pos (2 ^ 63 - 1) → SFits w64 z
+fits-between (pos a) l h = omega arith
+fits-between (negsuc a) l h = omega arith
+
+pub between-fits : (z : ℤ) → SFits w64 z → (negsuc (2 ^ 63 - 1) ≼ z) × (z ≼ pos (2 ^ 63 - 1))
+between-fits (pos a) f = omega arith
+between-fits (negsuc a) f = omega arith

@@ -1,14 +1,17 @@
 -- The least and the nearest root by inequalities, and that these settle them.
-use mathlib.Core.Path.{_≡_, refl, sym, _∙_, subst}
-use Prim.Native.Nat.{ℕ, zero, suc, _+_, _-_, _*_, _≤_, _<_}
+use mathlib.Core.Path.{_≡_, refl, sym}
+use Prim.Native.Nat.{ℕ, zero, suc, _+_, _-_, _*_, _≤_, _<_, zero-le}
 use native.Mathlib.Nat.{lt-of-not-le, lt-of-lt-of-le}
 use native.Mathlib.Decide.{decLe}
 use native.Mathlib.Omega.{arith}
-use lib.Dec.{T, leb, leb→le, le→leb}
+use lib.Dec.{leb, eqb, leb→le, le→leb}
+use borrow.Author.Tests.{leb-true, le-leb, eqb-true, eq-eqb, ne-eqb}
+use mathlib.Core.Bool.{true, false}
 use Rattle.whole.specs.First.{firstFrom}
 use Rattle.whole.specs.Root.{leastRoot, nearestRoot}
 use Rattle.whole.specs.laws.First.{Least, unique, first-least}
-use Rattle.whole.specs.laws.Squares.{square-le, square-lt, next-square}
+use Rattle.whole.specs.laws.Test.{same-test}
+use Rattle.whole.specs.laws.Squares.{square-lt, next-square}
 
 -- ---- the least root
 
@@ -37,6 +40,31 @@ least-root-is {s} {q} r =
 -- by two products: how code tests a root that it is handed
 pub least-root-between : (s q : ℕ) → q * q < s → s ≤ suc q * suc q → suc q ≡ leastRoot s
 least-root-between s q low high = least-root-is (record { above = high; least = λ k h. square-lt q k (lt-of-lt-of-le low h) })
+
+-- the test that a number is the least root, by the squares of it and of the one before
+pub root-test-zero : (s : ℕ) → eqb s 0 ≡ eqb 0 (leastRoot s)
+root-test-zero s = same-test to from
+  where
+    to : eqb s 0 ≡ true → eqb 0 (leastRoot s) ≡ true
+    to e = let none = eqb-true s 0 e in eq-eqb 0 _ (least-root-is (record { above = omega arith; least = λ k h. zero-le }))
+
+    from : eqb 0 (leastRoot s) ≡ true → eqb s 0 ≡ true
+    from e = let none = eqb-true 0 (leastRoot s) e in eq-eqb s 0 (omega (arith, rw (sym none) at (least-root s .above)))
+
+module _ (s q : ℕ) (some : 0 < q) where
+  pub root-test-low : s ≤ (q - 1) * (q - 1) → eqb q (leastRoot s) ≡ false
+  root-test-low h = ne-eqb q (leastRoot s) (λ e. omega (arith, least-root s .least (q - 1) h))
+
+  pub root-test : (q - 1) * (q - 1) < s → leb s (q * q) ≡ eqb q (leastRoot s)
+  root-test low = same-test to from
+    where
+      to : leb s (q * q) ≡ true → eqb q (leastRoot s) ≡ true
+      to e =
+          eq-eqb q (leastRoot s)
+          (least-root-is (record { above = leb-true s (q * q) e; least = λ k h. omega (arith, square-lt (q - 1) k (lt-of-lt-of-le low h)) }))
+
+      from : eqb q (leastRoot s) ≡ true → leb s (q * q) ≡ true
+      from e = le-leb s (q * q) (rw (← eqb-true q (leastRoot s) e) at (least-root s .above))
 
 -- ---- the nearest root
 

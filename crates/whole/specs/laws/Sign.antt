@@ -1,14 +1,17 @@
 -- Parting and joining are inverse, and what the code's steps give: offset binary and its differences.
-use mathlib.Core.Path.{_≡_, refl, ap}
-use mathlib.Core.Bool.{Bool, true, false}
+use mathlib.Core.Path.{_≡_, refl, sym, ap, _∙_}
+use mathlib.Core.Bool.{Bool, true, false, Bool·beq}
 use Prim.Native.Nat.{ℕ, zero, suc, _+_, _-_, _^_, _≤_, _<_}
 use native.Mathlib.Omega.{arith}
-use lib.IntN.{ℤ, pos, negsuc, negℤ, natAbs, _+ℤ_, _-ℤ_}
+use lib.IntN.{ℤ, pos, negsuc, negℤ, natAbs}
+use lib.Dec.{eqb}
+use borrow.Author.Tests.{eq-eqb, eqb-false}
 use mir.Syntax.{w64}
 use mir.Val.{SFits}
-use Rattle.whole.specs.declared.sign.SignMagnitude.{SignMagnitude}
-use Rattle.whole.specs.Sign.{isNegative, signed, partOf, joinOf, differenceOf, offsetOf}
+use Rattle.whole.specs.Sign.{signed, partOf, joinOf, differenceOf, offsetOf}
 use Rattle.whole.specs.laws.Difference.{up, down, Difference, parts, natural, negated, added, size-up}
+use Rattle.whole.specs.Equal.{equalZ}
+use Rattle.whole.specs.laws.Test.{refuted, equal-true}
 use Rattle.whole.specs.laws.Order.{range}
 
 -- exact for every whole number, 0 among them
@@ -25,6 +28,24 @@ signed-size false m = refl
 pub signed-fits : (negative : Bool) (m : ℕ) → SFits w64 (signed negative m) → m ≤ 2 ^ 63
 signed-fits true m f = omega (arith, negated (natural m), range (negℤ (pos m)) f)
 signed-fits false m f = omega arith
+
+-- equal where the magnitudes are and, but for 0, the signs
+pub signed-differ : (n n′ : Bool) (m k : ℕ) → eqb m k ≡ false → equalZ (signed n m) (signed n′ k) ≡ false
+signed-differ n n′ m k e =
+    refuted _ (λ t. eqb-false m k e (sym (signed-size n m) ∙ ap natAbs (equal-true (signed n m) (signed n′ k) t) ∙ signed-size n′ k))
+
+pub signed-none : (n n′ : Bool) → equalZ (signed n 0) (signed n′ 0) ≡ true
+signed-none true true = refl
+signed-none true false = refl
+signed-none false true = refl
+signed-none false false = refl
+
+pub signed-same : (n n′ : Bool) (m : ℕ) → 0 < m → equalZ (signed n m) (signed n′ m) ≡ Bool·beq n n′
+signed-same n n′ zero h = absurd (omega arith)
+signed-same true true (suc m) h = eq-eqb m m refl
+signed-same true false (suc m) h = refl
+signed-same false true (suc m) h = refl
+signed-same false false (suc m) h = eq-eqb (suc m) (suc m) refl
 
 -- ---- a difference of naturals, by its sign
 

@@ -1,11 +1,11 @@
 -- The width by leading zeros.
-use mathlib.Core.Path.{_≡_, refl, sym, _∙_, ap}
+use mathlib.Core.Path.{_≡_, _∙_, ap}
 use Prim.Native.Nat.{ℕ, zero, suc, _+_, _-_, _*_, _^_, _≤_, _<_}
-use native.Mathlib.Nat.{pow-suc, lt-of-not-le, not-le-of-lt, zero-add}
+use native.Mathlib.Nat.{pow-suc, lt-of-not-le, zero-add}
 use native.Mathlib.Decide.{decLe}
 use native.Mathlib.Omega.{arith}
 use lib.Count.{leadingZeros, leading-length}
-use lib.Dec.{T, ltb, ltb→lt, lt→ltb}
+use lib.Dec.{ltb, ltb→lt, lt→ltb}
 use lib.Pow.{pow-mono}
 use Rattle.whole.specs.Width.{widthOf}
 use Rattle.whole.specs.laws.First.{Least, unique, first-least}

@@ -1,17 +1,14 @@
 -- `least_root` is right because the square of `below` stays below s while that of `below + gap` does not, until the gap is 1.
 use Prim.Native.Nat.{ℕ, _+_, _-_, _*_, _/_, _^_, _≤_, _<_}
-use mathlib.Core.Path.{_≡_, refl, sym, ap, _∙_}
+use mathlib.Core.Path.{_≡_, _∙_}
 use mathlib.Core.Logic.{⊎-elim}
 use native.Mathlib.Nat.{le-trans, pos-of-ne-zero}
 use native.Mathlib.Numerals.{add-one}
 use native.Mathlib.Omega.{arith}
 use Rattle.whole.specs.laws.Squares.{square-le}
-use Rattle.whole.specs.laws.Root.{least-root-is, least-root-between, least-root}
-use Rattle.whole.specs.Root.{leastRoot}
+use Rattle.whole.specs.laws.Root.{least-root-is, least-root-between}
 use Rattle.whole.proofs.root.least_root.Statement.{statement}
 use Rattle.whole.proofs.root.least_root.Tie as tie
-use Rattle.whole.proofs.root.least_root.Reads as reads
-use Rattle.whole.proofs.root.least_root.Lts as lts
 
 record Inv (s below gap : ℕ) : Type 0 where
   some : 1 ≤ gap

@@ -1,10 +1,10 @@
 -- `nearest_root` is right because the nearest root is the least root or the number before it, as n lies above their product or not.
 use borrow.Author.Needs.{needs}
-use Prim.Native.Nat.{ℕ, _-_, _*_, _^_, _≤_}
+use Prim.Native.Nat.{_-_, _^_, _≤_}
 use mathlib.Core.Path.{_≡_, sym, ap, _∙_}
 use native.Mathlib.Nat.{mul-le-mul, pos-of-ne-zero}
 use native.Mathlib.Omega.{arith}
-use Rattle.whole.specs.Root.{leastRoot, nearestRoot}
+use Rattle.whole.specs.Root.{nearestRoot}
 use Rattle.whole.specs.laws.Root.{LeastRoot, least-root, nearest-root-zero, nearest-down, nearest-same}
 use Rattle.whole.proofs.root.nearest_root.Statement.{statement}
 use Rattle.whole.proofs.root.nearest_root.Tie as tie

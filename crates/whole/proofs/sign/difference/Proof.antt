@@ -1,6 +1,6 @@
 -- `difference` is right because offset binary moves both numbers by the same amount.
 use borrow.Author.Needs.{needs}
-use mathlib.Core.Path.{_≡_, ap, _∙_}
+use mathlib.Core.Path.{_≡_}
 use mir.Facts.{toZ-ofZ}
 use Rattle.whole.specs.Sign.{offsetOf}
 use Rattle.whole.specs.laws.Sign.{difference-down, difference-up}

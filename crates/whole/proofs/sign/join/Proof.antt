@@ -1,21 +1,19 @@
 -- `join` is right because -m is -1 - (m - 1), whose parts fit at every magnitude that an i64 has.
 use borrow.Author.Needs.{needs}
-use mathlib.Core.Path.{_≡_, refl, sym, ap, _∙_}
+use mathlib.Core.Path.{_≡_, sym, ap, _∙_}
 use mathlib.Core.Bool.{Bool, true, false}
 use Prim.Native.Nat.{ℕ, _-_, _^_, _≤_, _<_}
 use native.Mathlib.Nat.{pos-of-ne-zero}
 use native.Mathlib.Omega.{arith}
-use lib.IntN.{ℤ, pos, negsuc, negℤ, _-ℤ_}
+use lib.IntN.{pos, negsuc, negℤ, _-ℤ_}
 use mir.Syntax.{w64}
 use mir.Val.{SFits, toZ}
 use mir.Facts.{toZ-ofZ, toZ-pos}
-use Rattle.whole.specs.Sign.{signed, joinOf}
+use Rattle.whole.specs.Sign.{signed}
 use Rattle.whole.specs.laws.Difference.{ring, var, num, neg, _⊖_}
 use Rattle.whole.specs.laws.Sign.{signed-fits}
 use Rattle.whole.proofs.sign.join.Statement.{statement}
 use Rattle.whole.proofs.sign.join.Tie as tie
-use Rattle.whole.proofs.sign.join.Reads as reads
-use Rattle.whole.proofs.sign.join.Lts as lts
 
 -- with the flag known
 flagged : (known : Bool) {negative : Bool} (m : ℕ) → negative ≡ known → SFits w64 (signed negative m) → SFits w64 (signed known m)

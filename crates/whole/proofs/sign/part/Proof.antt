@@ -1,6 +1,6 @@
 -- `part` is right because the way from 0 to x is x.
 use borrow.Author.Needs.{needs}
-use mathlib.Core.Path.{_≡_, ap, _∙_}
+use mathlib.Core.Path.{ap, _∙_}
 use lib.IntN.{+ℤ-idr}
 use mir.Facts.{toZ-ofZ}
 use Rattle.whole.specs.Sign.{partOf}

@@ -1,0 +1,13 @@
+-- A position is a pair of whole numbers; the way from one to another goes axis by axis.
+use mathlib.Core.Bool.{Bool, _&&_}
+use Rattle.whole.specs.Equal.{equalZ}
+use Rattle.whole.specs.Sign.{differenceOf}
+use Rattle.plane.specs.declared.point.Point.{Point}
+use Rattle.plane.specs.declared.point.Increments.{Increments}
+
+abbrev pub incrementsOf : (from to : Point) → Increments
+incrementsOf from to = record { x = differenceOf (from .x) (to .x); y = differenceOf (from .y) (to .y) }
+
+-- a test of equality that computes
+abbrev pub equalPoint : (p q : Point) → Bool
+equalPoint p q = equalZ (p .x) (q .x) && equalZ (p .y) (q .y)

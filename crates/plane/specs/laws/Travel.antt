@@ -1,0 +1,35 @@
+-- In travel, as an order that `omega` reads.
+use mathlib.Core.Path.{_≡_}
+use mathlib.Core.Bool.{true}
+use lib.IntN.{ℤ}
+use Rattle.whole.specs.laws.Order.{_≼_, leZ-true, ≼-leZ}
+use Rattle.whole.specs.laws.Test.{both, joined}
+use Rattle.plane.specs.declared.point.Point.{Point}
+use Rattle.plane.specs.declared.travel.Range.{Range}
+use Rattle.plane.specs.declared.travel.Travel.{Travel}
+use Rattle.plane.specs.Travel.{withinOf, insideOf}
+
+pub record Within (r : Range) (v : ℤ) : Type 0 where
+  pub above : r .lower ≼ v
+  pub below : v ≼ r .upper
+
+pub record Inside (t : Travel) (p : Point) : Type 0 where
+  pub x : Within (t .x) (p .x)
+  pub y : Within (t .y) (p .y)
+
+-- the test and the facts
+pub within : {r : Range} {v : ℤ} → withinOf r v ≡ true → Within r v
+unfolding withinOf
+within {r} {v} e = let t = both e in record { above = leZ-true (r .lower) v (t .0); below = leZ-true v (r .upper) (t .1) }
+
+pub within-test : {r : Range} {v : ℤ} → Within r v → withinOf r v ≡ true
+unfolding withinOf
+within-test {r} {v} w = joined (≼-leZ (r .lower) v (w .above)) (≼-leZ v (r .upper) (w .below))
+
+pub inside : {t : Travel} {p : Point} → insideOf t p ≡ true → Inside t p
+unfolding insideOf
+inside e = let b = both e in record { x = within (b .0); y = within (b .1) }
+
+pub inside-test : {t : Travel} {p : Point} → Inside t p → insideOf t p ≡ true
+unfolding insideOf
+inside-test i = joined (within-test (i .x)) (within-test (i .y))

@@ -1,0 +1,2 @@
+-- To be believed: Table.
+pub mod Table
