@@ -2,5 +2,8 @@ pub mod Quotient
 pub mod Axis
 pub mod Register
 pub mod Signed
-pub mod Line
+pub mod Cycles
+pub mod Points
+pub mod Pulses
+pub mod Work
 pub mod Bounds

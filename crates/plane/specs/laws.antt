@@ -1,3 +1,4 @@
 pub mod Point
 pub mod Pulse
 pub mod Travel
+pub mod Fits

@@ -6,7 +6,8 @@ use Rattle.plane.specs.declared.point.Point.{Point}
 use Rattle.plane.specs.laws.Point.{length-x, length-y}
 use Rattle.line.specs.declared.line.Line.{Line}
 use Rattle.line.specs.Line.{movedBy, steppedOf}
-use Rattle.line.specs.laws.Line.{LineAt, line-at, some-cycle, axis-x, axis-y, gone-x, gone-y, pulses-next, codes-are}
+use Rattle.line.specs.laws.Pulses.{pulses-next, codes-are}
+use Rattle.line.specs.laws.Work.{LineAt, line-at, some-cycle, axis-x, axis-y, gone-x, gone-y}
 use Rattle.line.proofs.line.Line.codes.Statement.{statement}
 use Rattle.line.proofs.line.Line.codes.Tie as tie
 

@@ -8,7 +8,7 @@ use Rattle.plane.specs.laws.Point.{length-x, length-y, joined-x, joined-y}
 use Rattle.line.specs.declared.line.Line.{Line}
 use Rattle.line.specs.Line.{incrementX, incrementY, pointOf}
 use Rattle.line.specs.laws.Signed.{axis-reached}
-use Rattle.line.specs.laws.Line.{Drawn, drawn, axis-x, axis-y}
+use Rattle.line.specs.laws.Work.{Drawn, drawn, axis-x, axis-y}
 use Rattle.line.proofs.line.Line.has_reached.Statement.{statement}
 use Rattle.line.proofs.line.Line.has_reached.Tie as tie
 

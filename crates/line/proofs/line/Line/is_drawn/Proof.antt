@@ -11,7 +11,7 @@ use Rattle.whole.specs.laws.Test.{refuted, same-test}
 use Rattle.plane.specs.laws.Point.{length-x, length-y}
 use Rattle.line.specs.declared.line.Line.{Line}
 use Rattle.line.specs.Line.{incrementX, incrementY, cyclesOf}
-use Rattle.line.specs.laws.Line.{Drawn, drawn, drawn-test}
+use Rattle.line.specs.laws.Work.{Drawn, drawn, drawn-test}
 use Rattle.line.proofs.line.Line.is_drawn.Statement.{statement}
 use Rattle.line.proofs.line.Line.is_drawn.Tie as tie
 

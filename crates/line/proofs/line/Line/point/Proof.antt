@@ -10,7 +10,9 @@ use mir.Facts.{toZ-ofZ}
 use Rattle.plane.specs.laws.Point.{length-x, length-y, joined-x, joined-y}
 use Rattle.line.specs.declared.line.Line.{Line}
 use Rattle.line.specs.Line.{movedOf, pointOf}
-use Rattle.line.specs.laws.Line.{Drawn, drawn, axis-x, axis-y, some-cycle, FitsPoint, point-fits}
+use Rattle.plane.specs.laws.Fits.{FitsPoint}
+use Rattle.line.specs.laws.Points.{point-fits}
+use Rattle.line.specs.laws.Work.{Drawn, drawn, axis-x, axis-y, some-cycle}
 use Rattle.line.proofs.line.Line.point.Statement.{statement}
 use Rattle.line.proofs.line.Line.point.Tie as tie
 

@@ -8,7 +8,8 @@ use Rattle.line.specs.declared.line.Line.{Line}
 use Rattle.plane.specs.declared.pulse.Pulses.{Pulses}
 use Rattle.plane.specs.Pulse.{shiftedOf}
 use Rattle.line.specs.Line.{steppedOf}
-use Rattle.line.specs.laws.Line.{line-at, FitsPoint, axis-x, stepped-at, stepped-fits}
+use Rattle.plane.specs.laws.Fits.{FitsPoint}
+use Rattle.line.specs.laws.Work.{line-at, axis-x, stepped-at, stepped-fits}
 use Rattle.line.proofs.line.Line.step.Statement.{statement}
 use Rattle.line.proofs.line.Line.step.Tie as tie
 
