@@ -39,4 +39,3 @@ cycles-none p = sym (least-root-is (record { above = simp +ℤ-invr (omega arith
 
 pub cycles-apart : (start end : Point) → 0 < cyclesOf start end → start ≡ end → ⊥
 cycles-apart start end some e = omega (arith, ap (cyclesOf start) (sym e), cycles-none start)
-

@@ -50,4 +50,3 @@ module _ (start end : Point) (some : 0 < cyclesOf start end) where
   -- and so in the range of the code's numbers
   pub point-fits : (c : ℕ) → c ≤ cyclesOf start end → FitsPoint start → FitsPoint end → FitsPoint (pointOf start end c)
   point-fits c due s e = fits-point (point-inside c due (inside-everywhere start s) (inside-everywhere end e))
-

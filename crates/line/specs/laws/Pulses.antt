@@ -53,4 +53,3 @@ pub codes-are : (start end : Point) (some : 0 < cyclesOf start end) (c : ℕ) {w
     → record { x = codeOf (pulsesOf q (w .x .magnitude) c) (w .x .negative); y = codeOf (pulsesOf q (w .y .magnitude) c) (w .y .negative) } ≡ codes start end some c
 codes-are start end some c way own =
     λ i. record { x = codeOf (pulsesOf (own i) (way i .x .magnitude) c) (way i .x .negative); y = codeOf (pulsesOf (own i) (way i .y .magnitude) c) (way i .y .negative) }
-
