@@ -3,7 +3,7 @@ ghost use mathlib.Core.Path.{_≡_};
 ghost use lib.IntN.{_+ℤ_};
 ghost use mir.Syntax.{w64};
 ghost use mir.Val.{SFits};
-ghost use Rattle.plane.specs.Pulse.{pulseOf, codeOf, shiftedOf};
+ghost use Rattle.plane.specs.Pulse.{pulseOf, codeOf, shiftedOf, changeOf, pulsesBetween};
 use crate::point::Point;
 
 // The codes of a tick byte: 0 none, 1 plus, 2 minus.
@@ -44,5 +44,28 @@ pub fn pulsed(at: Point, pulses: Pulses) -> Point
     Point {
         x: shifted(at.x, pulses.x),
         y: shifted(at.y, pulses.y),
+    }
+}
+
+// The code that tells how a coordinate changed.
+fn change(before: i64, after: i64) -> u8
+    ensures { λ r. ⌜ r ≡ changeOf before after ⌝ }
+{
+    if before < after {
+        return 1;
+    }
+    if after < before {
+        return 2;
+    }
+    0
+}
+
+// The codes that tell how a position changed.
+pub fn changes(before: Point, after: Point) -> Pulses
+    ensures { λ r. ⌜ r ≡ pulsesBetween before after ⌝ }
+{
+    Pulses {
+        x: change(before.x, after.x),
+        y: change(before.y, after.y),
     }
 }

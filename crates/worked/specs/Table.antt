@@ -1,11 +1,24 @@
 -- 01, "Pulses worked by hand": the starred rows, each as document 01 has it, and what it is for a row to hold.
-use mathlib.Core.Bool.{Bool, true, false, _&&_, not}
+use mathlib.Core.Bool.{Bool, true, false, _&&_, not, Bool·beq}
 use mathlib.Core.List.{List, [], _∷_}
 use Prim.Native.Nat.{ℕ, zero, suc}
 use lib.Dec.{eqb}
-use lib.IntN.{ℤ, pos}
+use lib.IntN.{ℤ, pos, negsuc}
+use lib.ListN.{length}
+use Rattle.whole.specs.Equal.{equalZ}
 use Rattle.plane.specs.declared.point.Point.{Point}
+use Rattle.plane.specs.declared.travel.Range.{Range}
 use Rattle.plane.specs.Point.{equalPoint}
+use Rattle.plane.specs.Travel.{visitsInside}
+use Rattle.circle.specs.declared.plane.Offset.{Offset}
+use Rattle.circle.specs.declared.plane.Turn.{Turn}
+use Rattle.circle.specs.declared.plane.Turn.the-variants.{Clockwise, Counterclockwise}
+use Rattle.circle.specs.Circle.{excess, onCircle}
+use Rattle.circle.specs.Step.{offset, afterOf}
+use Rattle.circle.specs.Count.{cyclesOf as cycles}
+use Rattle.divider.specs.Divider.{endTick}
+use Rattle.arc.specs.declared.arc.Arc.{Arc}
+use Rattle.arc.specs.Arc.{arcAfter, arcCycles}
 use Rattle.line.specs.Line.{cyclesOf, pointOf, differ}
 
 abbrev pub at : (x y : ℤ) → Point
@@ -16,6 +29,16 @@ pub data Row : Type 0 where
   line : (a b : ℤ) (q : ℕ) (points : List Point) → Row
   -- to a line of these increments question 13 says no
   noLine : (a b : ℤ) → Row
+  -- an arc of N from a point to a point, seen from the centre, visits these points and takes as many cycles as they are
+  arc : (N : ℕ) (turn : Turn) (start end : Offset) (visited : List Offset) → Row
+  -- a full turn of N from a point takes so many cycles
+  fullTurn : (N : ℕ) (turn : Turn) (start : Offset) (cycles : ℕ) → Row
+  -- as an end on the circle of N a point has this F, and question 15 says yes or no
+  endTest : (N : ℕ) (end : Offset) (F : ℤ) (accepted : Bool) → Row
+  -- an arc from a position takes so many cycles, and question 16 says yes or no under this upper X bound, the other bounds being widest
+  bounded : Arc → (start : Point) (cycles upper : ℕ) (accepted : Bool) → Row
+  -- at capacity q0 a block of k cycles and feed f, loaded at remainder r, ends on this working tick
+  ends : (q0 f r k tick : ℕ) → Row
 
 -- the points of a line from (0, 0): n of them, the first after cycle c
 unfoldable pub points : (end : Point) (n c : ℕ) → List Point
@@ -28,13 +51,37 @@ same [] (q ∷ qs) = false
 same (p ∷ ps) [] = false
 same (p ∷ ps) (q ∷ qs) = equalPoint p q && same ps qs
 
+-- the same for points seen from a centre
+unfoldable pub sameSeen : (ps qs : List Offset) → Bool
+sameSeen [] [] = true
+sameSeen [] (q ∷ qs) = false
+sameSeen (p ∷ ps) [] = false
+sameSeen (p ∷ ps) (q ∷ qs) = (equalZ (p .x) (q .x) && equalZ (p .y) (q .y)) && sameSeen ps qs
+
+unfoldable pub visits : (N : ℕ) (turn : Turn) (start : Offset) (n c : ℕ) → List Offset
+visits N turn start zero c = []
+visits N turn start (suc n) c = afterOf N turn start c ∷ visits N turn start n (suc c)
+
+abbrev pub widest : Range
+widest = record { lower = negsuc 999999; upper = pos 1000000 }
+
 unfoldable pub holds : Row → Bool
 holds (line a b q ps) = eqb (cyclesOf (at (pos 0) (pos 0)) (at a b)) q && same (points (at a b) q 1) ps
 holds (noLine a b) = not (differ (at (pos 0) (pos 0)) (at a b))
+holds (arc N turn start end ps) = let k = cycles N turn start end in eqb k (length ps) && sameSeen (visits N turn start k 1) ps
+holds (fullTurn N turn start k) = eqb (cycles N turn start start) k
+holds (endTest N end F accepted) = equalZ (excess N end) F && Bool·beq (onCircle N end) accepted
+holds (bounded a start k upper accepted) =
+    eqb (arcCycles a start) k
+    && Bool·beq (visitsInside (record { x = record { lower = widest .lower; upper = pos upper }; y = widest }) (arcAfter a start) (arcCycles a start)) accepted
+holds (ends q0 f r k tick) = eqb (endTick q0 f r k) tick
 
 unfoldable pub allHold : List Row → Bool
 allHold [] = true
 allHold (r ∷ rs) = holds r && allHold rs
+
+abbrev pub halfTurn : Arc
+halfTurn = record { centre = at (pos 0) (pos 5); square = 25; turn = Counterclockwise; end = at (pos 0) (pos 10); feed = 1 }
 
 unfoldable pub table : List Row
 table =
@@ -46,4 +93,21 @@ table =
     ∷ line (pos 3) (pos 4) 5 (at (pos 1) (pos 1) ∷ at (pos 1) (pos 2) ∷ at (pos 2) (pos 2) ∷ at (pos 2) (pos 3) ∷ at (pos 3) (pos 4) ∷ [])
     -- "Line (0, 0): 13."
     ∷ noLine (pos 0) (pos 0)
+    -- "N 25 from (5, 0) kind 3 to (0, 5), seen from the centre: (5, 1), (5, 2), (4, 3), (3, 4), (2, 5), (1, 5), (0, 5); seven cycles, as source 003's table."
+    ∷ arc 25 Counterclockwise (offset (pos 5) (pos 0)) (offset (pos 0) (pos 5))
+    (offset (pos 5) (pos 1) ∷ offset (pos 5) (pos 2) ∷ offset (pos 4) (pos 3) ∷ offset (pos 3) (pos 4) ∷ offset (pos 2) (pos 5) ∷ offset (pos 1) (pos 5) ∷ offset (pos 0) (pos 5) ∷ [])
+    -- "N 25, full turn: 28 cycles. N 1: 4. N 2: 8."
+    ∷ fullTurn 25 Counterclockwise (offset (pos 5) (pos 0)) 28
+    ∷ fullTurn 25 Clockwise (offset (pos 5) (pos 0)) 28
+    ∷ fullTurn 1 Counterclockwise (offset (pos 1) (pos 0)) 4
+    ∷ fullTurn 2 Counterclockwise (offset (pos 1) (pos 1)) 8
+    -- "N 2: end (0, 1) has F -1, accepted; (0, 2) has F 2, gives 15."
+    ∷ endTest 2 (offset (pos 0) (pos 1)) (negsuc 0) true
+    ∷ endTest 2 (offset (pos 0) (pos 2)) (pos 2) false
+    -- "From (0, 0), I 0, J 5, kind 3, to (0, 10): upper X bound 5 accepted, 14 cycles; bound 4 gives 16."
+    ∷ bounded halfTurn (at (pos 0) (pos 0)) 14 5 true
+    ∷ bounded halfTurn (at (pos 0) (pos 0)) 14 4 false
+    -- "q0 300,000, r 0, k 1: f 150,000 ends on tick 2, 149,999 on tick 3."
+    ∷ ends 300000 150000 0 1 2
+    ∷ ends 300000 149999 0 1 3
     ∷ []

@@ -1,5 +1,9 @@
 -- In travel, as an order that `omega` reads.
-use mathlib.Core.Path.{_≡_}
+use mathlib.Core.Path.{_≡_, refl}
+use mathlib.Core.Logic.{_⊎_, inl, inr}
+use Prim.Native.Nat.{ℕ, zero, suc, _≤_, _<_}
+use native.Mathlib.Nat.{eq-or-lt-of-le, le-of-suc-le-suc}
+use native.Mathlib.Omega.{arith}
 use mathlib.Core.Bool.{true}
 use lib.IntN.{ℤ}
 use Rattle.whole.specs.laws.Order.{_≼_, leZ-true, ≼-leZ}
@@ -7,7 +11,7 @@ use Rattle.whole.specs.laws.Test.{both, joined}
 use Rattle.plane.specs.declared.point.Point.{Point}
 use Rattle.plane.specs.declared.travel.Range.{Range}
 use Rattle.plane.specs.declared.travel.Travel.{Travel}
-use Rattle.plane.specs.Travel.{withinOf, insideOf}
+use Rattle.plane.specs.Travel.{withinOf, insideOf, visitsInside}
 
 pub record Within (r : Range) (v : ℤ) : Type 0 where
   pub above : r .lower ≼ v
@@ -33,3 +37,18 @@ inside e = let b = both e in record { x = within (b .0); y = within (b .1) }
 pub inside-test : {t : Travel} {p : Point} → Inside t p → insideOf t p ≡ true
 unfolding insideOf
 inside-test i = joined (within-test (i .x)) (within-test (i .y))
+
+-- every visited point, one by one
+pub visits : (t : Travel) (path : ℕ → Point) (n : ℕ) → visitsInside t path n ≡ true → (c : ℕ) → 1 ≤ c → c ≤ n → Inside t (path c)
+unfolding visitsInside
+visits t path zero e c some most = absurd (omega arith)
+visits t path (suc n) e c some most = by (both e) (λ h l. visits t path n h c some (le-of-suc-le-suc l)) (eq-or-lt-of-le most)
+  where
+    by : (visitsInside t path n ≡ true) × (insideOf t (path (suc n)) ≡ true) → (visitsInside t path n ≡ true → c < suc n → Inside t (path c)) → (c ≡ suc n) ⊎ (c < suc n) → Inside t (path c)
+    by b earlier (inl q) = rw q (inside (b .1))
+    by b earlier (inr l) = earlier (b .0) l
+
+pub visits-test : (t : Travel) (path : ℕ → Point) (n : ℕ) → ((c : ℕ) → 1 ≤ c → c ≤ n → Inside t (path c)) → visitsInside t path n ≡ true
+unfolding visitsInside
+visits-test t path zero f = refl
+visits-test t path (suc n) f = joined (visits-test t path n (λ c s m. f c s (omega arith))) (inside-test (f (suc n) (omega arith) (omega arith)))

@@ -1,0 +1,28 @@
+-- `cycles` is right because it counts on the circle, seen from the centre.
+use borrow.Author.Needs.{needs}
+use mathlib.Core.Path.{ap₂, _∙_}
+use Rattle.circle.specs.declared.plane.Offset.{Offset}
+use Rattle.circle.specs.Count.{cyclesOf}
+use Rattle.arc.specs.Arc.{arcCycles}
+use Rattle.arc.proofs.arc.Arc.cycles.Statement.{statement}
+use Rattle.arc.proofs.arc.Arc.cycles.Tie as tie
+
+seen-requires : tie.Need-seen-requires
+seen-requires c κs = search needs
+
+seen-requires-2 : tie.Need-seen-requires-2
+seen-requires-2 c κs = search needs
+
+cycles-requires : tie.Need-cycles-requires
+cycles-requires c κs =
+    let s = c .before .before .before .before in
+    (rw (c .before .seen .ensures) (s .pre .on), rw (c .seen2 .ensures) (s .pre .end-on))
+
+returns : tie.Need-returns
+unfolding arcCycles
+returns c =
+    let s = c .before .before .before .before .before in
+    c .cycles .ensures ∙ ap₂ (λ (p e : Offset). cyclesOf (s .args .self .square) (s .args .self .turn) p e) (c .before .before .seen .ensures) (c .before .seen2 .ensures)
+
+pub cycles-spec : {M : Type 1} → statement M
+cycles-spec = tie.close (tie.spec seen-requires seen-requires-2 cycles-requires returns)

@@ -1,0 +1,4 @@
+pub mod Centre
+pub mod Arc
+pub mod Step
+pub mod Work

@@ -1,0 +1,131 @@
+// An arc in work: the points that it visits, its test, and one cycle onward.
+ghost use mathlib.Core.Path.{_≡_};
+ghost use mathlib.Core.Bool.{true};
+ghost use Rattle.plane.specs.Travel.{insideOf, visitsInside};
+ghost use Rattle.circle.specs.Circle.{onCircle};
+ghost use Rattle.arc.specs.Centre.{Near, Wide, seenFrom};
+ghost use Rattle.arc.specs.Arc.{OnArc, arcAfter, arcCycles, arcWidth, arcAt, arcStepped, centres};
+use crate::centre::back;
+use crate::centre::room;
+use crate::centre::seen;
+use circle::plane::Turn;
+use circle::plane::on_circle;
+use plane::point::Point;
+use plane::pulse::Pulses;
+use plane::pulse::changes;
+use plane::travel::Range;
+use plane::travel::Travel;
+use plane::travel::inside;
+
+pub struct Arc {
+    pub centre: Point,
+    // Document 01's N, the square of the radius.
+    pub square: u64,
+    pub turn: Turn,
+    pub end: Point,
+    // Feed number, pulses per minute.
+    pub feed: u64,
+}
+
+// One cycle onward: the point that the arc has reached then, and the pulses that led there.
+pub struct Stepped {
+    pub at: Point,
+    pub pulses: Pulses,
+}
+
+// Whether the centre is one that an arc in work can have.
+fn is_centre(p: Point) -> bool
+    ensures { λ r. ⌜ r ≡ insideOf centres p ⌝ }
+{
+    let range = Range {
+        lower: -2_000_000,
+        upper: 2_000_000,
+    };
+    inside(Travel { x: range, y: range }, p)
+}
+
+impl Arc {
+    // Question 15: whether the end is a circle point.
+    pub fn ends_on_circle(self) -> bool
+        requires { ⌜ Near 2000000 (self .centre) × Near 2000000 (self .end) ⌝ }
+        ensures { λ r. ⌜ r ≡ onCircle (self .square) (seenFrom (self .centre) (self .end)) ⌝ }
+    {
+        let centre = self.centre;
+        let end = self.end;
+        on_circle(self.square, seen(centre, end))
+    }
+
+    // Question 16: whether every point still to visit is in travel, without walking there.
+    pub fn stays(self, travel: Travel, at: Point) -> bool
+        requires { ⌜ OnArc self at × Wide travel × (insideOf travel at ≡ true) ⌝ }
+        ensures { λ r. ⌜ r ≡ visitsInside travel (arcAfter self at) (arcCycles self at) ⌝ }
+    {
+        let centre = self.centre;
+        let end = self.end;
+        let turn = self.turn;
+        circle::travel::stays_inside(
+            room(travel, centre),
+            self.square,
+            turn,
+            seen(centre, at),
+            seen(centre, end),
+        )
+    }
+
+    // Whether this is an arc in work at this point, whatever its numbers.
+    pub fn is_at(self, travel: Travel, at: Point) -> bool
+        requires { ⌜ Wide travel × (insideOf travel at ≡ true) ⌝ }
+        ensures { λ r. ⌜ r ≡ arcAt travel self at ⌝ }
+    {
+        let centre = self.centre;
+        let end = self.end;
+        if !is_centre(centre) {
+            return false;
+        }
+        if !inside(travel, end) {
+            return false;
+        }
+        if !on_circle(self.square, seen(centre, at)) {
+            return false;
+        }
+        if !self.ends_on_circle() {
+            return false;
+        }
+        self.stays(travel, at)
+    }
+
+    // One cycle onward.
+    pub fn step(self, at: Point) -> Stepped
+        requires { ⌜ OnArc self at ⌝ }
+        ensures { λ r. ⌜ r ≡ arcStepped self at ⌝ }
+    {
+        let centre = self.centre;
+        let turn = self.turn;
+        let next = back(
+            centre,
+            circle::step::step(self.square, turn, seen(centre, at)),
+        );
+        Stepped {
+            at: next,
+            pulses: changes(at, next),
+        }
+    }
+
+    // The cycles from here to the end, by the closed count.
+    pub fn cycles(self, at: Point) -> u64
+        requires { ⌜ OnArc self at ⌝ }
+        ensures { λ r. ⌜ r ≡ arcCycles self at ⌝ }
+    {
+        let centre = self.centre;
+        let end = self.end;
+        let turn = self.turn;
+        circle::count::cycles(self.square, turn, seen(centre, at), seen(centre, end))
+    }
+
+    // The register width that a load answers.
+    pub fn width(self) -> u64
+        ensures { λ r. ⌜ r ≡ arcWidth self ⌝ }
+    {
+        whole::width::width(whole::root::nearest_root(self.square))
+    }
+}

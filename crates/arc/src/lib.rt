@@ -1,0 +1,3 @@
+// Arcs on the table: document 01's "Arcs" about a centre. The circle itself, seen from its centre, is crate `circle`; here are positions.
+pub mod arc;
+pub mod centre;

@@ -1,0 +1,25 @@
+-- `advance` is right because it is a move, and an axis written in its own quadrant.
+use mathlib.Core.Path.{ap, _∙_}
+use Rattle.circle.specs.Stepper.{moved, settled, advanceOf}
+use Rattle.circle.specs.laws.Stepper.{entered-bounds, movable, moved-quadrant}
+use borrow.Author.Needs.{needs}
+use Rattle.circle.proofs.step.Stepper.advance.Statement.{statement}
+use Rattle.circle.proofs.step.Stepper.advance.Tie as tie
+
+next-move-requires : tie.Need-next-move-requires
+next-move-requires c κs = search needs
+
+moved-by-requires : tie.Need-moved-by-requires
+moved-by-requires c κs = rw (c .next-move .ensures) (movable (c .before .pre))
+
+settle-requires : tie.Need-settle-requires
+settle-requires c κs =
+    let s = c .before .before .args .self in
+    rw (c .moved-by .ensures, moved-quadrant (c .before .next-move .result) s) (entered-bounds (c .before .before .pre) .four)
+
+returns : tie.Need-returns
+unfolding advanceOf
+returns c = c .settle .ensures ∙ ap settled (c .before .moved-by .ensures) ∙ ap (λ m. settled (moved m (c .before .before .before .args .self))) (c .before .before .next-move .ensures)
+
+pub advance-spec : {M : Type 1} → statement M
+advance-spec = tie.close (tie.spec next-move-requires moved-by-requires settle-requires returns)

@@ -1,0 +1,26 @@
+-- `quadrant_pulse` is right case by case.
+use borrow.Author.Needs.{needs}
+use Rattle.circle.proofs.step.quadrant_pulse.Statement.{statement}
+use Rattle.circle.proofs.step.quadrant_pulse.Tie as tie
+
+enum-told : tie.Need-enum-told
+enum-told c = search needs
+
+enum-told-2 : tie.Need-enum-told-2
+enum-told-2 c = search needs
+
+enum-told-3 : tie.Need-enum-told-3
+enum-told-3 c = search needs
+
+returns : tie.Need-returns
+returns c = simp (c .enum-told .given .1)
+
+returns-2 : tie.Need-returns-2
+returns-2 c = simp (c .enum-told2 .given .1)
+
+returns-3 : tie.Need-returns-3
+returns-3 c = simp (c .enum-told3 .given .1)
+
+pub quadrant-pulse-spec : {M : Type 1} → statement M
+quadrant-pulse-spec =
+    tie.close (tie.spec enum-told enum-told-2 enum-told-3 returns returns-2 returns-3)

@@ -1,0 +1,37 @@
+-- `stays_inside` is right because the mirror shows clockwise as counterclockwise.
+use mathlib.Core.Path.{_∙_}
+use native.Mathlib.Omega.{arith}
+use Rattle.circle.specs.Travel.{staysInside}
+use Rattle.circle.specs.laws.Circle.{on-circle-small}
+use Rattle.circle.specs.laws.Count.{seen-on}
+use borrow.Author.Needs.{needs}
+use Rattle.circle.proofs.travel.stays_inside.Statement.{statement}
+use Rattle.circle.proofs.travel.stays_inside.Tie as tie
+
+room-from-requires : tie.Need-room-from-requires
+room-from-requires c κs = search needs
+
+seen-from-requires : tie.Need-seen-from-requires
+seen-from-requires c κs = let s = c .before in omega (arith, on-circle-small (s .args .n) (s .args .p) (s .pre .0))
+
+seen-from-requires-2 : tie.Need-seen-from-requires-2
+seen-from-requires-2 c κs = let s = c .before .before in omega (arith, on-circle-small (s .args .n) (s .args .e) (s .pre .1))
+
+way-inside-requires : tie.Need-way-inside-requires
+way-inside-requires c κs =
+    let s = c .before .before .before in
+    rw (c .before .seen-from .ensures, c .seen-from2 .ensures) (seen-on (s .args .n) (s .args .turn) (s .args .p) (s .pre .0), seen-on (s .args .n) (s .args .turn) (s .args .e) (s .pre .1))
+
+returns : tie.Need-returns
+unfolding staysInside
+returns c = c .way-inside .ensures ∙ rw (c .before .before .before .room-from .ensures, c .before .before .seen-from .ensures, c .before .seen-from2 .ensures)
+
+pub stays-inside-spec : {M : Type 1} → statement M
+stays-inside-spec =
+    tie.close
+    (tie.spec
+    room-from-requires
+    seen-from-requires
+    seen-from-requires-2
+    way-inside-requires
+    returns)

@@ -1,0 +1,13 @@
+pub mod Test
+pub mod Octant
+pub mod Step
+pub mod Circle
+pub mod Next
+pub mod Rank
+pub mod Walk
+pub mod Travel
+pub mod Inside
+pub mod Count
+pub mod Distance
+pub mod Code
+pub mod Stepper
