@@ -1,0 +1,3 @@
+-- To be believed: Block, Questions.
+pub mod Block
+pub mod Questions

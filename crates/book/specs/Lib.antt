@@ -1,0 +1,2 @@
+-- To be believed: Book.
+pub mod Book
