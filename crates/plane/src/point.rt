@@ -1,6 +1,6 @@
 // A position, and the way from one to another.
 ghost use mathlib.Core.Path.{_≡_};
-ghost use Rattle.plane.specs.Point.{incrementsOf};
+ghost use Rattle.plane.specs.Point.{incrementsOf, equalPoint};
 use whole::sign::SignMagnitude;
 
 pub struct Point {
@@ -22,4 +22,13 @@ pub fn between(from: Point, to: Point) -> Increments
         x: whole::sign::difference(from.x, to.x),
         y: whole::sign::difference(from.y, to.y),
     }
+}
+
+pub fn is_same(p: Point, q: Point) -> bool
+    ensures { λ r. ⌜ r ≡ equalPoint p q ⌝ }
+{
+    let way = between(p, q);
+    let x = way.x;
+    let y = way.y;
+    x.magnitude == 0 && y.magnitude == 0
 }

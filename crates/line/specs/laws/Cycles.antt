@@ -1,5 +1,6 @@
 -- The number of cycles: at least each increment, none for a line that goes nowhere, and bounded within travel.
-use mathlib.Core.Path.{_≡_, sym, ap}
+use mathlib.Core.Bool.{true, not, true≢false}
+use mathlib.Core.Path.{_≡_, sym, ap, _∙_}
 use Prim.Native.Nat.{_+_, _*_, _≤_, _<_, zero-le}
 use native.Mathlib.Nat.{pos-of-ne-zero}
 use native.Mathlib.Omega.{arith}
@@ -8,8 +9,10 @@ use Rattle.whole.specs.laws.Order.{no-way}
 use Rattle.whole.specs.laws.Root.{least-root, least-root-is}
 use Rattle.whole.specs.laws.Squares.{square-le, root-le}
 use Rattle.plane.specs.declared.point.Point.{Point}
-use Rattle.plane.specs.laws.Point.{same-point}
-use Rattle.line.specs.Line.{incrementX, incrementY, cyclesOf}
+use Rattle.whole.specs.laws.Test.{refuted}
+use Rattle.plane.specs.Point.{equalPoint}
+use Rattle.plane.specs.laws.Point.{same-point, equal-point, equal-itself}
+use Rattle.line.specs.Line.{incrementX, incrementY, cyclesOf, differ}
 
 module _ (start end : Point) where
   pub increment-x : natAbs (incrementX start end) ≤ cyclesOf start end
@@ -39,3 +42,12 @@ cycles-none p = sym (least-root-is (record { above = simp +ℤ-invr (omega arith
 
 pub cycles-apart : (start end : Point) → 0 < cyclesOf start end → start ≡ end → ⊥
 cycles-apart start end some e = omega (arith, ap (cyclesOf start) (sym e), cycles-none start)
+
+-- question 13 as a fact
+pub differ-apart : (start end : Point) → differ start end ≡ true → start ≡ end → ⊥
+unfolding differ
+differ-apart start end e same = true≢false (sym e ∙ ap not (ap (equalPoint start) (sym same) ∙ equal-itself start))
+
+pub apart-differ : (start end : Point) → (start ≡ end → ⊥) → differ start end ≡ true
+unfolding differ
+apart-differ start end apart = ap not (refuted (equalPoint start end) (λ t. apart (equal-point start end t)))

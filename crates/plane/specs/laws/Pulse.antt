@@ -1,7 +1,8 @@
 -- A pulse is at most one, and its code tells it.
 use mathlib.Core.Path.{_≡_, refl}
-use mathlib.Core.Bool.{Bool, true, false}
-use Prim.Native.Nat.{ℕ, zero, suc}
+use mathlib.Core.Bool.{Bool, true, false, cond}
+use Prim.Native.Nat.{ℕ, zero, suc, _≤_}
+use lib.Signed.{ltZ}
 use lib.IntN.{ℤ, pos, negsuc, _+ℤ_, +ℤ-idr}
 use native.Mathlib.Omega.{arith}
 use Rattle.whole.specs.laws.Difference.{parts, natural, negated, added}
@@ -33,3 +34,14 @@ change-pulse z true false = simp (≺-ltZ z (z +ℤ pos 1) (omega (arith, added 
 change-pulse z true true =
     let d = added (parts z) (negated (natural 1)) in
     simp (≼-ltZ z (z +ℤ negsuc 0) (omega (arith, d)), ≺-ltZ (z +ℤ negsuc 0) z (omega (arith, d)))
+
+-- a code is at most 2
+pub change-small : (before after : ℤ) → changeOf before after ≤ 2
+unfolding changeOf
+change-small b a = by (ltZ b a) (ltZ a b)
+  where
+    by : (t s : Bool) → cond t 1 (cond s 2 0) ≤ 2
+    by true true = omega arith
+    by true false = omega arith
+    by false true = omega arith
+    by false false = omega arith

@@ -1,0 +1,90 @@
+-- 01, Job and machine: "What is in work is nothing, a line with its numbers or an arc with its numbers."
+use mathlib.Core.Path.{_≡_}
+use mathlib.Core.Bool.{Bool, true, false, cond, _&&_}
+use Prim.Native.Nat.{ℕ, _+_, _^_, _<_}
+use lib.Dec.{eqb}
+use Rattle.plane.specs.declared.point.Point.{Point}
+use Rattle.plane.specs.declared.travel.Travel.{Travel}
+use Rattle.plane.specs.Point.{equalPoint}
+use Rattle.plane.specs.Pulse.{cycleByte}
+use Rattle.plane.specs.Travel.{insideOf}
+use Rattle.line.specs.declared.line.Line.{Line}
+use Rattle.line.specs.Line.{differ, lineAt, steppedOf}
+use Rattle.arc.specs.declared.arc.Arc.{Arc}
+use Rattle.arc.specs.Arc.{OnArc, arcAt, arcStepped}
+use Rattle.divider.specs.declared.Fed.{Fed}
+use Rattle.divider.specs.Divider.{fedOf}
+use Rattle.block.specs.Questions.{feedRight}
+use Rattle.work.specs.declared.Work.{Work}
+use Rattle.work.specs.declared.Cycle.{Cycle}
+use Rattle.work.specs.declared.Advance.{Advance}
+
+abbrev pub isNothing : Work → Bool
+isNothing Work.Nothing = true
+isNothing (Work.Line l) = false
+isNothing (Work.Arc a) = false
+
+-- ---- sound
+
+-- "a line in work has start and end in travel and different, feed in 1..q0, cycles done in 0..q-1 and the point that "Lines" gives"
+unfoldable pub lineSound : (q0 : ℕ) → Travel → (at : Point) → Line → Bool
+lineSound q0 t at l =
+    (insideOf t (l .start) && insideOf t (l .end)) && (differ (l .start) (l .end) && (feedRight q0 (l .feed) && lineAt l at))
+
+-- "an arc in work has feed in 1..q0, N in 1..2,000,000,000,000, point and end both circle points of N about a centre within ±2,000,000, and every
+-- point still to visit in travel"
+unfoldable pub arcSound : (q0 : ℕ) → Travel → (at : Point) → Arc → Bool
+arcSound q0 t at a = feedRight q0 (a .feed) && arcAt t a at
+
+unfoldable pub workSound : (q0 : ℕ) → Travel → (at : Point) → Work → Bool
+workSound q0 t at Work.Nothing = true
+workSound q0 t at (Work.Line l) = lineSound q0 t at l
+workSound q0 t at (Work.Arc a) = arcSound q0 t at a
+
+-- ---- a cycle
+
+-- At a block's end nothing is in work: "At c = k the block has ended and nothing is in work."
+abbrev pub following : (ended : Bool) → Work → Work
+following true w = Work.Nothing
+following false w = w
+
+unfoldable pub lineCycle : Line → Cycle
+lineCycle l =
+    let s = steppedOf l in
+    let ended = eqb (l .done + 1) (l .cycles) in
+    record { at = s .at; byte = cycleByte (s .pulses) ended; work = following ended (Work.Line (s .line)) }
+
+-- an arc ends where it reaches its end
+unfoldable pub arcCycle : (at : Point) → Arc → Cycle
+arcCycle at a =
+    let s = arcStepped a at in
+    let ended = equalPoint (s .at) (a .end) in
+    record { at = s .at; byte = cycleByte (s .pulses) ended; work = following ended (Work.Arc a) }
+
+unfoldable pub cycleOf : (at : Point) → Work → Cycle
+cycleOf at Work.Nothing = record { at = at; byte = 0; work = Work.Nothing }
+cycleOf at (Work.Line l) = lineCycle l
+cycleOf at (Work.Arc a) = arcCycle at a
+
+-- ---- a working tick
+
+abbrev pub feedOf : Work → ℕ
+feedOf Work.Nothing = 0
+feedOf (Work.Line l) = l .feed
+feedOf (Work.Arc a) = a .feed
+
+-- 01, Feed divider: "Each working tick .. adds f to the remainder. If it then reaches or passes q0, q0 is taken off and one cycle is done."
+abbrev pub advanceBy : (at : Point) → Work → Fed → Advance
+advanceBy at w f =
+    cond (f .cycle)
+    (record { at = cycleOf at w .at; remainder = f .remainder; byte = cycleOf at w .byte; work = cycleOf at w .work })
+    (record { at = at; remainder = f .remainder; byte = 0; work = w })
+
+unfoldable pub advanceOf : (q0 : ℕ) (at : Point) (remainder : ℕ) → Work → Advance
+advanceOf q0 at r w = advanceBy at w (fedOf q0 (feedOf w) r)
+
+-- what the code of a tick asks: a line or an arc at its point, and a sum that fits
+abbrev pub Ready : (at : Point) (remainder : ℕ) → Work → Type 0
+Ready at r Work.Nothing = r < 2 ^ 64
+Ready at r (Work.Line l) = (lineAt l at ≡ true) × (r + l .feed < 2 ^ 64)
+Ready at r (Work.Arc a) = OnArc a at × (r + a .feed < 2 ^ 64)
