@@ -1,3 +1,4 @@
--- To be believed: Block, Questions.
+-- To be believed: Block, Questions. Proved of them: laws.
 pub mod Block
 pub mod Questions
+pub mod laws

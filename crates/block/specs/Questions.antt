@@ -1,17 +1,17 @@
 -- 01, "Questions, and the number when the answer is no": load's own questions, in the paper's order.
-use mathlib.Core.Bool.{Bool, true, false, cond, _&&_, not}
+use mathlib.Core.Path.{_≡_}
+use mathlib.Core.Bool.{Bool, true, false, _&&_, not}
 use Prim.Native.Nat.{ℕ}
 use lib.Dec.{leb, eqb}
-use lib.IntN.{ℤ, natAbs}
+use lib.IntN.{natAbs}
 use Rattle.plane.specs.declared.point.Point.{Point}
 use Rattle.plane.specs.declared.travel.Travel.{Travel}
 use Rattle.plane.specs.Travel.{insideOf, visitsInside}
 use Rattle.circle.specs.declared.plane.Offset.{Offset}
-use Rattle.circle.specs.declared.plane.Turn.{Turn}
 use Rattle.circle.specs.Circle.{onCircle}
 use Rattle.line.specs.Line.{differ}
 use Rattle.arc.specs.declared.arc.Arc.{Arc}
-use Rattle.arc.specs.Centre.{seenFrom}
+use Rattle.arc.specs.Centre.{Near, Wide, seenFrom}
 use Rattle.arc.specs.Arc.{arcAfter, arcCycles}
 use Rattle.block.specs.declared.Block.{Block}
 use Rattle.block.specs.declared.Path.{Path}
@@ -45,3 +45,11 @@ pathNo t start b (Path.Arc turn centre) = ask (offsetRight centre) (arcNo t (arc
 -- "Load, after 9, in this order: is nothing in work? 10. Is f in 1..q0? 11. Is the end in travel? 12."
 unfoldable pub loadNo : (q0 : ℕ) → Travel → (idle : Bool) (start : Point) → Block → ℕ
 loadNo q0 t idle start b = ask idle (ask (feedRight q0 (b .feed)) (ask (insideOf t (b .end)) (pathNo t start b (b .path)) 12) 11) 10
+
+-- what the code asks of an arc that begins at a start in travel
+pub record Begins (t : Travel) (start : Point) (a : Arc) : Type 0 where
+  pub wide : Wide t
+  pub start-in : insideOf t start ≡ true
+  pub end-in : insideOf t (a .end) ≡ true
+  pub centre : Near 2000000 (a .centre)
+  pub on : onCircle (a .square) (seenFrom (a .centre) start) ≡ true

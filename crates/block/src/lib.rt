@@ -1,4 +1,6 @@
-// A block as a load is given it.
+// A block as a load is given it, and load's questions about it.
+pub mod questions;
+
 use circle::plane::Offset;
 use circle::plane::Turn;
 use plane::point::Point;

@@ -8,14 +8,23 @@ ghost use Rattle.line.specs.Line.{lineAt};
 ghost use Rattle.arc.specs.Centre.{Wide};
 ghost use Rattle.arc.specs.Arc.{OnArc};
 ghost use Rattle.work.specs.Work.{
-    Ready, isNothing, lineSound, arcSound, workSound, lineCycle, arcCycle, advanceOf
+  Ready,
+  isNothing,
+  lineSound,
+  arcSound,
+  workSound,
+  lineCycle,
+  arcCycle,
+  advanceOf,
 };
 use arc::arc::Arc;
-use line::line::Line;
 use divider::add_feed;
-use plane::point::{Point, is_same};
+use line::line::Line;
+use plane::point::Point;
+use plane::point::is_same;
 use plane::pulse::cycle_byte;
-use plane::travel::{Travel, inside};
+use plane::travel::Travel;
+use plane::travel::inside;
 
 pub enum Work {
     Nothing,

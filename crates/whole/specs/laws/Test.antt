@@ -55,5 +55,6 @@ equal-way x y = same-test to from
   where
     to : eqb (natAbs (y -ℤ x)) 0 ≡ true → equalZ x y ≡ true
     to e = rw (no-way x y (eqb-true _ 0 e)) (equal-same y)
+
     from : equalZ x y ≡ true → eqb (natAbs (y -ℤ x)) 0 ≡ true
     from e = rw (equal-true x y e) (eq-eqb _ 0 (ap natAbs (+ℤ-invr y)))
