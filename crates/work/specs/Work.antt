@@ -9,15 +9,20 @@ use Rattle.plane.specs.Point.{equalPoint}
 use Rattle.plane.specs.Pulse.{cycleByte}
 use Rattle.plane.specs.Travel.{insideOf}
 use Rattle.line.specs.declared.line.Line.{Line}
-use Rattle.line.specs.Line.{differ, lineAt, steppedOf}
+use Rattle.line.specs.Line.{differ, lineOf, shortOf, lineAt, steppedOf}
 use Rattle.arc.specs.declared.arc.Arc.{Arc}
 use Rattle.arc.specs.Arc.{OnArc, arcAt, arcStepped}
 use Rattle.divider.specs.declared.Fed.{Fed}
 use Rattle.divider.specs.Divider.{fedOf}
-use Rattle.block.specs.Questions.{feedRight}
+use Rattle.block.specs.declared.Block.{Block}
+use Rattle.block.specs.declared.Path.{Path}
+use Rattle.block.specs.Block.{arcOf, blockWidth}
+use Rattle.block.specs.Questions.{feedRight, offsetRight}
+use Rattle.arc.specs.Centre.{Near}
 use Rattle.work.specs.declared.Work.{Work}
 use Rattle.work.specs.declared.Cycle.{Cycle}
 use Rattle.work.specs.declared.Advance.{Advance}
+use Rattle.work.specs.declared.Begun.{Begun}
 
 abbrev pub isNothing : Work → Bool
 isNothing Work.Nothing = true
@@ -88,3 +93,18 @@ abbrev pub Ready : (at : Point) (remainder : ℕ) → Work → Type 0
 Ready at r Work.Nothing = r < 2 ^ 64
 Ready at r (Work.Line l) = (lineAt l at ≡ true) × (r + l .feed < 2 ^ 64)
 Ready at r (Work.Arc a) = OnArc a at × (r + a .feed < 2 ^ 64)
+
+-- ---- a block comes into work
+
+-- 01, The book of a history: "the block comes into work with c 0, and the answer is its register width"
+abbrev pub workAlong : (start : Point) → Block → Path → Work
+workAlong start b Path.Line = Work.Line (lineOf start (b .end) (b .feed))
+workAlong start b (Path.Arc turn centre) = Work.Arc (arcOf start b turn centre)
+
+unfoldable pub begunOf : (start : Point) → Block → Begun
+begunOf start b = record { work = workAlong start b (b .path); width = blockWidth start b }
+
+-- what the code asks: increments and offsets that its products hold
+abbrev pub Loadable : (start : Point) → Block → Path → Type 0
+Loadable start b Path.Line = shortOf start (b .end) ≡ true
+Loadable start b (Path.Arc turn centre) = Near 1000000 start × (offsetRight centre ≡ true)

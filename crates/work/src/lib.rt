@@ -7,17 +7,11 @@ ghost use Rattle.plane.specs.Travel.{insideOf};
 ghost use Rattle.line.specs.Line.{lineAt};
 ghost use Rattle.arc.specs.Centre.{Wide};
 ghost use Rattle.arc.specs.Arc.{OnArc};
-ghost use Rattle.work.specs.Work.{
-  Ready,
-  isNothing,
-  lineSound,
-  arcSound,
-  workSound,
-  lineCycle,
-  arcCycle,
-  advanceOf,
-};
+ghost use Rattle.work.specs.Work.{Loadable, Ready, isNothing, lineSound, arcSound, workSound, lineCycle, arcCycle, advanceOf, begunOf};
 use arc::arc::Arc;
+use block::Block;
+use block::Path;
+use block::questions::arc_of;
 use divider::add_feed;
 use line::line::Line;
 use plane::point::Point;
@@ -216,5 +210,37 @@ pub fn work_tick(capacity: u64, at: Point, remainder: u64, work: Work) -> Advanc
         }
         Work::Line(l) => line_tick(capacity, at, remainder, l),
         Work::Arc(a) => arc_tick(capacity, at, remainder, a),
+    }
+}
+
+// ---- a block comes into work
+
+// What a block newly in work is, and the register width that its load answers.
+pub struct Begun {
+    pub work: Work,
+    pub width: u64,
+}
+
+pub fn begin(start: Point, b: Block) -> Begun
+    requires { ⌜ Loadable start b (b .path) ⌝ }
+    ensures { λ r. ⌜ r ≡ begunOf start b ⌝ }
+{
+    let end = b.end;
+    let path = b.path;
+    match path {
+        Path::Line => {
+            let l = Line::new(start, end, b.feed);
+            Begun {
+                work: Work::Line(l),
+                width: l.width(),
+            }
+        }
+        Path::Arc(turn, centre) => {
+            let a = arc_of(start, b, turn, centre);
+            Begun {
+                work: Work::Arc(a),
+                width: a.width(),
+            }
+        }
     }
 }

@@ -1,6 +1,6 @@
 -- `arc_sound` is right because it asks the definition's tests.
 use borrow.Author.Needs.{needs}
-use mathlib.Core.Path.{_≡_, sym, _∙_}
+use mathlib.Core.Path.{sym, _∙_}
 use native.Mathlib.Omega.{arith}
 use Rattle.whole.specs.laws.Test.{refuted, same-test}
 use Rattle.arc.specs.laws.Work.{arc-at, arc-test}

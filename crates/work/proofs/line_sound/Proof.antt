@@ -1,11 +1,10 @@
 -- `line_sound` is right because it asks the definition's tests; that start and end differ follows from the cycles left to do.
 use borrow.Author.Needs.{needs}
-use mathlib.Core.Path.{_≡_, sym, _∙_}
-use mathlib.Core.Bool.{true, true≢false}
+use mathlib.Core.Path.{sym, _∙_}
+use mathlib.Core.Bool.{true≢false}
 use native.Mathlib.Omega.{arith}
 use borrow.Author.Tests.{not-true, not-false}
 use Rattle.whole.specs.laws.Test.{refuted, same-test}
-use Rattle.plane.specs.Travel.{insideOf}
 use Rattle.plane.specs.laws.Travel.{inside, inside-test}
 use Rattle.line.specs.laws.Work.{line-at, line-test}
 use Rattle.work.specs.laws.Sound.{line-work, line-sound}

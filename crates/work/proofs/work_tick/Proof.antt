@@ -1,7 +1,6 @@
 -- `work_tick` is right because each case does its own tick.
 use borrow.Author.Needs.{needs}
-use mathlib.Core.Path.{_≡_, ap, _∙_}
-use Rattle.work.specs.declared.Work.{Work}
+use mathlib.Core.Path.{_∙_}
 use Rattle.work.specs.laws.Cycle.{tick-nothing}
 use Rattle.work.proofs.work_tick.Statement.{statement}
 use Rattle.work.proofs.work_tick.Tie as tie

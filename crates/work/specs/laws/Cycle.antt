@@ -4,7 +4,6 @@ use mathlib.Core.Bool.{Bool, true, false}
 use Prim.Native.Nat.{ℕ, _≤_}
 use lib.Dec.{eqb}
 use Rattle.plane.specs.declared.point.Point.{Point}
-use Rattle.plane.specs.declared.pulse.Pulses.{Pulses}
 use Rattle.plane.specs.Point.{equalPoint}
 use Rattle.plane.specs.Pulse.{cycleByte}
 use Rattle.plane.specs.laws.Pulse.{change-small}
