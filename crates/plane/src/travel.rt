@@ -13,7 +13,7 @@ pub struct Travel {
     pub y: Range,
 }
 
-fn within(range: Range, at: i64) -> bool
+pub fn within(range: Range, at: i64) -> bool
     ensures { λ r. ⌜ r ≡ withinOf range at ⌝ }
 {
     range.lower <= at && at <= range.upper

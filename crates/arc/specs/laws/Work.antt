@@ -25,7 +25,7 @@ pub centre-near : {p : Point} → insideOf centres p ≡ true → Near 2000000 p
 centre-near {p} e = let i = inside e in record { x = bounded 1999999 (p .x) (i .x .above) (i .x .below); y = bounded 1999999 (p .y) (i .y .above) (i .y .below) }
 
 -- a point in a travel that is wide enough for 01
-axis-near : (lower upper z : ℤ) → natAbs lower ≤ 1000000 → natAbs upper ≤ 1000000 → lower ≼ z → z ≼ upper → natAbs z ≤ 1000000
+pub axis-near : (lower upper z : ℤ) → natAbs lower ≤ 1000000 → natAbs upper ≤ 1000000 → lower ≼ z → z ≼ upper → natAbs z ≤ 1000000
 axis-near lower upper (pos a) h k l m = omega (arith, abs-is upper)
 axis-near lower upper (negsuc a) h k l m = omega (arith, abs-is lower)
 

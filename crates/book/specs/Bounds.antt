@@ -1,0 +1,28 @@
+-- Demand 3: "On a line the point is at most half a pulse per axis from the exact point for the cycles done, and its squared distance from the line is
+-- at most one half. On an arc it is less than half a pulse from the circle." 01: "on a line or an arc means while the book has one in work".
+use Prim.Native.Nat.{ℕ}
+use lib.IntN.{_-ℤ_}
+use Rattle.plane.specs.declared.point.Point.{Point}
+use Rattle.circle.specs.Circle.{Within}
+use Rattle.line.specs.Line.{incrementX, incrementY, cyclesOf}
+use Rattle.line.specs.Bounds.{HalfPulse, NearLine}
+use Rattle.arc.specs.Centre.{seenFrom, backFrom}
+use Rattle.block.specs.declared.Path.{Path}
+use Rattle.block.specs.Block.{squareOf}
+use Rattle.book.specs.Book.{Job, InWork, Book}
+
+pub record OnLine (start end : Point) (c : ℕ) (at : Point) : Type 0 where
+  pub half-x : HalfPulse (cyclesOf start end) (incrementX start end) c (at .x -ℤ start .x)
+  pub half-y : HalfPulse (cyclesOf start end) (incrementY start end) c (at .y -ℤ start .y)
+  pub near : NearLine (incrementX start end) (incrementY start end) (at .x -ℤ start .x) (at .y -ℤ start .y)
+
+abbrev pub OnPath : Job → (at : Point) → Path → Type 0
+OnPath j at Path.Line = OnLine (j .start) (j .block .end) (j .done) at
+OnPath j at (Path.Arc turn centre) = Within 1 (squareOf centre) (seenFrom (backFrom (j .start) centre) at)
+
+abbrev pub OnWork : (at : Point) → InWork → Type 0
+OnWork at InWork.nothing = Unit {0}
+OnWork at (InWork.working j) = OnPath j at (j .block .path)
+
+abbrev pub InBounds : Book → Type 0
+InBounds b = OnWork (b .at) (b .work)

@@ -1,0 +1,14 @@
+pub mod Settings
+pub mod Way
+pub mod Load
+pub mod Byte
+pub mod EndTick
+pub mod Sound
+pub mod Here
+pub mod Stretch
+pub mod Call
+pub mod Bounds
+pub mod Sums
+pub mod Ledger
+pub mod Aggregate
+pub mod Runs

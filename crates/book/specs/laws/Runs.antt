@@ -1,0 +1,161 @@
+-- A run is its ticks, one by one, and does the least of budget, buffer and ticks to the block's end.
+use mathlib.Core.Path.{_≡_, refl, sym, ap, ap₂, subst, subst₂, _∙_}
+use mathlib.Core.Bool.{Bool, true, false}
+use mathlib.Core.List.{List, [], _∷_, map}
+use Prim.Native.Nat.{ℕ, zero, suc, _+_, _-_, _*_, _≤_, _<_, min}
+use native.Mathlib.Omega.{arith}
+use lib.Dec.{leb}
+use lib.ListN.{length, replicate}
+use borrow.Author.Tests.{leb-true, leb-false, le-leb, lt-leb}
+use Rattle.whole.specs.laws.Test.{same-test}
+use Rattle.plane.specs.declared.point.Point.{Point}
+use Rattle.plane.specs.declared.travel.Travel.{Travel}
+use Rattle.divider.specs.Divider.{endTick}
+use Rattle.block.specs.Block.{blockCycles}
+use Rattle.book.specs.Book.{Job, InWork, Book, Call, Report, Reply, Strip, isNothing, bookTick, inFront, strip, reportOf, runEntry, replies, closing}
+use Rattle.book.specs.Sums.{tickBytes, cyclesMarked}
+use Rattle.book.specs.Ledger.{Account, ticksGiven}
+use Rattle.book.specs.laws.EndTick.{fewer, exactly, rest}
+use Rattle.book.specs.laws.Sound.{bookOf, JobSound, WorkSound, Sound}
+use Rattle.book.specs.laws.Stretch.{Left, Stripped, strip-stretch}
+use Rattle.book.specs.laws.Ledger.{Open}
+
+-- the working ticks to the end of the block in work, at the remainder r
+abbrev pub ticksLeft : (q0 r : ℕ) → Job → ℕ
+ticksLeft q0 r j = endTick q0 (j .block .feed) r (blockCycles (j .start) (j .block) - j .done)
+
+-- a strip of at most so many ticks does all that the block allows, and says whether it ended
+pub record Counted (q0 most r : ℕ) (j : Job) (s : Strip) : Type 0 where
+  pub ticks : length (s .codes) ≡ min most (ticksLeft q0 r j)
+  pub ended : s .ended ≡ leb (ticksLeft q0 r j) most
+
+module _ (q0 : ℕ) (t : Travel) where
+  -- ---- one by one
+
+  -- so many ticks, called one after the other, answer these bytes and leave this book
+  pub record OneByOne (b : Book) (bytes : List ℕ) (after : Book) : Type 0 where
+    pub answers : replies q0 t b (replicate (length bytes) Call.tick) ≡ map Reply.byte bytes
+    pub leaves : closing q0 t b (replicate (length bytes) Call.tick) ≡ after
+
+  none : (b : Book) → OneByOne b [] b
+  unfolding replies closing
+  none b = record { answers = refl; leaves = refl }
+
+  pub strip-ticks : (most : ℕ) (b : Book) → OneByOne b (strip q0 t most b .codes) (strip q0 t most b .last)
+  unfolding strip replies closing
+  strip-ticks zero b = none b
+  strip-ticks (suc n) b = by (isNothing (bookTick q0 t b .after .work)) (strip-ticks n (bookTick q0 t b .after))
+    where
+      by : (ended : Bool)
+          → (let k = bookTick q0 t b in
+          let s = strip q0 t n (k .after) in
+          OneByOne (k .after) (s .codes) (s .last) → OneByOne b (inFront q0 t ended k s .codes) (inFront q0 t ended k s .last))
+      by true rest = record { answers = refl; leaves = refl }
+      by false rest = record { answers = ap (λ (l : List Reply). Reply.byte (bookTick q0 t b .code) ∷ l) (rest .answers); leaves = rest .leaves }
+
+  -- whatever the book: a run's bytes, and the book that it leaves, are those of its ticks
+  pub run-ticks : (b : Book) (budget buffer : ℕ) → (let e = runEntry q0 t b budget buffer in OneByOne b (tickBytes (e .reply)) (e .next))
+  unfolding runEntry
+  run-ticks b budget buffer = by (b .at) (b .mark) (b .remainder) (b .work)
+    where
+      by : (at : Point) (mark : Bool) (r : ℕ) (w : InWork)
+          → (let b = bookOf at mark r w in
+          let e = runEntry q0 t b budget buffer in
+          OneByOne b (tickBytes (e .reply)) (e .next))
+      by at mark r InWork.nothing = none _
+      by at true r (InWork.working j) = none _
+      by at false r (InWork.working j) = strip-ticks (min budget buffer) _
+
+  -- ---- how many ticks
+
+  module _ (at : Point) (r : ℕ) (j : Job) (sound : JobSound q0 t at j) (low : r < q0) where
+    counted : (most : ℕ) → Counted q0 most r j (strip q0 t most (bookOf at false r (InWork.working j)))
+    counted most =
+        let s = strip q0 t most (bookOf at false r (InWork.working j)) in
+        let x = strip-stretch q0 t most at r j sound low in
+        by s x (s .last .work) (x .ended) (x .stretch .left) (x .stretch .sound .work)
+      where
+        k : ℕ
+        k = blockCycles (j .start) (j .block) - j .done
+
+        some : 1 ≤ k
+        some = omega (arith, sound .due)
+
+        by : (s : Strip) → Stripped q0 t most at r j s → (w : InWork) → s .ended ≡ isNothing w
+            → Left j (cyclesMarked (s .codes)) (s .last .at) (s .last .remainder) w → WorkSound q0 t (s .last .at) w → Counted q0 most r j s
+        by s x InWork.nothing ends over work =
+            let left : cyclesMarked (s .codes) ≡ k = omega (arith, over .all) in
+            let fed = ap (λ (c : ℕ). c * q0 + s .last .remainder) (sym left) ∙ x .stretch .feeds in
+            let all = exactly q0 (j .block .feed) r k (sound .some) low some (length (s .codes)) (s .last .remainder) fed (over .early) in
+            record { ticks = omega (arith, x .within); ended = ends ∙ sym (le-leb (ticksLeft q0 r j) most (omega (arith, x .within))) }
+        by s x (InWork.working next) ends going work =
+            let due : cyclesMarked (s .codes) < k = omega (arith, going .done, work .due, ap₂ blockCycles (going .start) (going .block)) in
+            let more = fewer q0 (j .block .feed) r k (sound .some) low some _ _ _ (x .stretch .feeds) (x .stretch .sound .below) due in
+            let all = x .used-up ends in
+            record { ticks = omega arith; ended = ends ∙ sym (lt-leb (ticksLeft q0 r j) most (omega arith)) }
+
+    working-run : (budget buffer : ℕ)
+        → (let b = bookOf at false r (InWork.working j) in
+        let most = min budget buffer in
+        runEntry q0 t b budget buffer .reply
+        ≡ Reply.ran (reportOf q0 t (leb (ticksLeft q0 r j) most) (leb budget buffer)) (min most (ticksLeft q0 r j)) (strip q0 t most b .codes))
+    unfolding runEntry
+    working-run budget buffer =
+        let s = strip q0 t most (bookOf at false r (InWork.working j)) in
+        let c = counted most in
+        ap₂ (λ (report : Report) (n : ℕ). Reply.ran report n (s .codes)) (reports (s .ended) (length (s .codes)) (c .ended) (c .ticks) (leb left most) refl) (c .ticks)
+      where
+        most : ℕ
+        most = min budget buffer
+
+        left : ℕ
+        left = ticksLeft q0 r j
+
+        -- where the block has not ended, what is used up is the lesser of budget and buffer
+        reports : (ended : Bool) (n : ℕ) → ended ≡ leb left most → n ≡ min most left → (u : Bool) → leb left most ≡ u
+            → reportOf q0 t ended (leb budget n) ≡ reportOf q0 t (leb left most) (leb budget buffer)
+        reports ended n p l true e =
+            ap (λ (u : Bool). reportOf q0 t u (leb budget n)) (p ∙ e) ∙ ap (λ (u : Bool). reportOf q0 t u (leb budget buffer)) (sym e)
+        reports ended n p l false e =
+            let short = leb-false left most e in
+            ap₂ (reportOf q0 t) p (same-test
+            (λ h. le-leb budget buffer (omega (arith, leb-true budget n h)))
+            (λ h. le-leb budget n (omega (arith, leb-true budget buffer h))))
+
+  module _ (b : Book) (j : Job) (s : Sound q0 t b) (work : b .work ≡ InWork.working j) (free : b .mark ≡ false) where
+    job-sound : JobSound q0 t (b .at) j
+    job-sound = subst (WorkSound q0 t (b .at)) work (s .work)
+
+    -- a strip does every tick that it may, up to the end of the block
+    pub strip-counted : (most : ℕ) → Counted q0 most (b .remainder) j (strip q0 t most b)
+    strip-counted most =
+        subst₂ (λ (m : Bool) (w : InWork). Counted q0 most (b .remainder) j (strip q0 t most (bookOf (b .at) m (b .remainder) w))) (sym free) (sym work)
+        (counted (b .at) (b .remainder) j job-sound (s .below) most)
+
+    -- 01, Ticks and runs: "It does the least of its tick budget, the buffer length and the ticks to the block's end"; "else ended, spent or full, the
+    -- first that is true"
+    pub run-report : (budget buffer : ℕ)
+        → (let most = min budget buffer in
+        let left = ticksLeft q0 (b .remainder) j in
+        runEntry q0 t b budget buffer .reply ≡ Reply.ran (reportOf q0 t (leb left most) (leb budget buffer)) (min most left) (strip q0 t most b .codes))
+    run-report budget buffer =
+        let most = min budget buffer in
+        let left = ticksLeft q0 (b .remainder) j in
+        subst₂ (λ (m : Bool) (w : InWork).
+        let k = bookOf (b .at) m (b .remainder) w in
+        runEntry q0 t k budget buffer .reply ≡ Reply.ran (reportOf q0 t (leb left most) (leb budget buffer)) (min most left) (strip q0 t most k .codes))
+        (sym free) (sym work) (working-run (b .at) (b .remainder) j job-sound (s .below) budget buffer)
+
+    -- up to the end of the block n ticks in a run are n ticks called one by one
+    pub so-many-ticks : (n : ℕ) → n ≤ ticksLeft q0 (b .remainder) j
+        → (replies q0 t b (replicate n Call.tick) ≡ map Reply.byte (strip q0 t n b .codes)) × (closing q0 t b (replicate n Call.tick) ≡ strip q0 t n b .last)
+    so-many-ticks n most =
+        let all : length (strip q0 t n b .codes) ≡ n = omega (arith, strip-counted n .ticks) in
+        let o = strip-ticks n b in
+        (ap (λ (m : ℕ). replies q0 t b (replicate m Call.tick)) (sym all) ∙ o .answers, ap (λ (m : ℕ). closing q0 t b (replicate m Call.tick)) (sym all) ∙ o .leaves)
+
+  -- the ticks left are those that the block's account still lacks
+  pub account-left : {at : Point} {r : ℕ} {j : Job} {a : Account} → JobSound q0 t at j → r < q0 → Open q0 r j a → a .ticks + ticksLeft q0 r j ≡ ticksGiven q0 a
+  account-left {r = r} {j = j} {a = a} s below o =
+      rw (o .block, o .start)
+      (rest q0 (j .block .feed) (a .remainder) (blockCycles (j .start) (j .block)) (s .some) (o .low) (omega (arith, s .due)) (a .ticks) (j .done) r (o .fed) below (s .due))

@@ -1,0 +1,5 @@
+-- To be believed: Settings, Machine, Calls. Proved of them: laws.
+pub mod Settings
+pub mod Machine
+pub mod Calls
+pub mod laws

@@ -1,0 +1,26 @@
+-- A call's answer by its number: refused where the number is not 0, else accepted.
+use mathlib.Core.Path.{_≡_, refl, ap, _∙_}
+use Prim.Native.Nat.{ℕ, zero, suc}
+use Rattle.block.specs.declared.Block.{Block}
+use Rattle.machine.specs.declared.settings.Settings.{Settings}
+use Rattle.machine.specs.declared.Machine.{Machine}
+use Rattle.machine.specs.declared.Answer.{Answer}
+use Rattle.machine.specs.Settings.{settingsNo, standardSettings}
+use Rattle.machine.specs.Machine.{freshOf}
+use Rattle.machine.specs.Calls.{answers, makeWith, makeOf, loadWith}
+
+pub make-refused : (s : Settings) {n : ℕ} → n ≡ settingsNo s → (n ≡ 0 → ⊥) → answers (Answer.Refused n) (freshOf standardSettings) ≡ makeOf s
+unfolding makeOf
+make-refused s {n} e some = by n some ∙ ap (makeWith s) e
+  where
+    by : (n : ℕ) → (n ≡ 0 → ⊥) → answers (Answer.Refused n) (freshOf standardSettings) ≡ makeWith s n
+    by zero some = absurd (some refl)
+    by (suc n) some = refl
+
+pub make-done : (s : Settings) {n : ℕ} → n ≡ settingsNo s → n ≡ 0 → answers Answer.Done (freshOf s) ≡ makeOf s
+unfolding makeOf
+make-done s e none = rw (← e, none)
+
+pub load-refused : (m : Machine) (b : Block) (n : ℕ) → (n ≡ 0 → ⊥) → answers (Answer.Refused n) m ≡ loadWith m b n
+load-refused m b zero some = absurd (some refl)
+load-refused m b (suc n) some = refl

@@ -1,0 +1,253 @@
+// The machine of a cutting table. It goes in by value and comes back by value from each call, beside the answer.
+// A call tests the record first, so that any record whatever gets an answer.
+ghost use mathlib.Core.Path.{_≡_};
+ghost use Rattle.machine.specs.Settings.{standardSettings};
+ghost use Rattle.machine.specs.Machine.{soundParts, freshOf, movedOf};
+ghost use Rattle.machine.specs.Calls.{makeOf, loadOf, tickOf, holdOf, releaseOf, stopOf};
+use crate::settings::Settings;
+use crate::settings::settings_no;
+use block::Block;
+use block::questions::load_no;
+use plane::point::Point;
+use plane::travel::Range;
+use plane::travel::Travel;
+use plane::travel::inside;
+use work::Work;
+use work::begin;
+use work::is_nothing;
+use work::work_sound;
+use work::work_tick;
+
+pub mod settings;
+
+pub struct Machine {
+    pub settings: Settings,
+    pub at: Point,
+    pub held: bool,
+    pub remainder: u64,
+    pub work: Work,
+}
+
+// What make, load, hold, release and stop answer.
+pub enum Answer {
+    Done,
+    Width(u64),
+    Refused(u64),
+}
+
+pub struct Answered {
+    pub answer: Answer,
+    pub machine: Machine,
+}
+
+// What a tick answers.
+pub enum Tick {
+    Byte(u8),
+    Refused(u64),
+}
+
+pub struct Ticked {
+    pub tick: Tick,
+    pub machine: Machine,
+}
+
+// Whether a record of these parts is sound. The parts and not the record, so that a call copies little.
+pub fn sound(settings: Settings, at: Point, remainder: u64, work: Work) -> bool
+    ensures { λ r. ⌜ r ≡ soundParts settings at remainder work ⌝ }
+{
+    if settings_no(settings) != 0 {
+        return false;
+    }
+    let travel = settings.travel;
+    if !inside(travel, at) {
+        return false;
+    }
+    let capacity = 60 * settings.clock;
+    if capacity <= remainder {
+        return false;
+    }
+    work_sound(capacity, travel, at, work)
+}
+
+// What a refused make hands back: p 50, w 5,000 and the widest travel.
+fn standard() -> Settings
+    ensures { λ r. ⌜ r ≡ standardSettings ⌝ }
+{
+    let axis = Range {
+        lower: -1_000_000,
+        upper: 1_000_000,
+    };
+    let travel = Travel { x: axis, y: axis };
+    Settings {
+        scale: 50,
+        clock: 5_000,
+        travel: travel,
+    }
+}
+
+fn fresh(settings: Settings) -> Machine
+    ensures { λ r. ⌜ r ≡ freshOf settings ⌝ }
+{
+    let origin = Point { x: 0, y: 0 };
+    Machine {
+        settings: settings,
+        at: origin,
+        held: false,
+        remainder: 0,
+        work: Work::Nothing,
+    }
+}
+
+impl Machine {
+    // The only place beside `fresh` that writes a record.
+    fn moved(self, at: Point, remainder: u64, work: Work) -> Machine
+        ensures { λ r. ⌜ r ≡ movedOf self at remainder work ⌝ }
+    {
+        let settings = self.settings;
+        Machine {
+            settings: settings,
+            at: at,
+            held: self.held,
+            remainder: remainder,
+            work: work,
+        }
+    }
+
+    pub fn make(settings: Settings) -> Answered
+        ensures { λ r. ⌜ r ≡ makeOf settings ⌝ }
+    {
+        let no = settings_no(settings);
+        if no != 0 {
+            return Answered {
+                answer: Answer::Refused(no),
+                machine: fresh(standard()),
+            };
+        }
+        Answered {
+            answer: Answer::Done,
+            machine: fresh(settings),
+        }
+    }
+
+    // Gives the machine a block, which begins where the machine stands.
+    pub fn load(self, b: Block) -> Answered
+        ensures { λ r. ⌜ r ≡ loadOf self b ⌝ }
+    {
+        let settings = self.settings;
+        let at = self.at;
+        let work = self.work;
+        if !sound(settings, at, self.remainder, work) {
+            return Answered {
+                answer: Answer::Refused(9),
+                machine: self,
+            };
+        }
+        let travel = settings.travel;
+        let no = load_no(60 * settings.clock, travel, is_nothing(work), at, b);
+        if no != 0 {
+            return Answered {
+                answer: Answer::Refused(no),
+                machine: self,
+            };
+        }
+        let begun = begin(at, b);
+        let next = begun.work;
+        Answered {
+            answer: Answer::Width(begun.width),
+            machine: self.moved(at, self.remainder, next),
+        }
+    }
+
+    // One clock tick.
+    pub fn tick(self) -> Ticked
+        ensures { λ r. ⌜ r ≡ tickOf self ⌝ }
+    {
+        let settings = self.settings;
+        let at = self.at;
+        let work = self.work;
+        if !sound(settings, at, self.remainder, work) {
+            return Ticked {
+                tick: Tick::Refused(9),
+                machine: self,
+            };
+        }
+        if self.held {
+            return Ticked {
+                tick: Tick::Byte(0),
+                machine: self,
+            };
+        }
+        if is_nothing(work) {
+            return Ticked {
+                tick: Tick::Byte(0),
+                machine: self,
+            };
+        }
+        let a = work_tick(60 * settings.clock, at, self.remainder, work);
+        let here = a.at;
+        let next = a.work;
+        Ticked {
+            tick: Tick::Byte(a.byte),
+            machine: self.moved(here, a.remainder, next),
+        }
+    }
+
+    pub fn hold(self) -> Answered
+        ensures { λ r. ⌜ r ≡ holdOf self ⌝ }
+    {
+        let settings = self.settings;
+        let at = self.at;
+        let work = self.work;
+        if !sound(settings, at, self.remainder, work) {
+            return Answered {
+                answer: Answer::Refused(9),
+                machine: self,
+            };
+        }
+        let mut next = self;
+        next.held = true;
+        Answered {
+            answer: Answer::Done,
+            machine: next,
+        }
+    }
+
+    pub fn release(self) -> Answered
+        ensures { λ r. ⌜ r ≡ releaseOf self ⌝ }
+    {
+        let settings = self.settings;
+        let at = self.at;
+        let work = self.work;
+        if !sound(settings, at, self.remainder, work) {
+            return Answered {
+                answer: Answer::Refused(9),
+                machine: self,
+            };
+        }
+        let mut next = self;
+        next.held = false;
+        Answered {
+            answer: Answer::Done,
+            machine: next,
+        }
+    }
+
+    // Drops the block in work. The point and the mark stay.
+    pub fn stop(self) -> Answered
+        ensures { λ r. ⌜ r ≡ stopOf self ⌝ }
+    {
+        let settings = self.settings;
+        let at = self.at;
+        let work = self.work;
+        if !sound(settings, at, self.remainder, work) {
+            return Answered {
+                answer: Answer::Refused(9),
+                machine: self,
+            };
+        }
+        Answered {
+            answer: Answer::Done,
+            machine: self.moved(at, 0, Work::Nothing),
+        }
+    }
+}
