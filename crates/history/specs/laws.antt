@@ -1,0 +1,3 @@
+pub mod Record
+pub mod Tick
+pub mod Calls

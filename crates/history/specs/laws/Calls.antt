@@ -1,0 +1,65 @@
+-- Each call on the record that a book tells gives the book's reply and leads to the record that the book then tells.
+use mathlib.Core.Path.{_≡_, refl}
+use mathlib.Core.Bool.{true}
+use Prim.Native.Nat.{ℕ, zero, suc}
+use Rattle.block.specs.declared.Block.{Block}
+use Rattle.block.specs.declared.Path.{Path}
+use Rattle.block.specs.Questions.{loadNo}
+use Rattle.work.specs.Work.{isNothing, begunOf, workAlong as begunAlong}
+use Rattle.machine.specs.declared.settings.Settings.{Settings}
+use Rattle.machine.specs.declared.Machine.{Machine}
+use Rattle.machine.specs.declared.Answered.{Answered}
+use Rattle.machine.specs.Settings.{capacityOf, settingsNo}
+use Rattle.machine.specs.Machine.{soundOf, movedOf}
+use Rattle.machine.specs.Calls.{loadWith, loadOf, tickOf, holdOf, releaseOf, stopOf}
+use Rattle.book.specs.Book.{InWork, Book, Call, Reply, Entry, entry, loaded, loadEntry, isNothing as idle}
+use Rattle.book.specs.laws.Sound.{Sound}
+use Rattle.history.specs.Agree.{workAlong, workOf, machineOf}
+use Rattle.history.specs.Reply.{answerReply, tickReply}
+use Rattle.history.specs.laws.Record.{always-working, record-sound}
+use Rattle.history.specs.laws.Tick.{tick-is}
+
+-- a reply and a record that follow an entry of the book
+pub record Follows (s : Settings) (e : Entry) (reply : Reply) (m : Machine) : Type 0 where
+  pub says : reply ≡ e .reply
+  pub leads : m ≡ machineOf s (e .next)
+
+same-idle : (w : InWork) → isNothing (workOf w) ≡ idle w
+same-idle InWork.nothing = refl
+same-idle (InWork.working j) = always-working j (j .block .path)
+
+module _ (s : Settings) (passed : settingsNo s ≡ 0) (b : Book) (i : Sound (capacityOf s) (s .travel) b) where
+  abbrev answersAs : Call → Answered → Type 0
+  answersAs c r = Follows s (entry (capacityOf s) (s .travel) b c) (answerReply (r .answer)) (r .machine)
+
+  sound : soundOf (machineOf s b) ≡ true
+  sound = record-sound s passed b i
+
+  -- a block newly in work is the same for both
+  begun : (k : Block) (p : Path) → begunAlong (b .at) k p ≡ workAlong (record { block = k; start = b .at; done = 0 }) p
+  begun k Path.Line = refl
+  begun k (Path.Arc turn centre) = refl
+
+  load-by : (k : Block) (n : ℕ) → (let r = loadWith (machineOf s b) k n in Follows s (loaded (capacityOf s) (s .travel) b k n) (answerReply (r .answer)) (r .machine))
+  unfolding begunOf movedOf
+  load-by k zero = record { says = refl; leads = rw (begun k (k .path)) }
+  load-by k (suc n) = record { says = refl; leads = refl }
+
+  pub load-follows : (k : Block) → answersAs (Call.load k) (loadOf (machineOf s b) k)
+  unfolding loadOf loadEntry
+  load-follows k = rw (sound, same-idle (b .work)) (load-by k (loadNo (capacityOf s) (s .travel) (idle (b .work)) (b .at) k))
+
+  pub tick-follows : (let r = tickOf (machineOf s b) in Follows s (entry (capacityOf s) (s .travel) b Call.tick) (tickReply (r .tick)) (r .machine))
+  tick-follows = rw (tick-is s passed b i) (record { says = refl; leads = refl })
+
+  pub hold-follows : answersAs Call.hold (holdOf (machineOf s b))
+  unfolding holdOf
+  hold-follows = rw sound (record { says = refl; leads = refl })
+
+  pub release-follows : answersAs Call.release (releaseOf (machineOf s b))
+  unfolding releaseOf
+  release-follows = rw sound (record { says = refl; leads = refl })
+
+  pub stop-follows : answersAs Call.stop (stopOf (machineOf s b))
+  unfolding stopOf movedOf
+  stop-follows = rw sound (record { says = refl; leads = refl })

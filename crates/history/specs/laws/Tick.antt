@@ -1,0 +1,110 @@
+-- A tick of the record that a book tells is the book's tick.
+use mathlib.Core.Path.{_≡_, refl, sym, ap, _∙_}
+use mathlib.Core.Bool.{Bool, true, false, cond}
+use Prim.Native.Nat.{ℕ, _+_}
+use native.Mathlib.Numerals.{add-one}
+use native.Mathlib.Omega.{arith}
+use lib.Dec.{eqb}
+use borrow.Author.Tests.{eqb-true, eq-eqb}
+use Rattle.whole.specs.laws.Test.{same-test}
+use Rattle.plane.specs.declared.point.Point.{Point}
+use Rattle.plane.specs.declared.travel.Travel.{Travel}
+use Rattle.plane.specs.Point.{equalPoint}
+use Rattle.plane.specs.Pulse.{pulsesBetween, cycleByte}
+use Rattle.plane.specs.laws.Point.{equal-point, equal-itself}
+use Rattle.line.specs.Line.{steppedOf}
+use Rattle.arc.specs.declared.arc.Arc.{Arc}
+use Rattle.arc.specs.Arc.{arcAfter, arcCycles, arcStepped}
+use Rattle.arc.specs.laws.Step.{Circles, last-cycle}
+use Rattle.divider.specs.declared.Fed.{Fed}
+use Rattle.divider.specs.Divider.{fedOf}
+use Rattle.block.specs.declared.Path.{Path}
+use Rattle.block.specs.Block.{arcOf, cyclesAlong, pointAlong, blockCycles, blockPoint}
+use Rattle.work.specs.declared.Cycle.{Cycle}
+use Rattle.work.specs.Work.{following, lineCycle, arcCycle, cycleOf, feedOf, advanceBy, advanceOf}
+use Rattle.machine.specs.declared.settings.Settings.{Settings}
+use Rattle.machine.specs.declared.Tick.{Tick}
+use Rattle.machine.specs.declared.Ticked.{Ticked as MachineTicked}
+use Rattle.machine.specs.Settings.{capacityOf, settingsNo}
+use Rattle.machine.specs.Machine.{movedOf}
+use Rattle.machine.specs.Calls.{ticks, working, tickOf}
+use Rattle.book.specs.Book.{Job, InWork, Book, Ticked, cycleTick, fedTick, bookTick}
+use Rattle.book.specs.laws.Sound.{JobSound, Sound, bookOf}
+use Rattle.book.specs.laws.Here.{Here, ArcHere, after-one, job-here}
+use Rattle.history.specs.Agree.{workAlong, workOf, machineOf}
+use Rattle.history.specs.laws.Record.{always-working, record-sound}
+
+-- the block in work with one cycle more
+abbrev onward : Job → Job
+onward j = record { block = j .block; start = j .start; done = j .done + 1 }
+
+abbrev cycleAlong : (at : Point) → Job → Path → Cycle
+cycleAlong at j p =
+    let next = pointAlong (j .start) (j .block) p (j .done + 1) in
+    let ended = eqb (j .done + 1) (cyclesAlong (j .start) (j .block) p) in
+    record { at = next; byte = cycleByte (pulsesBetween at next) ended; work = following ended (workAlong (onward j) p) }
+
+-- an arc ends where its next point is its end, and that is where one cycle is left
+arc-ends : {t : Travel} {a : Arc} {start at : Point} {c : ℕ} → ArcHere t a start c at → equalPoint (arcAfter a at 1) (a .end) ≡ eqb (c + 1) (arcCycles a start)
+arc-ends {a = a} {start = start} {at = at} {c = c} h =
+    let on : Circles a at = record { on = h .at .on; end-on = h .at .end-on } in
+    same-test
+    (λ e. eq-eqb (c + 1) (arcCycles a start) (omega (arith, h .left, last-cycle a at on .1 (equal-point (arcAfter a at 1) (a .end) e))))
+    (λ e. rw (last-cycle a at on .0 (omega (arith, h .left, eqb-true (c + 1) (arcCycles a start) e))) (equal-itself (a .end)))
+
+module _ (t : Travel) where
+  cycle-along : (at : Point) (j : Job) (p : Path) → at ≡ pointAlong (j .start) (j .block) p (j .done) → Here t j at p → cycleOf at (workAlong j p) ≡ cycleAlong at j p
+  unfolding cycleOf lineCycle arcCycle steppedOf arcStepped
+  cycle-along at j Path.Line point here = rw (← point)
+  cycle-along at j (Path.Arc turn centre) point here =
+      let a = arcOf (j .start) (j .block) turn centre in
+      let next : arcAfter a at 1 ≡ arcAfter a (j .start) (j .done + 1) = ap (λ (p : Point). arcAfter a p 1) point ∙ after-one a (j .start) (j .done) ∙ ap (arcAfter a (j .start)) (sym (add-one (j .done))) in
+      rw (arc-ends here, next)
+
+-- ---- the whole tick
+
+feed-along : (j : Job) (p : Path) → feedOf (workAlong j p) ≡ j .block .feed
+unfolding arcOf
+feed-along j Path.Line = refl
+feed-along j (Path.Arc turn centre) = refl
+
+-- at a block's end nothing is in work, for both
+ending : (last : Bool) (w : InWork) → following last (workOf w) ≡ workOf (cond last InWork.nothing w)
+ending true w = refl
+ending false w = refl
+
+module _ (s : Settings) (at : Point) (j : Job) (r : ℕ) (sound : JobSound (capacityOf s) (s .travel) at j) where
+  abbrev before : Book
+  before = bookOf at false r (InWork.working j)
+
+  abbrev after : Ticked → MachineTicked
+  after k = ticks (Tick.Byte (k .code)) (machineOf s (k .after))
+
+  cycle-is : (f : Fed) → working (machineOf s before) (record { at = cycleOf at (workOf (InWork.working j)) .at; remainder = f .remainder; byte = cycleOf at (workOf (InWork.working j)) .byte; work = cycleOf at (workOf (InWork.working j)) .work })
+      ≡ after (cycleTick (capacityOf s) (s .travel) before j (f .remainder))
+  unfolding cycleTick blockPoint blockCycles movedOf
+  cycle-is f = rw (cycle-along (s .travel) at j (j .block .path) (sound .point) (job-here sound), ending _ (InWork.working (onward j)))
+
+  fed-is : (f : Fed) → working (machineOf s before) (advanceBy at (workOf (InWork.working j)) f) ≡ after (fedTick (capacityOf s) (s .travel) before j f)
+  unfolding movedOf
+  fed-is f = by (f .cycle) refl
+    where
+      by : (c : Bool) → f .cycle ≡ c → working (machineOf s before) (advanceBy at (workOf (InWork.working j)) f) ≡ after (fedTick (capacityOf s) (s .travel) before j f)
+      by true e = rw e (cycle-is f)
+      by false e = rw e
+
+module _ (s : Settings) (passed : settingsNo s ≡ 0) where
+  tick-parts : (at : Point) (mark : Bool) (r : ℕ) (w : InWork) → (let b = bookOf at mark r w in Sound (capacityOf s) (s .travel) b
+      → tickOf (machineOf s b) ≡ ticks (Tick.Byte (bookTick (capacityOf s) (s .travel) b .code)) (machineOf s (bookTick (capacityOf s) (s .travel) b .after)))
+  unfolding tickOf bookTick advanceOf
+  tick-parts at true r InWork.nothing i = rw (record-sound s passed (bookOf at true r InWork.nothing) i)
+  tick-parts at false r InWork.nothing i = rw (record-sound s passed (bookOf at false r InWork.nothing) i)
+  tick-parts at true r (InWork.working j) i = rw (record-sound s passed (bookOf at true r (InWork.working j)) i)
+  tick-parts at false r (InWork.working j) i =
+      rw (record-sound s passed (bookOf at false r (InWork.working j)) i, always-working j (j .block .path))
+      (ap (λ (f : ℕ). working (machineOf s (bookOf at false r (InWork.working j))) (advanceBy at (workOf (InWork.working j)) (fedOf (capacityOf s) f r))) (feed-along j (j .block .path))
+      ∙ fed-is s at j r (i .work) (fedOf (capacityOf s) (j .block .feed) r))
+
+  pub tick-is : (b : Book) → Sound (capacityOf s) (s .travel) b
+      → tickOf (machineOf s b) ≡ ticks (Tick.Byte (bookTick (capacityOf s) (s .travel) b .code)) (machineOf s (bookTick (capacityOf s) (s .travel) b .after))
+  tick-is b i = tick-parts (b .at) (b .mark) (b .remainder) (b .work) i
