@@ -1,7 +1,10 @@
 -- What a call answers, in the book's words. Each answer of the code has its reply here and nowhere else.
+use mathlib.Core.List.{List}
+use Prim.Native.Nat.{ℕ}
 use Rattle.machine.specs.declared.Answer.{Answer}
 use Rattle.machine.specs.declared.Tick.{Tick}
-use Rattle.book.specs.Book.{Reply}
+use Rattle.machine.specs.declared.Report.{Report}
+use Rattle.book.specs.Book.{Report as BookReport, Reply}
 
 abbrev pub answerReply : Answer → Reply
 answerReply Answer.Done = Reply.done
@@ -11,3 +14,12 @@ answerReply (Answer.Refused number) = Reply.refused number
 abbrev pub tickReply : Tick → Reply
 tickReply (Tick.Byte byte) = Reply.byte byte
 tickReply (Tick.Refused number) = Reply.refused number
+
+-- of a run, with its ticks and the bytes of them
+abbrev pub runReply : Report → (ticks : ℕ) (bytes : List ℕ) → Reply
+runReply Report.Idle ticks bytes = Reply.ran BookReport.idle ticks bytes
+runReply Report.Held ticks bytes = Reply.ran BookReport.held ticks bytes
+runReply Report.Ended ticks bytes = Reply.ran BookReport.ended ticks bytes
+runReply Report.Spent ticks bytes = Reply.ran BookReport.spent ticks bytes
+runReply Report.Full ticks bytes = Reply.ran BookReport.full ticks bytes
+runReply (Report.Refused number) ticks bytes = Reply.refused number

@@ -3,6 +3,9 @@
 ghost use mathlib.Core.Path.{_≡_};
 ghost use Rattle.machine.specs.Settings.{standardSettings};
 ghost use Rattle.machine.specs.Machine.{soundParts, freshOf, movedOf};
+ghost use lib.ListN.{length};
+ghost use Rattle.run.specs.Run.{written};
+ghost use Rattle.machine.specs.Run.{reportOf, runOf};
 ghost use Rattle.machine.specs.Calls.{makeOf, loadOf, tickOf, holdOf, releaseOf, stopOf};
 use crate::settings::Settings;
 use crate::settings::settings_no;
@@ -12,6 +15,7 @@ use plane::point::Point;
 use plane::travel::Range;
 use plane::travel::Travel;
 use plane::travel::inside;
+use run::run_work;
 use work::Work;
 use work::begin;
 use work::is_nothing;
@@ -51,6 +55,22 @@ pub struct Ticked {
     pub machine: Machine,
 }
 
+// What a run answers.
+pub enum Report {
+    Idle,
+    Held,
+    Ended,
+    Spent,
+    Full,
+    Refused(u64),
+}
+
+pub struct Ran {
+    pub report: Report,
+    pub ticks: u64,
+    pub machine: Machine,
+}
+
 // Whether a record of these parts is sound. The parts and not the record, so that a call copies little.
 pub fn sound(settings: Settings, at: Point, remainder: u64, work: Work) -> bool
     ensures { λ r. ⌜ r ≡ soundParts settings at remainder work ⌝ }
@@ -83,6 +103,18 @@ fn standard() -> Settings
         clock: 5_000,
         travel: travel,
     }
+}
+
+fn report_of(ended: bool, spent: bool) -> Report
+    ensures { λ r. ⌜ r ≡ reportOf ended spent ⌝ }
+{
+    if ended {
+        return Report::Ended;
+    }
+    if spent {
+        return Report::Spent;
+    }
+    Report::Full
 }
 
 fn fresh(settings: Settings) -> Machine
@@ -189,6 +221,45 @@ impl Machine {
         Ticked {
             tick: Tick::Byte(a.byte),
             machine: self.moved(here, a.remainder, next),
+        }
+    }
+
+    // Ticks into a lent buffer, to the end of its tick budget, of the buffer or of the block.
+    pub fn run(self, budget: u64, out: &mut [u8]) -> Ran
+        ensures { λ r. ⌜ r ≡ runOf self budget (length (now (out .entry))) .ran ⌝ }
+        ensures { λ r. ⌜ now (out .exit) ≡ written (runOf self budget (length (now (out .entry))) .bytes) (now (out .entry)) ⌝ }
+    {
+        let settings = self.settings;
+        let at = self.at;
+        let work = self.work;
+        if !sound(settings, at, self.remainder, work) {
+            return Ran {
+                report: Report::Refused(9),
+                ticks: 0,
+                machine: self,
+            };
+        }
+        if is_nothing(work) {
+            return Ran {
+                report: Report::Idle,
+                ticks: 0,
+                machine: self,
+            };
+        }
+        if self.held {
+            return Ran {
+                report: Report::Held,
+                ticks: 0,
+                machine: self,
+            };
+        }
+        let r = run_work(60 * settings.clock, at, self.remainder, work, budget, out);
+        let here = r.at;
+        let next = r.work;
+        Ran {
+            report: report_of(r.ended, budget <= r.ticks),
+            ticks: r.ticks,
+            machine: self.moved(here, r.remainder, next),
         }
     }
 

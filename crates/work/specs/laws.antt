@@ -1,2 +1,3 @@
 pub mod Sound
 pub mod Cycle
+pub mod Keep

@@ -1,28 +1,28 @@
 -- Each call on the record that a book tells gives the book's reply and leads to the record that the book then tells.
 use mathlib.Core.Path.{_≡_, refl}
 use mathlib.Core.Bool.{true}
+use mathlib.Core.List.{List}
+use lib.ListN.{length, take}
 use Prim.Native.Nat.{ℕ, zero, suc}
 use Rattle.block.specs.declared.Block.{Block}
 use Rattle.block.specs.declared.Path.{Path}
 use Rattle.block.specs.Questions.{loadNo}
 use Rattle.work.specs.Work.{isNothing, begunOf, workAlong as begunAlong}
 use Rattle.machine.specs.declared.settings.Settings.{Settings}
-use Rattle.machine.specs.declared.Machine.{Machine}
 use Rattle.machine.specs.declared.Answered.{Answered}
 use Rattle.machine.specs.Settings.{capacityOf, settingsNo}
 use Rattle.machine.specs.Machine.{soundOf, movedOf}
+use Rattle.run.specs.Run.{written}
+use Rattle.machine.specs.Run.{runOf}
+use Rattle.machine.specs.laws.Run.{ticks-are}
 use Rattle.machine.specs.Calls.{loadWith, loadOf, tickOf, holdOf, releaseOf, stopOf}
-use Rattle.book.specs.Book.{InWork, Book, Call, Reply, Entry, entry, loaded, loadEntry, isNothing as idle}
+use Rattle.book.specs.Book.{InWork, Book, Call, entry, loaded, loadEntry, isNothing as idle}
 use Rattle.book.specs.laws.Sound.{Sound}
 use Rattle.history.specs.Agree.{workAlong, workOf, machineOf}
-use Rattle.history.specs.Reply.{answerReply, tickReply}
-use Rattle.history.specs.laws.Record.{always-working, record-sound}
+use Rattle.history.specs.Reply.{answerReply, tickReply, runReply}
+use Rattle.history.specs.laws.Record.{Follows, always-working, record-sound}
 use Rattle.history.specs.laws.Tick.{tick-is}
-
--- a reply and a record that follow an entry of the book
-pub record Follows (s : Settings) (e : Entry) (reply : Reply) (m : Machine) : Type 0 where
-  pub says : reply ≡ e .reply
-  pub leads : m ≡ machineOf s (e .next)
+use Rattle.history.specs.laws.Run.{first-bytes, run-is}
 
 same-idle : (w : InWork) → isNothing (workOf w) ≡ idle w
 same-idle InWork.nothing = refl
@@ -63,3 +63,11 @@ module _ (s : Settings) (passed : settingsNo s ≡ 0) (b : Book) (i : Sound (cap
   pub stop-follows : answersAs Call.stop (stopOf (machineOf s b))
   unfolding stopOf movedOf
   stop-follows = rw sound (record { says = refl; leads = refl })
+
+  pub run-follows : (budget : ℕ) (out : List ℕ)
+      → (let k = runOf (machineOf s b) budget (length out) in
+      Follows s (entry (capacityOf s) (s .travel) b (Call.run budget (length out))) (runReply (k .ran .report) (k .ran .ticks) (take (k .ran .ticks) (written (k .bytes) out))) (k .ran .machine))
+  run-follows budget out =
+      let k = runOf (machineOf s b) budget (length out) in
+      let bytes : take (k .ran .ticks) (written (k .bytes) out) ≡ k .bytes = rw (ticks-are (machineOf s b) budget (length out)) (first-bytes (k .bytes) out) in
+      rw bytes (run-is s passed b budget (length out) i)

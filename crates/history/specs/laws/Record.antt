@@ -17,11 +17,17 @@ use Rattle.machine.specs.declared.settings.Settings.{Settings}
 use Rattle.machine.specs.Settings.{capacityOf, settingsNo}
 use Rattle.machine.specs.Machine.{soundOf}
 use Rattle.machine.specs.laws.Sound.{settings-right, sound-test}
-use Rattle.book.specs.Book.{Job, InWork, Book}
+use Rattle.machine.specs.declared.Machine.{Machine}
+use Rattle.book.specs.Book.{Job, InWork, Book, Reply, Entry}
 use Rattle.book.specs.laws.Settings.{SettingsRight}
 use Rattle.book.specs.laws.Sound.{WorkSound, Sound}
 use Rattle.book.specs.laws.Here.{Here, job-here}
 use Rattle.history.specs.Agree.{workAlong, workOf, machineOf}
+
+-- a reply and a record that follow an entry of the book
+pub record Follows (s : Settings) (e : Entry) (reply : Reply) (m : Machine) : Type 0 where
+  pub says : reply ≡ e .reply
+  pub leads : m ≡ machineOf s (e .next)
 
 pub always-working : (j : Job) (p : Path) → isNothing (workAlong j p) ≡ false
 always-working j Path.Line = refl

@@ -20,7 +20,9 @@ use Rattle.divider.specs.declared.Fed.{Fed}
 use Rattle.divider.specs.Divider.{fedOf}
 use Rattle.block.specs.declared.Path.{Path}
 use Rattle.block.specs.Block.{arcOf, cyclesAlong, pointAlong, blockCycles, blockPoint}
+use Rattle.work.specs.declared.Work.{Work}
 use Rattle.work.specs.declared.Cycle.{Cycle}
+use Rattle.work.specs.declared.Advance.{Advance}
 use Rattle.work.specs.Work.{following, lineCycle, arcCycle, cycleOf, feedOf, advanceBy, advanceOf}
 use Rattle.machine.specs.declared.settings.Settings.{Settings}
 use Rattle.machine.specs.declared.Tick.{Tick}
@@ -73,38 +75,56 @@ ending : (last : Bool) (w : InWork) → following last (workOf w) ≡ workOf (co
 ending true w = refl
 ending false w = refl
 
-module _ (s : Settings) (at : Point) (j : Job) (r : ℕ) (sound : JobSound (capacityOf s) (s .travel) at j) where
+-- what a tick of the book does, in the words of what is in work
+abbrev pub advanceTold : Ticked → Advance
+advanceTold k = record { at = k .after .at; remainder = k .after .remainder; byte = k .code; work = workOf (k .after .work) }
+
+module _ (q0 : ℕ) (t : Travel) (at : Point) (r : ℕ) (j : Job) where
   abbrev before : Book
   before = bookOf at false r (InWork.working j)
 
-  abbrev after : Ticked → MachineTicked
-  after k = ticks (Tick.Byte (k .code)) (machineOf s (k .after))
+  abbrev here : Work
+  here = workOf (InWork.working j)
 
-  cycle-is : (f : Fed) → working (machineOf s before) (record { at = cycleOf at (workOf (InWork.working j)) .at; remainder = f .remainder; byte = cycleOf at (workOf (InWork.working j)) .byte; work = cycleOf at (workOf (InWork.working j)) .work })
-      ≡ after (cycleTick (capacityOf s) (s .travel) before j (f .remainder))
-  unfolding cycleTick blockPoint blockCycles movedOf
-  cycle-is f = rw (cycle-along (s .travel) at j (j .block .path) (sound .point) (job-here sound), ending _ (InWork.working (onward j)))
+  cycle-is : JobSound q0 t at j → (f : Fed) → record { at = cycleOf at here .at; remainder = f .remainder; byte = cycleOf at here .byte; work = cycleOf at here .work }
+      ≡ advanceTold (cycleTick q0 t before j (f .remainder))
+  unfolding cycleTick blockPoint blockCycles
+  cycle-is sound f = rw (cycle-along t at j (j .block .path) (sound .point) (job-here sound), ending _ (InWork.working (onward j)))
 
-  fed-is : (f : Fed) → working (machineOf s before) (advanceBy at (workOf (InWork.working j)) f) ≡ after (fedTick (capacityOf s) (s .travel) before j f)
-  unfolding movedOf
-  fed-is f = by (f .cycle) refl
+  fed-is : JobSound q0 t at j → (f : Fed) → advanceBy at here f ≡ advanceTold (fedTick q0 t before j f)
+  fed-is sound f = by (f .cycle) refl
     where
-      by : (c : Bool) → f .cycle ≡ c → working (machineOf s before) (advanceBy at (workOf (InWork.working j)) f) ≡ after (fedTick (capacityOf s) (s .travel) before j f)
-      by true e = rw e (cycle-is f)
+      by : (c : Bool) → f .cycle ≡ c → advanceBy at here f ≡ advanceTold (fedTick q0 t before j f)
+      by true e = rw e (cycle-is sound f)
       by false e = rw e
 
+  pub advance-is : JobSound q0 t at j → advanceOf q0 at r here ≡ advanceTold (bookTick q0 t before)
+  unfolding advanceOf bookTick
+  advance-is sound =
+      ap (λ (f : ℕ). advanceBy at here (fedOf q0 f r)) (feed-along j (j .block .path)) ∙ fed-is sound (fedOf q0 (j .block .feed) r)
+
+  pub mark-kept : bookTick q0 t before .after .mark ≡ false
+  unfolding bookTick cycleTick
+  mark-kept = by (fedOf q0 (j .block .feed) r) (fedOf q0 (j .block .feed) r .cycle) refl
+    where
+      by : (f : Fed) (c : Bool) → f .cycle ≡ c → fedTick q0 t before j f .after .mark ≡ false
+      by f true e = rw e
+      by f false e = rw e
+
 module _ (s : Settings) (passed : settingsNo s ≡ 0) where
-  tick-parts : (at : Point) (mark : Bool) (r : ℕ) (w : InWork) → (let b = bookOf at mark r w in Sound (capacityOf s) (s .travel) b
-      → tickOf (machineOf s b) ≡ ticks (Tick.Byte (bookTick (capacityOf s) (s .travel) b .code)) (machineOf s (bookTick (capacityOf s) (s .travel) b .after)))
-  unfolding tickOf bookTick advanceOf
+  abbrev q0 : ℕ
+  q0 = capacityOf s
+
+  abbrev told : Ticked → MachineTicked
+  told k = ticks (Tick.Byte (k .code)) (machineOf s (k .after))
+
+  tick-parts : (at : Point) (mark : Bool) (r : ℕ) (w : InWork) → (let b = bookOf at mark r w in Sound q0 (s .travel) b → tickOf (machineOf s b) ≡ told (bookTick q0 (s .travel) b))
+  unfolding tickOf bookTick movedOf
   tick-parts at true r InWork.nothing i = rw (record-sound s passed (bookOf at true r InWork.nothing) i)
   tick-parts at false r InWork.nothing i = rw (record-sound s passed (bookOf at false r InWork.nothing) i)
   tick-parts at true r (InWork.working j) i = rw (record-sound s passed (bookOf at true r (InWork.working j)) i)
   tick-parts at false r (InWork.working j) i =
-      rw (record-sound s passed (bookOf at false r (InWork.working j)) i, always-working j (j .block .path))
-      (ap (λ (f : ℕ). working (machineOf s (bookOf at false r (InWork.working j))) (advanceBy at (workOf (InWork.working j)) (fedOf (capacityOf s) f r))) (feed-along j (j .block .path))
-      ∙ fed-is s at j r (i .work) (fedOf (capacityOf s) (j .block .feed) r))
+      rw (record-sound s passed (bookOf at false r (InWork.working j)) i, always-working j (j .block .path), advance-is q0 (s .travel) at r j (i .work), mark-kept q0 (s .travel) at r j)
 
-  pub tick-is : (b : Book) → Sound (capacityOf s) (s .travel) b
-      → tickOf (machineOf s b) ≡ ticks (Tick.Byte (bookTick (capacityOf s) (s .travel) b .code)) (machineOf s (bookTick (capacityOf s) (s .travel) b .after))
+  pub tick-is : (b : Book) → Sound q0 (s .travel) b → tickOf (machineOf s b) ≡ told (bookTick q0 (s .travel) b)
   tick-is b i = tick-parts (b .at) (b .mark) (b .remainder) (b .work) i

@@ -1,6 +1,6 @@
 -- What a sound record says of its numbers, and what the code of a call needs of them.
-use mathlib.Core.Path.{_≡_}
-use mathlib.Core.Bool.{Bool, true}
+use mathlib.Core.Path.{_≡_, refl}
+use mathlib.Core.Bool.{Bool, true, false}
 use Prim.Native.Nat.{ℕ, zero, _≤_, _<_}
 use native.Mathlib.Omega.{arith}
 use borrow.Author.Tests.{leb-true, ltb-true, lt-ltb, eqb-true, eq-eqb, le-leb}
@@ -10,21 +10,21 @@ use Rattle.whole.specs.laws.Test.{both, joined}
 use Rattle.plane.specs.declared.point.Point.{Point}
 use Rattle.plane.specs.declared.travel.Range.{Range}
 use Rattle.plane.specs.declared.travel.Travel.{Travel}
-use Rattle.plane.specs.Travel.{insideOf}
+use Rattle.plane.specs.Travel.{withinOf, insideOf}
 use Rattle.plane.specs.laws.Travel.{Within, Inside, within, inside}
 use Rattle.arc.specs.Centre.{Near, Wide}
-use Rattle.arc.specs.laws.Work.{axis-near, travel-near, on-arc}
+use Rattle.arc.specs.laws.Work.{axis-near, travel-near}
 use Rattle.block.specs.declared.Block.{Block}
 use Rattle.block.specs.declared.Path.{Path}
 use Rattle.block.specs.Questions.{feedRight, pathNo, loadNo}
 use Rattle.block.specs.laws.Asked.{answered}
 use Rattle.line.specs.Line.{incrementX, incrementY, shortOf}
-use Rattle.line.specs.laws.Work.{line-test}
 use Rattle.work.specs.declared.Work.{Work}
-use Rattle.work.specs.Work.{Ready, Loadable, workSound}
-use Rattle.work.specs.laws.Sound.{line-work, arc-work}
+use Rattle.work.specs.Work.{Ready, Loadable, isNothing, workSound}
+use Rattle.work.specs.laws.Keep.{ready as work-ready}
+use Rattle.run.specs.Run.{InWork}
 use Rattle.machine.specs.declared.settings.Settings.{Settings}
-use Rattle.machine.specs.Settings.{capacityOf, inRange, axisRight, travelRight, settingsNo}
+use Rattle.machine.specs.Settings.{capacityOf, inRange, axisRight, travelRight, settingsNo, standardSettings}
 use Rattle.machine.specs.Machine.{soundParts}
 
 -- ---- settings
@@ -67,6 +67,11 @@ settings-right s e =
       origin = record { x = x .zero; y = y .zero };
     }
 
+-- the settings of a refused make pass
+pub standard-passes : settingsNo standardSettings ≡ 0
+unfolding settingsNo travelRight axisRight standardSettings withinOf
+standard-passes = refl
+
 -- ---- a sound record
 
 pub record Sound (s : Settings) (at : Point) (r : ℕ) (w : Work) : Type 0 where
@@ -89,17 +94,16 @@ sound-test i = joined (eq-eqb _ 0 (i .settings)) (joined (i .in-travel) (joined 
 
 -- ---- what the code of a tick asks
 
-pub ready : {s : Settings} {at : Point} {r : ℕ} (w : Work) → Sound s at r w → Ready at r w
-unfolding workSound
-ready {s} Work.Nothing i = let c = settings-right s (i .settings) in omega (arith, c .clock-most, i .below)
-ready {s} (Work.Line l) i =
+pub ready : {s : Settings} {at : Point} {r : ℕ} {w : Work} → Sound s at r w → Ready at r w
+ready {s} {w = w} i =
     let c = settings-right s (i .settings) in
-    let l = line-work (i .work) in
-    (line-test (l .line), omega (arith, c .clock-most, i .below, l .feed .most))
-ready {s} (Work.Arc a) i =
+    work-ready (capacityOf s) (s .travel) w (c .wide) (omega (arith, c .clock-most)) (record { inside = inside (i .in-travel); below = i .below; sound = i .work })
+
+-- and the code of a run
+pub running : {s : Settings} {at : Point} {r : ℕ} {w : Work} → Sound s at r w → isNothing w ≡ false → InWork (capacityOf s) at r w
+running {s} i busy =
     let c = settings-right s (i .settings) in
-    let k = arc-work (i .work) in
-    (on-arc (k .arc) (c .wide) (inside (i .in-travel)), omega (arith, c .clock-most, i .below, k .feed .most))
+    record { travel = s .travel; wide = c .wide; capacity = omega (arith, c .clock-most); inside = i .in-travel; below = i .below; sound = i .work; busy = busy }
 
 -- ---- what the code of a load asks of a block that no question refuses
 

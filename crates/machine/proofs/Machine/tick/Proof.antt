@@ -36,7 +36,7 @@ mul-work-tick : tie.Need-mul-work-tick
 mul-work-tick c = let r = settings-right _ (sound (record-sound (c .before .before .before .before)) .settings) in omega (arith, r .clock-most)
 
 work-tick-requires : tie.Need-work-tick-requires
-work-tick-requires c κs = ready _ (sound (record-sound (c .before .before .before .before)))
+work-tick-requires c κs = ready (sound (record-sound (c .before .before .before .before)))
 
 moved-requires : tie.Need-moved-requires
 moved-requires c κs = search needs

@@ -1,0 +1,48 @@
+-- Demand 3 as one claim: "For every list of loads, ticks, runs, holds, releases and stops, in any order and number, refused ones included, from a
+-- machine made fresh, each call getting the record that the one before returned, all this holds after it."
+use mathlib.Core.Path.{_≡_}
+use mathlib.Core.List.{List, []}
+use Prim.Native.Nat.{_+_, _*_}
+use Rattle.machine.specs.declared.settings.Settings.{Settings}
+use Rattle.machine.specs.declared.Machine.{Machine}
+use Rattle.machine.specs.declared.Answered.{Answered}
+use Rattle.machine.specs.Settings.{capacityOf}
+use Rattle.book.specs.Book.{Book, Call, Reply, freshBook, replies, closing}
+use Rattle.book.specs.Bounds.{OnWork}
+use Rattle.book.specs.Ledger.{Right, Every, ledger}
+use Rattle.book.specs.Sums.{codeX, codeY, pulsesSent, cyclesSince, feedsSince}
+use Rattle.history.specs.Agree.{workOf}
+use Rattle.history.specs.Contracts.{Makes}
+use Rattle.history.specs.History.{History}
+
+-- the book after the calls cs of a machine with the settings s
+abbrev pub bookAfter : Settings → List Call → Book
+bookAfter s cs = closing (capacityOf s) (s .travel) freshBook cs
+
+-- what holds after the calls cs, from a machine made with the settings s, gave the replies rs and the record m
+pub record AsDemanded (s : Settings) (cs : List Call) (rs : List Reply) (m : Machine) : Type 0 where
+  -- "Every answer and tick byte, the point, the mark and the remainder are those of document 01's book." So are the settings and what is in work.
+  pub answers : rs ≡ replies (capacityOf s) (s .travel) freshBook cs
+  pub settings : m .settings ≡ s
+  pub point : m .at ≡ bookAfter s cs .at
+  pub mark : m .held ≡ bookAfter s cs .mark
+  pub remainder : m .remainder ≡ bookAfter s cs .remainder
+  pub work : m .work ≡ workOf (bookAfter s cs .work)
+  -- "On a line the point is at most half a pulse per axis from the exact point for the cycles done, and its squared distance from the line is at most
+  -- one half. On an arc it is less than half a pulse from the circle."
+  pub bounds : OnWork (m .at) (bookAfter s cs .work)
+  -- "A block not stopped has ended exactly when it has had the working ticks that the feed gives; the last of them leaves the point on the block's
+  -- commanded end."
+  pub blocks : Every (Right (capacityOf s)) (ledger (capacityOf s) (s .travel) [] freshBook cs)
+  -- "What was done adds up: pulses sent on each axis since the machine was made sum to the point,"
+  pub pulses-x : pulsesSent codeX rs ≡ m .at .x
+  pub pulses-y : pulsesSent codeY rs ≡ m .at .y
+  -- "and since the last stop, if any, cycles times feed capacity plus remainder equals the feed numbers of all working ticks."
+  pub feeds : cyclesSince 0 cs rs * capacityOf s + m .remainder ≡ feedsSince (capacityOf s) (s .travel) 0 freshBook cs
+
+-- "A history starts from the record that one make answers, refused or not."
+abbrev pub EveryHistory : Type 0
+EveryHistory =
+    (asked : Settings) (made : Answered) → Makes asked made →
+    (cs : List Call) (rs : List Reply) (m : Machine) → History (made .machine) cs rs m →
+    AsDemanded (made .machine .settings) cs rs m

@@ -1,0 +1,3 @@
+-- To be believed: Run. Proved of it: laws.
+pub mod Run
+pub mod laws
