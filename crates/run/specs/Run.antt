@@ -41,7 +41,7 @@ unfoldable pub written : (bytes old : List ℕ) → List ℕ
 written bytes old = bytes ++ drop (length bytes) old
 
 -- what the code asks: a line or an arc in work, sound in some travel, and a capacity that sums of feeds fit
-pub record InWork (q0 : ℕ) (at : Point) (r : ℕ) (w : Work) : Type 0 where
+pub record SoundIn (q0 : ℕ) (at : Point) (r : ℕ) (w : Work) : Type 0 where
   pub travel : Travel
   pub wide : Wide travel
   pub capacity : q0 ≤ 1200000

@@ -1,2 +1,7 @@
 pub mod Going
-pub mod InWork
+pub mod Sound
+pub mod Gap
+pub mod Left
+pub mod Cycles
+pub mod Idle
+pub mod Cycling

@@ -22,7 +22,7 @@ use Rattle.line.specs.Line.{incrementX, incrementY, shortOf}
 use Rattle.work.specs.declared.Work.{Work}
 use Rattle.work.specs.Work.{Ready, Loadable, isNothing, workSound}
 use Rattle.work.specs.laws.Keep.{ready as work-ready}
-use Rattle.run.specs.Run.{InWork}
+use Rattle.run.specs.Run.{SoundIn}
 use Rattle.machine.specs.declared.settings.Settings.{Settings}
 use Rattle.machine.specs.Settings.{capacityOf, inRange, axisRight, travelRight, settingsNo, standardSettings}
 use Rattle.machine.specs.Machine.{soundParts}
@@ -100,7 +100,7 @@ ready {s} {w = w} i =
     work-ready (capacityOf s) (s .travel) w (c .wide) (omega (arith, c .clock-most)) (record { inside = inside (i .in-travel); below = i .below; sound = i .work })
 
 -- and the code of a run
-pub running : {s : Settings} {at : Point} {r : ℕ} {w : Work} → Sound s at r w → isNothing w ≡ false → InWork (capacityOf s) at r w
+pub running : {s : Settings} {at : Point} {r : ℕ} {w : Work} → Sound s at r w → isNothing w ≡ false → SoundIn (capacityOf s) at r w
 running {s} i busy =
     let c = settings-right s (i .settings) in
     record { travel = s .travel; wide = c .wide; capacity = omega (arith, c .clock-most); inside = i .in-travel; below = i .below; sound = i .work; busy = busy }
