@@ -1,20 +1,18 @@
 -- What the questions 10 to 16 settle where none was answered by no.
-use mathlib.Core.Path.{_≡_, ap}
+use mathlib.Core.Path.{_≡_}
 use mathlib.Core.Bool.{Bool, true}
 use Prim.Native.Nat.{ℕ, _≤_}
 use native.Mathlib.Omega.{arith}
 use lib.IntN.{ℤ, pos, negsuc, natAbs, _+ℤ_}
-use borrow.Author.Tests.{leb-true, not-true}
+use borrow.Author.Tests.{leb-true}
 use Rattle.whole.specs.laws.Order.{abs-add}
 use Rattle.whole.specs.laws.Test.{both}
 use Rattle.plane.specs.declared.point.Point.{Point}
 use Rattle.plane.specs.declared.travel.Travel.{Travel}
 use Rattle.plane.specs.Travel.{insideOf}
-use Rattle.plane.specs.Point.{equalPoint}
-use Rattle.plane.specs.laws.Point.{equal-itself}
 use Rattle.plane.specs.laws.Travel.{Within, Inside, inside, inside-test}
 use Rattle.circle.specs.declared.plane.Offset.{Offset}
-use Rattle.line.specs.Line.{differ}
+use Rattle.line.specs.laws.Cycles.{differ-apart}
 use Rattle.arc.specs.declared.arc.Arc.{Arc}
 use Rattle.arc.specs.Centre.{Near, Wide, backFrom}
 use Rattle.arc.specs.Arc.{centres}
@@ -26,10 +24,6 @@ use Rattle.block.specs.Questions.{pathNo, loadNo}
 use Rattle.block.specs.laws.Asked.{answered}
 use Rattle.block.specs.laws.Begin.{OffsetRight, offset-right, start-on}
 use Rattle.book.specs.laws.Way.{PathRight}
-
-differs : {start end : Point} → differ start end ≡ true → start ≡ end → ⊥
-unfolding differ
-differs {start} {end} d e = let z : _≡_ {A = ℕ} 0 1 = cc (not-true (equalPoint start end) d, equal-itself start, ap (equalPoint start) e) in omega arith
 
 centre-inside : (o : Offset) → OffsetRight o → (start : Point) → Near 1000000 start → insideOf centres (backFrom start o) ≡ true
 centre-inside o right start near =
@@ -53,7 +47,7 @@ pub record LoadRight (q0 : ℕ) (t : Travel) (idle : Bool) (start : Point) (b : 
 module _ (q0 : ℕ) (t : Travel) (wide : Wide t) where
   path-right : (start : Point) (b : Block) → Inside t start → Inside t (b .end) → (p : Path) → pathNo t start b p ≡ 0 → PathRight t start b p
   unfolding arcOf
-  path-right start b here there Path.Line e = record { end-inside = there; apart = differs (answered 12 e .0) }
+  path-right start b here there Path.Line e = record { end-inside = there; apart = differ-apart start (b .end) (answered 12 e .0) }
   path-right start b here there (Path.Arc turn centre) e =
       let offset = answered 13 e in
       let end = answered 14 (offset .1) in
