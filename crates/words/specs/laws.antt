@@ -1,0 +1,10 @@
+pub mod Scan
+pub mod Byte
+pub mod Bounds
+pub mod Digits
+pub mod Sound
+pub mod Complete
+pub mod Words
+pub mod Reading
+pub mod Run
+pub mod Examples

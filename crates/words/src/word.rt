@@ -1,0 +1,115 @@
+// What a line says of each letter.
+use crate::letter::Letter;
+ghost use mathlib.Core.Path.{_≡_};
+ghost use mathlib.Core.Bool.{_||_};
+ghost use Rattle.words.specs.Meaning.{onceOf};
+ghost use Rattle.words.specs.laws.Scan.{moreOf, putOf, noWords};
+
+// A letter's word. The magnitude is in thousandths for a letter that takes a point (below 10^10), else a plain number (below 10^7).
+// A letter that does not stand, or stands twice, has no value: plus 0.
+pub struct Word {
+    pub stands: bool,
+    pub twice: bool,
+    pub negative: bool,
+    pub magnitude: u64,
+}
+
+pub struct Words {
+    pub n: Word,
+    pub g: Word,
+    pub f: Word,
+    pub x: Word,
+    pub y: Word,
+    pub i: Word,
+    pub j: Word,
+}
+
+pub fn none() -> Words
+    ensures { λ r. ⌜ r ≡ noWords ⌝ }
+{
+    let w = Word {
+        stands: false,
+        twice: false,
+        negative: false,
+        magnitude: 0,
+    };
+    Words {
+        n: w,
+        g: w,
+        f: w,
+        x: w,
+        y: w,
+        i: w,
+        j: w,
+    }
+}
+
+// What a letter says after one word more of it.
+fn more(old: Word, new: Word) -> Word
+    ensures { λ r. ⌜ r ≡ moreOf old new ⌝ }
+{
+    if old.stands {
+        return Word {
+            stands: true,
+            twice: true,
+            negative: false,
+            magnitude: 0,
+        };
+    }
+    new
+}
+
+pub fn put(ws: Words, l: Letter, new: Word) -> Words
+    ensures { λ r. ⌜ r ≡ putOf ws l new ⌝ }
+{
+    let mut next = ws;
+    match l {
+        Letter::N => {
+            let old = ws.n;
+            next.n = more(old, new);
+        }
+        Letter::G => {
+            let old = ws.g;
+            next.g = more(old, new);
+        }
+        Letter::F => {
+            let old = ws.f;
+            next.f = more(old, new);
+        }
+        Letter::X => {
+            let old = ws.x;
+            next.x = more(old, new);
+        }
+        Letter::Y => {
+            let old = ws.y;
+            next.y = more(old, new);
+        }
+        Letter::I => {
+            let old = ws.i;
+            next.i = more(old, new);
+        }
+        Letter::J => {
+            let old = ws.j;
+            next.j = more(old, new);
+        }
+    }
+    next
+}
+
+fn either(a: bool, b: bool) -> bool
+    ensures { λ r. ⌜ r ≡ (a || b) ⌝ }
+{
+    if a { true } else { b }
+}
+
+// Question 33: "No letter twice?"
+pub fn once(ws: Words) -> bool
+    ensures { λ r. ⌜ r ≡ onceOf ws ⌝ }
+{
+    let j = either(ws.i.twice, ws.j.twice);
+    let y = either(ws.y.twice, j);
+    let x = either(ws.x.twice, y);
+    let f = either(ws.f.twice, x);
+    let g = either(ws.g.twice, f);
+    !either(ws.n.twice, g)
+}
