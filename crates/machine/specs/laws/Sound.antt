@@ -4,6 +4,7 @@ use mathlib.Core.Bool.{Bool, true, false}
 use Prim.Native.Nat.{ℕ, zero, _≤_, _<_}
 use native.Mathlib.Omega.{arith}
 use borrow.Author.Tests.{leb-true, ltb-true, lt-ltb, eqb-true, eq-eqb, le-leb}
+use lib.Dec.{leb}
 use lib.IntN.{pos, negsuc, natAbs}
 use Rattle.whole.specs.laws.Order.{abs-sub}
 use Rattle.whole.specs.laws.Test.{both, joined}
@@ -30,6 +31,7 @@ use Rattle.machine.specs.Machine.{soundParts}
 -- ---- settings
 
 pub record Right (s : Settings) : Type 0 where
+  pub scale-most : s .scale ≤ 1000
   pub clock-some : 1000 ≤ s .clock
   pub clock-most : s .clock ≤ 20000
   pub wide : Wide (s .travel)
@@ -55,12 +57,14 @@ axis-right {r} e =
 pub settings-right : (s : Settings) → settingsNo s ≡ 0 → Right s
 unfolding settingsNo travelRight
 settings-right s e =
-    let clock = answered 1 (answered {yes = inRange 1 1000 (s .scale)} 0 e .1) in
+    let scale = answered {yes = inRange 1 1000 (s .scale)} 0 e in
+    let clock = answered 1 (scale .1) in
     let range = both (clock .0) in
     let travel = both (answered {next = 0} 2 (clock .1) .0) in
     let x = axis-right (travel .0) in
     let y = axis-right (travel .1) in
     record {
+      scale-most = leb-true (s .scale) 1000 (both {a = leb 1 (s .scale)} (scale .0) .1);
       clock-some = leb-true 1000 (s .clock) (range .0);
       clock-most = leb-true (s .clock) 20000 (range .1);
       wide = record { x-lower = x .lower; x-upper = x .upper; y-lower = y .lower; y-upper = y .upper };

@@ -1,0 +1,56 @@
+-- Words that products with p hold.
+use mathlib.Core.Bool.{Bool, true, false, cond}
+use Prim.Native.Nat.{ℕ, _*_, _/_, _^_, _≤_, _<_}
+use mathlib.Core.List.{List}
+use native.Mathlib.Nat.{div-le-self, lt-of-le-of-lt, mul-le-mul-left}
+use native.Mathlib.Omega.{arith}
+use lib.IntN.{ℤ}
+use mir.Syntax.{w64}
+use mir.Val.{SFits}
+use Rattle.whole.specs.laws.Sign.{signed-size}
+use Rattle.whole.specs.laws.Order.{abs-fits}
+use Rattle.words.specs.laws.Scan.{lineOf}
+use Rattle.words.specs.laws.Reading.{line-below}
+use Rattle.reader.specs.Reader.{pulsesOf, coordinate}
+use Rattle.words.specs.declared.letter.Letter.the-variants.{F, X, Y, I, J}
+use Rattle.words.specs.declared.word.Word.{Word}
+use Rattle.words.specs.declared.word.Words.{Words}
+
+abbrev pub Small : (p : ℕ) → Word → Type 0
+Small p w = w .magnitude * p < 2 ^ 63
+
+pub record SmallWords (p : ℕ) (ws : Words) : Type 0 where
+  pub x : Small p (ws .x)
+  pub y : Small p (ws .y)
+  pub i : Small p (ws .i)
+  pub j : Small p (ws .j)
+  pub f : Small p (ws .f)
+
+-- and so the pulses are an i64
+pub pulses-fit : (p : ℕ) (w : Word) → Small p w → SFits w64 (pulsesOf p w)
+pulses-fit p w h = abs-fits (pulsesOf p w) (rw (signed-size (w .negative) (w .magnitude * p / 1000)) (lt-of-le-of-lt (div-le-self (w .magnitude * p) 1000) h))
+
+pub coordinate-fits : (p : ℕ) (w : Word) (here : ℤ) → Small p w → SFits w64 here → SFits w64 (coordinate p w here)
+coordinate-fits p w here h at = by (w .stands)
+  where
+    by : (stands : Bool) → SFits w64 (cond stands (pulsesOf p w) here)
+    by true = pulses-fit p w h
+    by false = at
+
+-- the words of any line are small where p is one of the settings
+below : (m p k : ℕ) → m < k → k ≤ 10 ^ 10 → p ≤ 1000 → m * p < 2 ^ 63
+below m p k h room most = omega (arith, mul-le-mul-left m most)
+
+pub small-words : (p : ℕ) → p ≤ 1000 → (bytes : List ℕ) → SmallWords p (lineOf bytes .words)
+small-words p most bytes =
+    let ws = lineOf bytes .words in
+    record {
+      x = below (ws .x .magnitude) p _ (line-below bytes X) (omega arith) most;
+      y = below (ws .y .magnitude) p _ (line-below bytes Y) (omega arith) most;
+      i = below (ws .i .magnitude) p _ (line-below bytes I) (omega arith) most;
+      j = below (ws .j .magnitude) p _ (line-below bytes J) (omega arith) most;
+      f = below (ws .f .magnitude) p _ (line-below bytes F) (omega arith) most;
+    }
+
+pub feed-small : (bytes : List ℕ) → lineOf bytes .words .f .magnitude < 10 ^ 7
+feed-small bytes = omega (arith, line-below bytes F)

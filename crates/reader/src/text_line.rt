@@ -1,0 +1,107 @@
+// One line of a job, read at a machine: the reader and the record go in and come back beside the answer.
+ghost use mathlib.Core.Path.{_≡_};
+ghost use Rattle.reader.specs.TextLine.{still, takenOf, readLineOf};
+use crate::Reader;
+use crate::command::block_of;
+use crate::command::reader_after;
+use crate::questions::line_no;
+use crate::questions::moves;
+use block::Block;
+use block::Path;
+use machine::Answer;
+use machine::Machine;
+use machine::sound;
+use plane::point::Point;
+use plane::point::is_same;
+
+// No block, a block with the register width that its load answered, or the number of the question.
+pub enum Read {
+    Nothing,
+    Loaded(u64),
+    Refused(u64),
+}
+
+pub struct ReadLine {
+    pub answer: Read,
+    pub reader: Reader,
+    pub machine: Machine,
+}
+
+fn stands_still(b: Block, at: Point) -> bool
+    ensures { λ r. ⌜ r ≡ still (b .end) at (b .path) ⌝ }
+{
+    let end = b.end;
+    let path = b.path;
+    match path {
+        Path::Line => is_same(end, at),
+        Path::Arc(_, _) => false,
+    }
+}
+
+// The block of a line that passed its questions: k is the reader before it, next the one after it.
+fn take(k: Reader, next: Reader, m: Machine, b: Block) -> ReadLine
+    ensures { λ r. ⌜ r ≡ takenOf k next m b ⌝ }
+{
+    let at = m.at;
+    if stands_still(b, at) {
+        return ReadLine {
+            answer: Read::Nothing,
+            reader: next,
+            machine: m,
+        };
+    }
+    let a = m.load(b);
+    let answer = a.answer;
+    let after = a.machine;
+    match answer {
+        Answer::Done => ReadLine {
+            answer: Read::Nothing,
+            reader: next,
+            machine: after,
+        },
+        Answer::Width(bits) => ReadLine {
+            answer: Read::Loaded(bits),
+            reader: next,
+            machine: after,
+        },
+        Answer::Refused(no) => ReadLine {
+            answer: Read::Refused(no),
+            reader: k,
+            machine: m,
+        },
+    }
+}
+
+pub fn read_line(k: Reader, m: Machine, line: &[u8]) -> ReadLine
+    ensures { λ r. ⌜ r ≡ readLineOf k m (now (line .entry)) ⌝ }
+{
+    let settings = m.settings;
+    let at = m.at;
+    let work = m.work;
+    if !sound(settings, at, m.remainder, work) {
+        return ReadLine {
+            answer: Read::Refused(9),
+            reader: k,
+            machine: m,
+        };
+    }
+    let l = words::line::read(line);
+    let ws = l.words;
+    let next = reader_after(k, ws);
+    let no = line_no(settings.scale, next, line.len() as u64, l);
+    if no != 0 {
+        return ReadLine {
+            answer: Read::Refused(no),
+            reader: k,
+            machine: m,
+        };
+    }
+    if !moves(ws) {
+        return ReadLine {
+            answer: Read::Nothing,
+            reader: next,
+            machine: m,
+        };
+    }
+    take(k, next, m, block_of(settings.scale, next, ws, at))
+}
