@@ -1,0 +1,400 @@
+//! "The book of a history", with load's questions 10 to 16. Question 9 is in machine.rs.
+
+use crate::arc::{self, Circle, Kind, Walker};
+use crate::line;
+use crate::point::{Point, ORIGIN};
+use crate::settings::{Settings, USUAL};
+
+/// "A load is given the kind, the end in absolute pulses, f and, for an arc, I and J."
+#[derive(Clone, Copy, PartialEq, Eq, Debug)]
+pub enum Load {
+    Line { end: Point, f: u64 },
+    Arc { kind: Kind, end: Point, f: u64, i: i64, j: i64 },
+}
+
+impl Load {
+    fn end(&self) -> Point {
+        match *self {
+            Load::Line { end, .. } | Load::Arc { end, .. } => end,
+        }
+    }
+
+    fn feed(&self) -> u64 {
+        match *self {
+            Load::Line { f, .. } | Load::Arc { f, .. } => f,
+        }
+    }
+}
+
+#[derive(Clone, Copy, PartialEq, Eq, Debug)]
+pub enum Path {
+    Line,
+    Arc { kind: Kind, centre: Point, n: i64 },
+}
+
+/// "the block in work with its start and its cycles done c"; k is all its cycles, "q for a line,
+/// the number of visited points for an arc".
+#[derive(Clone, Copy, PartialEq, Eq, Debug)]
+pub struct Block {
+    pub path: Path,
+    pub start: Point,
+    pub end: Point,
+    pub f: u64,
+    pub k: u64,
+    pub c: u64,
+}
+
+impl Block {
+    pub fn width(&self) -> u32 {
+        match self.path {
+            Path::Line => line::width(self.start, self.end),
+            Path::Arc { n, .. } => arc::width(n),
+        }
+    }
+
+    /// "the point becomes the one of "Lines" or "Arcs" after c cycles"; c has just grown, so on
+    /// an arc it is the point next to the one where the machine stood.
+    fn point_of_cycle(&self, stood: Point) -> Point {
+        match self.path {
+            Path::Line => line::point_after(self.start, self.end, self.k, self.c),
+            Path::Arc { kind, centre, n } => {
+                let next = Circle::of(n).next(kind, stood.seen_from(centre));
+                next.map_or(stood, |next| next.moved_by(centre))
+            }
+        }
+    }
+}
+
+#[derive(Clone, Copy, PartialEq, Eq, Debug)]
+pub enum Why {
+    Idle,
+    Held,
+    Ended,
+    Spent,
+    Full,
+}
+
+/// "It holds a point, a mark, a remainder and the block in work with its start and its cycles
+/// done c."
+#[derive(Clone, Debug)]
+pub struct Book {
+    pub settings: Settings,
+    pub point: Point,
+    pub held: bool,
+    pub remainder: u64,
+    pub block: Option<Block>,
+    walker: Walker,
+}
+
+/// No question of the paper has this number. It would come out if the order of the circle
+/// points had a gap, so that a comparison shows it.
+const GAP_IN_THE_ORDER: u32 = 0;
+
+impl Book {
+    /// "A fresh machine stands at (0, 0), idle, not held, remainder 0."
+    fn fresh(settings: Settings) -> Book {
+        Book { settings, point: ORIGIN, held: false, remainder: 0, block: None, walker: Walker::default() }
+    }
+
+    /// "A refused make answers the number and the fresh machine with p 50, w 5,000 and the
+    /// widest travel."
+    pub fn make(settings: Settings) -> (Book, Option<u32>) {
+        match settings.refusal() {
+            None => (Book::fresh(settings), None),
+            Some(number) => (Book::fresh(USUAL), Some(number)),
+        }
+    }
+
+    /// A book opened in the middle, for a sound made-up record. The cycles of an arc are then
+    /// counted from where it stands.
+    pub fn opened(settings: Settings, point: Point, held: bool, remainder: u64, block: Option<Block>) -> Book {
+        Book { settings, point, held, remainder, block, walker: Walker::default() }
+    }
+
+    /// "Load: the first no among 10 to 16, put to the book, is the answer and nothing changes.
+    /// Else the block comes into work with c 0, and the answer is its register width."
+    pub fn load(&mut self, load: &Load) -> Result<u32, u32> {
+        let block = self.asked(load)?;
+        self.block = Some(block);
+        Ok(block.width())
+    }
+
+    fn asked(&mut self, load: &Load) -> Result<Block, u32> {
+        // "is nothing in work? 10."
+        if self.block.is_some() {
+            return Err(10);
+        }
+        // "Is f in 1..q0? 11."
+        if !(1..=self.settings.q0()).contains(&load.feed()) {
+            return Err(11);
+        }
+        // "Is the end in travel? 12."
+        if !self.settings.in_travel(load.end()) {
+            return Err(12);
+        }
+        match *load {
+            Load::Line { end, f } => self.asked_line(end, f),
+            Load::Arc { kind, end, f, i, j } => self.asked_arc(kind, end, f, i, j),
+        }
+    }
+
+    fn asked_line(&self, end: Point, f: u64) -> Result<Block, u32> {
+        // "Line: do start and end differ? 13."
+        let start = self.point;
+        if start == end {
+            return Err(13);
+        }
+        Ok(Block { path: Path::Line, start, end, f, k: line::cycles(start, end), c: 0 })
+    }
+
+    fn asked_arc(&mut self, kind: Kind, end: Point, f: u64, i: i64, j: i64) -> Result<Block, u32> {
+        // "Arc: are I and J within ±1,000,000 and not both 0? 14."
+        let within = |v: i64| (-1_000_000..=1_000_000).contains(&v);
+        if !(within(i) && within(j)) || (i == 0 && j == 0) {
+            return Err(14);
+        }
+        // "(I, J) is the centre seen from the start; N = I² + J²."
+        let start = self.point;
+        let centre = start.moved_by(Point::new(i, j));
+        let n = i * i + j * j;
+        // "Is the end a circle point? 15."
+        if !arc::is_circle_point(n, end.seen_from(centre)) {
+            return Err(15);
+        }
+        // "Is every visited point in travel? 16." Travel is a box, so it holds all visited points
+        // if it holds both corners of their box.
+        let walked = self.walker.walk(n, kind, start.seen_from(centre), end.seen_from(centre)).ok_or(GAP_IN_THE_ORDER)?;
+        let (lowest, highest) = (walked.lowest.moved_by(centre), walked.highest.moved_by(centre));
+        if !(self.settings.in_travel(lowest) && self.settings.in_travel(highest)) {
+            return Err(16);
+        }
+        Ok(Block { path: Path::Arc { kind, centre, n }, start, end, f, k: walked.cycles, c: 0 })
+    }
+
+    /// "Hold sets the mark, release takes it off."
+    pub fn hold(&mut self) {
+        self.held = true;
+    }
+
+    pub fn release(&mut self) {
+        self.held = false;
+    }
+
+    /// "Stop drops the block and makes the remainder 0."
+    pub fn stop(&mut self) {
+        self.block = None;
+        self.remainder = 0;
+    }
+
+    /// "Tick: with a block and no mark it is a working tick. ... Any other tick gives 0 and changes
+    /// nothing."
+    pub fn tick(&mut self) -> u8 {
+        let q0 = self.settings.q0();
+        let Some(block) = self.block.as_mut().filter(|_| !self.held) else {
+            return 0;
+        };
+        // "The remainder grows by f. If it is then q0 or more, q0 comes off, c grows by 1"
+        self.remainder += block.f;
+        if self.remainder < q0 {
+            return 0;
+        }
+        self.remainder -= q0;
+        block.c += 1;
+        let stood = self.point;
+        self.point = block.point_of_cycle(stood);
+        // "At c = k the block has ended and nothing is in work."
+        let ended = block.c == block.k;
+        if ended {
+            self.block = None;
+        }
+        // "X code + 4 × Y code + 16 if a cycle was done + 32 if the block ended"
+        code(stood.x, self.point.x) + 4 * code(stood.y, self.point.y) + 16 + if ended { 32 } else { 0 }
+    }
+
+    /// "Run: ticks until the budget or the buffer is used up or the block ends, none if idle or
+    /// held. It answers their number and the report, and its tick bytes are theirs."
+    pub fn run(&mut self, budget: u64, length: u64, mut write: impl FnMut(u8)) -> (Why, u64) {
+        // "It answers idle or held (idle first) with 0 ticks"
+        if self.block.is_none() {
+            return (Why::Idle, 0);
+        }
+        if self.held {
+            return (Why::Held, 0);
+        }
+        let mut ticks = 0;
+        while ticks < budget && ticks < length && self.block.is_some() {
+            write(self.tick());
+            ticks += 1;
+        }
+        // "else ended, spent or full, the first that is true"
+        if self.block.is_none() {
+            (Why::Ended, ticks)
+        } else if ticks == budget {
+            (Why::Spent, ticks)
+        } else {
+            (Why::Full, ticks)
+        }
+    }
+
+    /// "A block of k cycles ..., loaded at remainder r, ends on its working tick
+    /// ⌈(k × q0 - r) / f⌉, its first being 1"; in the middle of a block k is what is left of it.
+    pub fn ticks_to_the_end(&self) -> u128 {
+        let Some(block) = self.block else { return 0 };
+        let left = u128::from(block.k - block.c) * u128::from(self.settings.q0()) - u128::from(self.remainder);
+        left.div_ceil(u128::from(block.f.max(1)))
+    }
+
+    /// Does all working ticks to the block's end at once and answers their number.
+    pub fn finish_at_once(&mut self) -> u128 {
+        let ticks = self.ticks_to_the_end();
+        if let Some(block) = self.block.take() {
+            let fed = u128::from(self.remainder) + ticks * u128::from(block.f);
+            let taken = u128::from(block.k - block.c) * u128::from(self.settings.q0());
+            self.remainder = u64::try_from(fed - taken).unwrap_or(u64::MAX);
+            self.point = block.end;
+        }
+        ticks
+    }
+}
+
+/// "code 0 none, 1 plus, 2 minus"
+fn code(from: i64, to: i64) -> u8 {
+    match to.cmp(&from) {
+        std::cmp::Ordering::Equal => 0,
+        std::cmp::Ordering::Greater => 1,
+        std::cmp::Ordering::Less => 2,
+    }
+}
+
+#[cfg(test)]
+mod tests {
+    use super::*;
+
+    fn usual() -> Book {
+        Book::make(USUAL).0
+    }
+
+    fn line(x: i64, y: i64, f: u64) -> Load {
+        Load::Line { end: Point::new(x, y), f }
+    }
+
+    fn arc(kind: u64, x: i64, y: i64, f: u64, i: i64, j: i64) -> Load {
+        Load::Arc { kind: Kind::of_number(kind).unwrap(), end: Point::new(x, y), f, i, j }
+    }
+
+    fn bytes(book: &mut Book) -> Vec<u8> {
+        let mut all = Vec::new();
+        book.run(1_000_000, 1_000_000, |byte| all.push(byte));
+        all
+    }
+
+    #[test]
+    fn make_asks_1_to_3_in_order() {
+        let bad = Settings { p: 0, w: 0, x_lower: 1, ..USUAL };
+        assert_eq!(bad.refusal(), Some(1));
+        assert_eq!(Settings { p: 1000, ..bad }.refusal(), Some(2));
+        assert_eq!(Settings { p: 1, w: 1000, ..bad }.refusal(), Some(3));
+        assert_eq!(Settings { p: 1001, ..USUAL }.refusal(), Some(1));
+        assert_eq!(Settings { w: 20_001, ..USUAL }.refusal(), Some(2));
+        assert_eq!(Settings { y_upper: 1_000_001, ..USUAL }.refusal(), Some(3));
+        assert_eq!(Settings { y_upper: -1, ..USUAL }.refusal(), Some(3));
+        let (book, number) = Book::make(bad);
+        assert_eq!((book.settings, number), (USUAL, Some(1)));
+    }
+
+    #[test]
+    fn load_asks_10_to_16_in_order() {
+        let mut book = usual();
+        assert_eq!(book.load(&line(0, 0, 0)), Err(11));
+        assert_eq!(book.load(&line(0, 1_000_001, 300_001)), Err(11));
+        assert_eq!(book.load(&line(0, 1_000_001, 300_000)), Err(12));
+        assert_eq!(book.load(&line(0, 0, 1)), Err(13));
+        assert_eq!(book.load(&arc(2, i64::MAX, i64::MIN, 1, 0, 0)), Err(12));
+        assert_eq!(book.load(&arc(2, 0, 0, 1, 0, 0)), Err(14));
+        assert_eq!(book.load(&arc(2, 0, 0, 1, i64::MIN, 1)), Err(14));
+        assert_eq!(book.load(&arc(2, 0, 0, 1, 1_000_001, 1)), Err(14));
+        // "N 2: end (0, 1) has F -1, accepted; (0, 2) has F 2, gives 15", centre (1, 1).
+        assert_eq!(book.load(&arc(3, 1, 3, 1, 1, 1)), Err(15));
+        assert_eq!(book.clone().load(&arc(3, 1, 2, 1, 1, 1)), Ok(1));
+        assert_eq!(book.load(&line(1, 0, 1)), Ok(1));
+        assert_eq!(book.load(&line(0, 0, 0)), Err(10));
+    }
+
+    /// "From (0, 0), I 0, J 5, kind 3, to (0, 10): upper X bound 5 accepted, 14 cycles; bound 4
+    /// gives 16."
+    #[test]
+    fn travel_is_tried_at_every_visited_point() {
+        let half = arc(3, 0, 10, 300_000, 0, 5);
+        let mut book = Book::make(Settings { x_upper: 5, ..USUAL }).0;
+        assert_eq!(book.load(&half), Ok(3));
+        assert_eq!(bytes(&mut book).len(), 14);
+        assert_eq!(book.point, Point::new(0, 10));
+        assert_eq!(Book::make(Settings { x_upper: 4, ..USUAL }).0.load(&half), Err(16));
+    }
+
+    /// "f equal to q0 accepted; q0 + 1 gives 11."
+    #[test]
+    fn f_up_to_q0() {
+        assert_eq!(usual().load(&line(1, 0, 300_000)), Ok(1));
+        assert_eq!(usual().load(&line(1, 0, 300_001)), Err(11));
+    }
+
+    /// "q0 300,000, r 0, k 1: f 150,000 ends on tick 2, 149,999 on tick 3."
+    #[test]
+    fn the_last_tick() {
+        for (f, expected) in [(150_000, 2), (149_999, 3), (300_000, 1), (1, 300_000)] {
+            let mut book = usual();
+            assert_eq!(book.load(&line(0, -1, f)), Ok(1));
+            assert_eq!(book.ticks_to_the_end(), expected);
+            let sent = bytes(&mut book);
+            assert_eq!(sent.len() as u128, expected);
+            assert_eq!(sent.last(), Some(&(8 + 16 + 32)));
+        }
+    }
+
+    /// Readings B20: "(1, 1): bytes 21, 48".
+    #[test]
+    fn bytes_of_the_diagonal() {
+        let mut book = usual();
+        book.load(&line(1, 1, 300_000)).unwrap();
+        assert_eq!(bytes(&mut book), [21, 48]);
+    }
+
+    /// Readings B6.
+    #[test]
+    fn reports_of_runs() {
+        let mut book = usual();
+        book.hold();
+        assert_eq!(book.run(0, 0, |_| ()), (Why::Idle, 0));
+        book.load(&line(5, 0, 300_000)).unwrap();
+        assert_eq!(book.run(0, 0, |_| ()), (Why::Held, 0));
+        assert_eq!(book.tick(), 0);
+        book.release();
+        assert_eq!(book.run(0, 0, |_| ()), (Why::Spent, 0));
+        assert_eq!(book.run(1, 0, |_| ()), (Why::Full, 0));
+        assert_eq!(book.run(2, 2, |_| ()), (Why::Spent, 2));
+        assert_eq!(book.run(2, 1, |_| ()), (Why::Full, 1));
+        assert_eq!(book.run(2, 2, |_| ()), (Why::Ended, 2));
+        assert_eq!(book.run(2, 2, |_| ()), (Why::Idle, 0));
+    }
+
+    /// "Stop drops the block in work, keeps the point and the mark and sets the remainder to 0, also
+    /// when idle."; "The remainder goes over to the next block."
+    #[test]
+    fn remainder_and_stop() {
+        let mut book = usual();
+        book.load(&line(1, 0, 200_000)).unwrap();
+        bytes(&mut book);
+        assert_eq!(book.remainder, 100_000);
+        book.load(&line(2, 0, 200_000)).unwrap();
+        assert_eq!(book.ticks_to_the_end(), 1);
+        assert_eq!(book.tick(), 1 + 16 + 32);
+        assert_eq!(book.remainder, 0);
+        book.load(&line(9, 0, 299_999)).unwrap();
+        book.tick();
+        book.hold();
+        book.stop();
+        assert_eq!((book.point, book.held, book.remainder), (Point::new(2, 0), true, 0));
+        assert!(book.block.is_none());
+    }
+}

@@ -1,0 +1,245 @@
+//! Demand 3 on made-up histories: what was done adds up, and the claims of the paper hold after every
+//! call. The sums are kept beside the book, from its answers only.
+
+use crate::arc::Kind;
+use crate::book::{Block, Book, Path};
+use crate::calls::Call;
+use crate::gen;
+use crate::point::{Point, ORIGIN};
+use crate::settings::USUAL;
+use crate::sound::{book_of, record_of};
+
+/// "less than t half pulses means that 4 × F - t², where positive, has a square below 16 × t² × N, and
+/// -4 × F - t², where positive, one below 16 × t² × (x² + y²)"
+fn less_than_half_pulses(t: i128, n: i128, x: i128, y: i128) -> bool {
+    let f = x * x + y * y - n;
+    let below = |d: i128, bound: i128| d <= 0 || d * d < bound;
+    below(4 * f - t * t, 16 * t * t * n) && below(-4 * f - t * t, 16 * t * t * (x * x + y * y))
+}
+
+/// What is kept beside the book.
+struct Sums {
+    sent: Point,
+    fed: u128,
+    cycles: u128,
+    working_ticks_of_block: u128,
+    end_tick_of_block: u128,
+}
+
+impl Sums {
+    fn take_byte(&mut self, byte: u8) {
+        let pulse = |code: u8| match code & 3 {
+            0 => 0,
+            1 => 1,
+            2 => -1,
+            _ => panic!("code 3"),
+        };
+        assert!(byte < 64);
+        self.sent = self.sent.moved_by(Point::new(pulse(byte), pulse(byte >> 2)));
+        self.cycles += u128::from(byte >> 4 & 1);
+    }
+}
+
+/// "On a line the point is at most half a pulse per axis from the exact point for the cycles done, and its
+/// squared distance from the line is at most one half. On an arc it is less than half a pulse from the
+/// circle."
+fn near_its_path(block: &Block, at: Point) {
+    let start = block.start;
+    match block.path {
+        Path::Line => {
+            let (a, b) = (i128::from(block.end.x - start.x), i128::from(block.end.y - start.y));
+            let (x, y) = (i128::from(at.x - start.x), i128::from(at.y - start.y));
+            let (q, c) = (i128::from(block.k), i128::from(block.c));
+            assert!(2 * (x * q - a * c).abs() <= q && 2 * (y * q - b * c).abs() <= q);
+            assert!(2 * (a * y - b * x).pow(2) <= a * a + b * b);
+        }
+        Path::Arc { centre, n, .. } => {
+            let seen = at.seen_from(centre);
+            assert!(less_than_half_pulses(1, n.into(), seen.x.into(), seen.y.into()));
+        }
+    }
+}
+
+/// One tick of a history, run or tick, with what demand 3 says of it.
+fn one_tick(book: &mut Book, sums: &mut Sums) -> u8 {
+    let before = book.block;
+    let working = before.is_some() && !book.held;
+    if let Some(block) = before.filter(|_| working) {
+        sums.fed += u128::from(block.f);
+        sums.working_ticks_of_block += 1;
+    }
+    let byte = book.tick();
+    sums.take_byte(byte);
+    if working {
+        // "A block not stopped has ended exactly when it has had the working ticks that the feed gives; the
+        // last of them leaves the point on the block's commanded end."
+        let ended = sums.working_ticks_of_block == sums.end_tick_of_block;
+        assert_eq!(ended, byte & 32 != 0);
+        assert_eq!(ended, book.block.is_none());
+        if let Some(block) = before.filter(|_| ended) {
+            assert_eq!(book.point, block.end);
+        }
+    } else {
+        assert_eq!(byte, 0);
+    }
+    byte
+}
+
+fn adds_up(book: &Book, sums: &Sums) {
+    assert_eq!(sums.sent, book.point, "pulses sent sum to the point");
+    let q0 = u128::from(book.settings.q0());
+    assert_eq!(sums.cycles * q0 + u128::from(book.remainder), sums.fed, "cycles times feed capacity plus remainder");
+    if let Some(block) = &book.block {
+        near_its_path(block, book.point);
+    }
+}
+
+fn after_load(book: &Book, sums: &mut Sums) {
+    sums.working_ticks_of_block = 0;
+    if let Some(block) = &book.block {
+        let left = u128::from(block.k) * u128::from(book.settings.q0()) - u128::from(book.remainder);
+        sums.end_tick_of_block = left.div_ceil(u128::from(block.f));
+    }
+}
+
+fn stopped(sums: &mut Sums) {
+    (sums.fed, sums.cycles) = (0, 0);
+}
+
+/// A sound record's call answers a sound record; asked where the walk is short.
+fn still_sound(book: &Book) {
+    if book.block.is_none_or(|block| block.path == Path::Line || block.k < 200) {
+        let again = book_of(&record_of(book)).expect("sound");
+        assert_eq!((again.point, again.remainder, again.held), (book.point, book.remainder, book.held));
+        assert_eq!(again.block.map(|b| b.k - b.c), book.block.map(|b| b.k - b.c));
+    }
+}
+
+fn follow(calls: &[Call]) {
+    let mut book = Book::make(USUAL).0;
+    let mut sums = Sums { sent: ORIGIN, fed: 0, cycles: 0, working_ticks_of_block: 0, end_tick_of_block: 0 };
+    for call in calls {
+        match *call {
+            Call::Make(settings) => book = Book::make(settings).0,
+            // A history starts from a make; a made-up record has no place in it.
+            Call::Record(_) => return,
+            Call::Load(load) => {
+                let before = record_of(&book);
+                match book.load(&load) {
+                    Ok(bits) => {
+                        assert!((1..=21).contains(&bits));
+                        after_load(&book, &mut sums);
+                    }
+                    Err(number) => {
+                        assert!((10..=16).contains(&number));
+                        assert_eq!(before, record_of(&book));
+                    }
+                }
+            }
+            Call::Tick => drop(one_tick(&mut book, &mut sums)),
+            Call::Hold => book.hold(),
+            Call::Release => book.release(),
+            Call::Stop => {
+                book.stop();
+                stopped(&mut sums);
+            }
+            Call::Run { budget, length, .. } => run(&mut book, &mut sums, budget, length),
+        }
+        adds_up(&book, &sums);
+        still_sound(&book);
+    }
+}
+
+/// The run's bytes and number against single ticks from the same book.
+fn run(book: &mut Book, sums: &mut Sums, budget: u64, length: u64) {
+    let mut by_run = book.clone();
+    let to_the_end = book.ticks_to_the_end();
+    let allowed = if book.held { 0 } else { to_the_end.min(budget.into()).min(length.into()) };
+    let mut bytes = Vec::new();
+    let (_, ticks) = by_run.run(budget, length, |byte| bytes.push(byte));
+    assert_eq!(u128::from(ticks), allowed, "the least of budget, buffer and ticks to the end");
+    assert_eq!(bytes.len() as u64, ticks);
+    for byte in bytes {
+        assert_eq!(byte, one_tick(book, sums));
+    }
+    assert_eq!(record_of(book), record_of(&by_run));
+}
+
+#[test]
+fn demand_3_on_random_histories() {
+    let mut followed = 0;
+    for seed in [1, 2] {
+        for index in 0..4_000 {
+            let calls = gen::history(seed, index);
+            if matches!(calls.first(), Some(Call::Make(_))) {
+                follow(&calls);
+                followed += 1;
+            }
+        }
+    }
+    assert!(followed > 5_000);
+}
+
+/// Long histories of short blocks, where every block is run to its end.
+#[test]
+fn demand_3_on_long_histories() {
+    for index in 0..40 {
+        let mut calls = Vec::new();
+        for piece in 0..60 {
+            calls.extend(gen::history(900 + index, piece).into_iter().filter(|call| !matches!(call, Call::Make(_) | Call::Record(_))));
+            calls.push(Call::Release);
+            calls.push(Call::Run { budget: u64::MAX, length: 100_000, fill: 0 });
+        }
+        follow(&calls);
+    }
+}
+
+/// The end tick ⌈(k q0 - r) / f⌉ and the remainder after it, for all small r, k and edges of f.
+#[test]
+fn the_end_tick_formula() {
+    let settings = crate::settings::Settings { w: 1_000, ..USUAL };
+    let q0 = settings.q0();
+    for f in [1, 2, 3, 7, 29_999, 30_000, 30_001, q0 - 1, q0].into_iter().filter(|f| q0 / f < 9_000) {
+        for r in [0, 1, 2, 29_999, 30_000, q0 - f, q0 - 2, q0 - 1].into_iter().filter(|&r| r < q0) {
+            for k in 1..=4 {
+                let block = Block { path: Path::Line, start: ORIGIN, end: Point::new(k as i64, 0), f, k, c: 0 };
+                let mut ticked = Book::opened(settings, ORIGIN, false, r, Some(block));
+                let mut at_once = ticked.clone();
+                let (_, ticks) = ticked.run(u64::MAX, u64::MAX, |_| ());
+                assert_eq!(u128::from(ticks), at_once.finish_at_once());
+                assert_eq!(record_of(&ticked), record_of(&at_once));
+            }
+        }
+    }
+}
+
+/// Readings, section A: circle points are less than half a pulse from the circle; the root-free form is exact
+/// for odd t and says "less" for an equal distance at (0, 0) with t even and 4N = t².
+#[test]
+fn distance_from_the_circle() {
+    for n in 1..=1_000 {
+        for at in crate::arc::all_circle_points(n) {
+            assert!(less_than_half_pulses(1, n.into(), at.x.into(), at.y.into()));
+        }
+    }
+    assert!(less_than_half_pulses(2, 1, 0, 0) && less_than_half_pulses(4, 4, 0, 0));
+    assert!(!less_than_half_pulses(1, 2, 2, 0));
+    assert!(!less_than_half_pulses(2, 1, 2, 0), "one pulse away is not less than two half pulses");
+}
+
+/// Great circles in windows: 2,000 points on from chance points, N up to 2 × 10¹².
+#[test]
+fn great_circles() {
+    let mut rng = crate::rng::Rng::new(11, 0);
+    for _ in 0..300 {
+        let n = rng.between(1, crate::arc::LARGEST_N);
+        let Some(mut here) = gen::circle_point(&mut rng, n) else { continue };
+        let circle = crate::arc::Circle::of(n);
+        for _ in 0..2_000 {
+            let next = circle.next(Kind::OtherWay, here).expect("a next point");
+            assert_eq!(circle.next(Kind::Clockwise, next), Some(here), "the way back");
+            assert!(less_than_half_pulses(1, n.into(), next.x.into(), next.y.into()));
+            here = next;
+        }
+    }
+}

@@ -1,0 +1,503 @@
+//! Made-up call files. The generator keeps a machine of its own beside, so that loads begin where the
+//! machine stands and runs stop at, just before and just after the block's end.
+
+use std::io::{self, Write};
+
+use crate::arc::{is_circle_point, Circle, Kind, LARGEST_N};
+use crate::book::{Book, Load};
+use crate::calls::{answer, Call};
+use crate::line;
+use crate::machine::Machine;
+use crate::point::{Point, ORIGIN};
+use crate::rng::Rng;
+use crate::root::root_up;
+use crate::settings::{Settings, USUAL};
+use crate::sound::{Record, Work};
+
+pub fn write_calls(seed: u64, count: u64, out: &mut impl Write) -> io::Result<()> {
+    for index in 0..count {
+        writeln!(out, "# history {index} of seed {seed}")?;
+        for call in history(seed, index) {
+            writeln!(out, "{call}")?;
+        }
+    }
+    Ok(())
+}
+
+/// One history: a make or a made-up record, then up to 40 calls.
+pub fn history(seed: u64, index: u64) -> Vec<Call> {
+    let rng = &mut Rng::new(seed, index);
+    let first = if rng.percent(75) { Call::Make(settings(rng)) } else { Call::Record(record(rng)) };
+    let mut machine = Machine::make(USUAL).0;
+    answer(&mut machine, &first);
+    let mut calls = vec![first];
+    for _ in 0..rng.between(2, 40) {
+        let call = match machine.book() {
+            Some(book) => next_call(rng, book),
+            None => call_on_unsound(rng),
+        };
+        answer(&mut machine, &call);
+        calls.push(call);
+    }
+    calls
+}
+
+fn next_call(rng: &mut Rng, book: &Book) -> Call {
+    let chance = rng.below(100);
+    if book.held && chance < 40 {
+        return Call::Release;
+    }
+    match (book.block.is_some(), chance) {
+        (_, 0..=2) => Call::Hold,
+        (_, 3..=4) => Call::Release,
+        (false, 5..=6) | (true, 5..=9) => Call::Stop,
+        (false, 7..=12) | (true, 10..=34) => Call::Tick,
+        (false, 13..=18) | (true, 35..=92) => run(rng, book),
+        (true, _) => Call::Load(load(rng, book)),
+        (false, 19..=98) => Call::Load(load(rng, book)),
+        (false, _) => Call::Record(record(rng)),
+    }
+}
+
+fn call_on_unsound(rng: &mut Rng) -> Call {
+    match rng.below(12) {
+        0 => Call::Tick,
+        1 => Call::Hold,
+        2 => Call::Release,
+        3 => Call::Stop,
+        4 => Call::Run { budget: rng.below(3), length: rng.below(60), fill: rng.below(256) as u8 },
+        5 => Call::Load(Load::Line { end: Point::new(1, 0), f: rng.below(3) }),
+        6 => Call::Load(Load::Arc { kind: kind(rng), end: ORIGIN, f: 1, i: 1, j: 0 }),
+        7..=9 => Call::Record(record(rng)),
+        _ => Call::Make(settings(rng)),
+    }
+}
+
+/// Numbers at the ends of what questions allow and of 64 bits.
+const EDGES: [i64; 16] = [
+    0,
+    1,
+    -1,
+    2,
+    1_000_000,
+    -1_000_000,
+    1_000_001,
+    -1_000_001,
+    2_000_000,
+    -2_000_000,
+    2_000_001,
+    -2_000_001,
+    i64::MAX,
+    i64::MIN,
+    3_037_000_500,
+    -3_037_000_500,
+];
+
+const UNSIGNED_EDGES: [u64; 12] =
+    [0, 1, 2, 59_999, 60_000, 1_200_000, 1_200_001, 2_000_000_000_000, 2_000_000_000_001, u64::MAX, 1 << 63, 1 << 32];
+
+fn edge(rng: &mut Rng) -> i64 {
+    rng.one_of(&EDGES, 0)
+}
+
+fn unsigned_edge(rng: &mut Rng) -> u64 {
+    rng.one_of(&UNSIGNED_EDGES, 0)
+}
+
+fn kind(rng: &mut Rng) -> Kind {
+    rng.one_of(&[Kind::Clockwise, Kind::OtherWay], Kind::Clockwise)
+}
+
+fn sign(rng: &mut Rng) -> i64 {
+    rng.one_of(&[1, -1], 1)
+}
+
+/// A size: mostly small, at times up to a million.
+fn size(rng: &mut Rng) -> i64 {
+    match rng.below(10_000) {
+        0..=4_999 => rng.between(0, 6),
+        5_000..=7_999 => rng.between(0, 40),
+        8_000..=9_699 => rng.between(0, 700),
+        9_700..=9_979 => rng.between(0, 6_000),
+        9_980..=9_997 => rng.between(0, 60_000),
+        _ => rng.between(0, 1_000_000),
+    }
+}
+
+fn settings(rng: &mut Rng) -> Settings {
+    let mut made = sound_settings(rng);
+    if rng.percent(12) {
+        match rng.below(8) {
+            0 => made.p = rng.one_of(&[0, 1_001, u64::MAX], 0),
+            1 => made.w = rng.one_of(&[0, 999, 20_001, u64::MAX], 0),
+            2 => made.x_lower = rng.one_of(&[1, -1_000_001, i64::MIN, i64::MAX], 1),
+            3 => made.x_upper = rng.one_of(&[-1, 1_000_001, i64::MIN, i64::MAX], -1),
+            4 => made.y_lower = rng.one_of(&[1, -1_000_001, i64::MIN, i64::MAX], 1),
+            5 => made.y_upper = rng.one_of(&[-1, 1_000_001, i64::MIN, i64::MAX], -1),
+            6 => (made.p, made.w) = (1_001, 999),
+            _ => (made.w, made.y_upper) = (20_001, -5),
+        }
+    }
+    made
+}
+
+fn sound_settings(rng: &mut Rng) -> Settings {
+    let p = if rng.percent(50) { 50 } else { rng.one_of(&[1, 2, 1_000, 999, 40], 1) };
+    let w = if rng.percent(40) { 5_000 } else { rng.one_of(&[1_000, 20_000, 1_001, 19_999, 7_777], 1_000) };
+    let mut bound = || match rng.below(10) {
+        0 => 0,
+        1..=2 => rng.between(0, 9),
+        3 => rng.between(0, 99),
+        4 => rng.between(0, 9_999),
+        _ => 1_000_000,
+    };
+    Settings { p, w, x_lower: -bound(), x_upper: bound(), y_lower: -bound(), y_upper: bound() }
+}
+
+/// Mostly quick ones, so that many cycles are seen; at times slow, edges and refused ones.
+fn feed(rng: &mut Rng, q0: u64) -> u64 {
+    match rng.below(40) {
+        0 => 0,
+        1 => q0 + 1,
+        2 => unsigned_edge(rng),
+        _ => sound_feed(rng, q0),
+    }
+}
+
+fn sound_feed(rng: &mut Rng, q0: u64) -> u64 {
+    match rng.below(20) {
+        0..=6 => q0,
+        7..=8 => q0 - 1,
+        9 => q0 / 2,
+        10 => q0 / 2 + 1,
+        11 => q0 / 3,
+        12 => 1 + rng.below(1_000),
+        13 => 1 + rng.below(q0 / 50),
+        _ => 1 + rng.below(q0),
+    }
+}
+
+fn run(rng: &mut Rng, book: &Book) -> Call {
+    let to_the_end = u64::try_from(book.ticks_to_the_end()).unwrap_or(u64::MAX);
+    let mut amount = || match rng.below(16) {
+        0 => 0,
+        1..=3 => to_the_end,
+        4 => to_the_end.saturating_sub(1),
+        5 => to_the_end.saturating_add(1),
+        6..=7 => 1 + rng.below(4),
+        8..=10 => rng.below(47),
+        11..=12 => 47 + rng.below(4),
+        13 => rng.below(5_000),
+        14 => u64::MAX,
+        _ => rng.below(300),
+    };
+    let (budget, length) = (amount(), amount());
+    // A buffer must be lent in earnest, so its length has an end.
+    let longest = if rng.percent(2) { 60_000 } else { 3_000 };
+    Call::Run { budget, length: length.min(longest), fill: rng.one_of(&[0, 255, 170, 16, 48], 1) }
+}
+
+fn load(rng: &mut Rng, book: &Book) -> Load {
+    let f = feed(rng, book.settings.q0());
+    if rng.percent(45) {
+        Load::Line { end: line_end(rng, book), f }
+    } else {
+        arc_load(rng, book, f)
+    }
+}
+
+/// Lines in all directions: along an axis, diagonal, nearly so, worked ones, to the bounds, to nowhere.
+fn line_end(rng: &mut Rng, book: &Book) -> Point {
+    let at = book.point;
+    let settings = &book.settings;
+    let long = size(rng);
+    let (a, b) = match rng.below(16) {
+        0 => (long, 0),
+        1 => (0, long),
+        2 => (long, long),
+        3 => (long, long - 1),
+        4 => (long, 1),
+        5 => (3, 4),
+        6 => (108, 95),
+        7 => return Point::new(settings.x_lower, settings.y_upper),
+        8 => return Point::new(settings.x_upper + rng.between(-1, 1), settings.y_lower + rng.between(-1, 1)),
+        9 if rng.percent(30) => return Point::new(edge(rng), edge(rng)),
+        10 if rng.percent(30) => (0, 0),
+        _ => (long, rng.between(0, long)),
+    };
+    let (a, b) = if rng.percent(50) { (a, b) } else { (b, a) };
+    let end = at.moved_by(Point::new(a * sign(rng), b * sign(rng)));
+    if rng.percent(85) {
+        into_travel(settings, end)
+    } else {
+        end
+    }
+}
+
+fn into_travel(settings: &Settings, at: Point) -> Point {
+    Point::new(at.x.max(settings.x_lower).min(settings.x_upper), at.y.max(settings.y_lower).min(settings.y_upper))
+}
+
+fn arc_load(rng: &mut Rng, book: &Book, f: u64) -> Load {
+    let kind = kind(rng);
+    if rng.percent(2) {
+        let (i, j) = rng.one_of(&[(0, 0), (1_000_001, 0), (0, -1_000_001), (i64::MIN, i64::MAX), (1, 3_037_000_500)], (0, 0));
+        return Load::Arc { kind, end: book.point, f, i, j };
+    }
+    let (i, j) = centre(rng);
+    let n = i * i + j * j;
+    let start = Point::new(-i, -j);
+    let seen = arc_end(rng, n, kind, start);
+    let end = seen.moved_by(Point::new(i, j)).moved_by(book.point);
+    Load::Arc { kind, end, f, i, j }
+}
+
+/// (I, J): along an axis, diagonal or any.
+fn centre(rng: &mut Rng) -> (i64, i64) {
+    let long = size(rng).max(1);
+    let short = match rng.below(6) {
+        0 | 1 => 0,
+        2 => long,
+        _ => rng.between(0, long),
+    };
+    let (i, j) = if rng.percent(50) { (long, short) } else { (short, long) };
+    (i * sign(rng), j * sign(rng))
+}
+
+/// An end seen from the centre: full turns, some steps on, anywhere on the circle, at the ends of F,
+/// and one pulse beside.
+fn arc_end(rng: &mut Rng, n: i64, kind: Kind, start: Point) -> Point {
+    match rng.below(20) {
+        0..=3 => start,
+        4..=9 => steps_on(rng, n, kind, start),
+        10..=14 => circle_point(rng, n).unwrap_or(start),
+        15..=17 => point_at_the_ends_of_f(rng, n).unwrap_or(start),
+        18 => beside(rng, start),
+        _ => circle_point(rng, n).map_or(start, |at| beside(rng, at)),
+    }
+}
+
+fn beside(rng: &mut Rng, at: Point) -> Point {
+    at.moved_by(Point::new(rng.between(-1, 1), rng.between(-1, 1)))
+}
+
+fn steps_on(rng: &mut Rng, n: i64, kind: Kind, start: Point) -> Point {
+    let circle = Circle::of(n);
+    let mut here = start;
+    for _ in 0..rng.between(1, 60) {
+        here = circle.next(kind, here).unwrap_or(here);
+    }
+    here
+}
+
+/// A circle point anywhere: the shorter coordinate by chance, the longer one by trying.
+pub fn circle_point(rng: &mut Rng, n: i64) -> Option<Point> {
+    for _ in 0..50 {
+        let root = root_up(n.unsigned_abs().into()) as i64;
+        let short = rng.between(0, root);
+        let rest = (n - short * short).max(0);
+        let about = root_up(rest.unsigned_abs().into()) as i64;
+        let long = (about - 1).max(short)..=about + 1;
+        let found = long.map(|long| Point::new(long, short)).find(|&at| is_circle_point(n, at));
+        if let Some(found) = found {
+            return Some(turned(rng, found));
+        }
+    }
+    None
+}
+
+fn turned(rng: &mut Rng, at: Point) -> Point {
+    let (x, y) = if rng.percent(50) { (at.x, at.y) } else { (at.y, at.x) };
+    Point::new(x * sign(rng), y * sign(rng))
+}
+
+/// A point with F = -m, F = m - 1 or F = m, if this N has one: "An end test on F from -m to m with both
+/// ends allowed" is a plausible slip. Only the last is no circle point.
+pub fn point_at_the_ends_of_f(rng: &mut Rng, n: i64) -> Option<Point> {
+    let which = rng.below(3);
+    let root = root_up(n.unsigned_abs().into()) as i64;
+    let first = rng.between(0, root);
+    for at in 0..=root.min(3_000) {
+        let short = (first + at) % (root + 1);
+        let about = root_up((n - short * short).max(0).unsigned_abs().into()) as i64;
+        for m in (about - 2).max(short)..=about + 2 {
+            let f = m * m + short * short - n;
+            let wanted = match which {
+                0 => -m,
+                1 => m - 1,
+                _ => m,
+            };
+            if f == wanted {
+                return Some(turned(rng, Point::new(m, short)));
+            }
+        }
+    }
+    None
+}
+
+/// A made-up record: a sound one as far as its arc stays in travel, or one with a number or two wrong.
+fn record(rng: &mut Rng) -> Record {
+    let settings = sound_settings(rng);
+    let q0 = settings.q0();
+    let remainder = match rng.below(5) {
+        0 => 0,
+        1 => q0 - 1,
+        _ => rng.below(q0),
+    };
+    let idle = Record { settings, point: in_travel(rng, &settings), held: rng.percent(20), remainder, work: Work::Nothing };
+    let mut made = match rng.below(10) {
+        0..=1 => idle,
+        2..=5 => with_line(rng, idle),
+        _ => with_arc(rng, idle),
+    };
+    if rng.percent(45) {
+        damage(rng, &mut made);
+        if rng.percent(10) {
+            damage(rng, &mut made);
+        }
+    }
+    made
+}
+
+fn in_travel(rng: &mut Rng, settings: &Settings) -> Point {
+    let any = Point::new(size(rng) * sign(rng), size(rng) * sign(rng));
+    match rng.below(5) {
+        0 => Point::new(settings.x_upper, settings.y_lower),
+        1 => Point::new(rng.between(settings.x_lower, settings.x_upper), rng.between(settings.y_lower, settings.y_upper)),
+        _ => into_travel(settings, any),
+    }
+}
+
+fn with_line(rng: &mut Rng, idle: Record) -> Record {
+    let (start, end) = (idle.point, in_travel(rng, &idle.settings));
+    if start == end {
+        return idle;
+    }
+    let q = line::cycles(start, end);
+    let c = match rng.below(4) {
+        0 => 0,
+        1 => q - 1,
+        _ => rng.below(q),
+    };
+    let f = sound_feed(rng, idle.settings.q0());
+    Record { point: line::point_after(start, end, q, c), work: Work::Line { start, end, f, c }, ..idle }
+}
+
+/// Also circles that no load gives: N no sum of two squares, points with any F, full turns from them.
+fn with_arc(rng: &mut Rng, idle: Record) -> Record {
+    let n = match rng.below(1_000) {
+        0..=599 => rng.between(1, 60),
+        600..=899 => rng.between(1, 3_000),
+        900..=997 => rng.between(1, 2_000_000),
+        998 => LARGEST_N - rng.between(0, 3),
+        _ => rng.between(1, LARGEST_N),
+    };
+    let Some(here) = circle_point(rng, n) else { return idle };
+    let kind = kind(rng);
+    let centre = idle.point.seen_from(here);
+    let end = match rng.below(5) {
+        0 => here,
+        1..=2 => steps_on(rng, n, kind, here),
+        3 => circle_point(rng, n).unwrap_or(here),
+        _ => point_at_the_ends_of_f(rng, n).unwrap_or(here),
+    };
+    let f = sound_feed(rng, idle.settings.q0());
+    Record { work: Work::Arc { kind, centre, n: n.unsigned_abs(), end: end.moved_by(centre), f }, ..idle }
+}
+
+/// One number of the record off by one, or at an edge.
+fn damage(rng: &mut Rng, made: &mut Record) {
+    let at = rng.below(8);
+    match at {
+        0 => hurt_settings(rng, &mut made.settings),
+        1 => hurt(rng, &mut made.point.x),
+        2 => hurt(rng, &mut made.point.y),
+        3 => hurt_unsigned(rng, &mut made.remainder),
+        _ => hurt_work(rng, &mut made.work),
+    }
+}
+
+fn hurt_settings(rng: &mut Rng, settings: &mut Settings) {
+    match rng.below(6) {
+        0 => settings.p = rng.one_of(&[0, 1_001, u64::MAX], 0),
+        1 => settings.w = rng.one_of(&[0, 999, 20_001, u64::MAX, u64::MAX / 60 + 1], 0),
+        2 => hurt(rng, &mut settings.x_lower),
+        3 => hurt(rng, &mut settings.x_upper),
+        4 => hurt(rng, &mut settings.y_lower),
+        _ => hurt(rng, &mut settings.y_upper),
+    }
+}
+
+fn hurt_work(rng: &mut Rng, work: &mut Work) {
+    match work {
+        Work::Nothing => (),
+        Work::Line { start, end, f, c } => match rng.below(8) {
+            0 => hurt(rng, &mut start.x),
+            1 => hurt(rng, &mut start.y),
+            2 => hurt(rng, &mut end.x),
+            3 => hurt(rng, &mut end.y),
+            4 => hurt_unsigned(rng, f),
+            5 => *end = *start,
+            _ => hurt_unsigned(rng, c),
+        },
+        Work::Arc { centre, n, end, f, .. } => match rng.below(8) {
+            0 => hurt(rng, &mut centre.x),
+            1 => hurt(rng, &mut centre.y),
+            2 => hurt(rng, &mut end.x),
+            3 => hurt(rng, &mut end.y),
+            4 => hurt_unsigned(rng, f),
+            _ => hurt_unsigned(rng, n),
+        },
+    }
+}
+
+fn hurt(rng: &mut Rng, number: &mut i64) {
+    *number = match rng.below(3) {
+        0 => number.saturating_add(1),
+        1 => number.saturating_sub(1),
+        _ => edge(rng),
+    };
+}
+
+fn hurt_unsigned(rng: &mut Rng, number: &mut u64) {
+    *number = match rng.below(3) {
+        0 => number.saturating_add(1),
+        1 => number.saturating_sub(1),
+        _ => unsigned_edge(rng),
+    };
+}
+
+#[cfg(test)]
+mod tests {
+    use super::*;
+    use std::collections::HashMap;
+
+    /// Every answer of the paper turns up in a modest number of histories.
+    #[test]
+    fn histories_meet_every_answer() {
+        let mut met: HashMap<String, u64> = HashMap::new();
+        for index in 0..3_000 {
+            let mut machine = Machine::make(USUAL).0;
+            for call in history(1, index) {
+                let told = answer(&mut machine, &call);
+                let mut words = told.split(' ').skip(1);
+                let first = words.next().unwrap_or("").to_string();
+                let key = if first == "refused" { format!("refused {}", words.next().unwrap_or("")) } else { first };
+                *met.entry(key).or_default() += 1;
+            }
+        }
+        println!("{met:?}");
+        let refused = [1, 2, 3, 9, 10, 11, 12, 13, 14, 15, 16].map(|n| format!("refused {n}"));
+        let others = ["made", "set", "bits", "byte", "done", "idle", "held", "ended", "spent", "full"].map(String::from);
+        for key in refused.iter().chain(&others) {
+            assert!(met.get(key).is_some_and(|&times| times > 20), "{key}");
+        }
+        assert!(!met.contains_key("refused 0"));
+    }
+
+    #[test]
+    fn the_same_seed_gives_the_same() {
+        assert_eq!(history(5, 9), history(5, 9));
+        assert_ne!(history(5, 9), history(6, 9));
+    }
+}

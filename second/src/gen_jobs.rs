@@ -1,0 +1,435 @@
+//! Made-up job texts, valid and damaged, for p 50, w 5,000 and the widest travel.
+
+use std::io::{self, Write};
+
+use crate::book::Book;
+use crate::gen::{circle_point, point_at_the_ends_of_f};
+use crate::job::Reader;
+use crate::point::Point;
+use crate::rng::Rng;
+use crate::settings::USUAL;
+
+/// Many texts in one stream: `%job INDEX LENGTH`, LF, the text's bytes, LF.
+pub fn write_jobs(seed: u64, count: u64, out: &mut impl Write) -> io::Result<()> {
+    for index in 0..count {
+        let text = job(seed, index);
+        writeln!(out, "%job {index} {}", text.len())?;
+        out.write_all(&text)?;
+        out.write_all(b"\n")?;
+    }
+    Ok(())
+}
+
+/// The job of this number: the worked ones first, then made-up ones.
+pub fn job(seed: u64, index: u64) -> Vec<u8> {
+    let worked = usize::try_from(index).ok().and_then(worked);
+    worked.unwrap_or_else(|| made_up(&mut Rng::new(seed, index)))
+}
+
+/// Texts that each aim at one rule.
+const WORKED: [&str; 86] = [
+    "",
+    "\n",
+    "N20 G01 X20 Y40 F100\nN30 X50 Y80\n",
+    "N20 G01 X20 Y40 F100\nN30 X50 Y80",
+    // 11
+    "G1 X1 F0",
+    "G1 X1 F6001",
+    "G1 X1 F6000",
+    "G1 X1 F9999999",
+    "F0\nG1\nX1\n",
+    "G1 X0 F0\nX1",
+    "G1 X0 F0\nF6000 X1",
+    // 12
+    "G1 X20000.02 F100",
+    "G1 X-20000.02 F100",
+    "G1 Y20000.02 F100",
+    "G1 X20000 Y-20000 F6000\n",
+    "G1 X9999999.999 F1",
+    "G1 X9999999.98 F1",
+    // 14
+    "G2 I0 F1",
+    "G3 I0 J0 X1 F1",
+    "G2 I20000.02 F1",
+    "G2 J-20000.02 F1",
+    "G3 I9999999.98 F1",
+    "G2 X9999999.98 I9999999.98 F1",
+    // 15
+    "G3 X1 I2 F1",
+    "G2 X0.02 Y0.06 I0.02 J0.02 F6000",
+    "G3 X0.02 Y0.04 I0.02 J0.02 F6000",
+    "G2 X0.02 Y0.06 I0.02 J0.02 F0",
+    // 16
+    "G3 J20000 F100",
+    "G2 I-20000 F100",
+    "G1 X19999.98 F6000\nG3 J1 F6000",
+    "G1 X19999.9 F6000\nG3 J0.1 F6000",
+    "G1 X19999.88 F6000\nG3 J0.1 F6000",
+    // worked arcs
+    "G3 J0.1 Y0.2 F6000\n",
+    "G2 J0.1 Y0.2 F6000\n",
+    "G3 J0.1 F6000\n",
+    "G3 J0.02 F6000\nG2 I0.02 J0.02\n",
+    "G2 I0.14 J0.06 F1",
+    "G2 I0.14 J0.02 F1",
+    "G3 I1000 F6000",
+    // 32
+    "G1 G1 ?",
+    "X.5",
+    "X5.",
+    "X5.1234",
+    "X12345678",
+    "X 5",
+    "G 1",
+    "F1.5",
+    "G+1",
+    "N-1",
+    "X--5",
+    "X",
+    "x5",
+    "G1X5F1\r\n",
+    "\tG1X5F1",
+    "Z1",
+    "%\n",
+    "G1 X5 F100 ;c",
+    "G1,X5",
+    "g1 X5 F100",
+    // 33
+    "G9 G9",
+    "N1 N1",
+    "G1 X1 X1 F1",
+    "F1 F1",
+    // 34
+    "G4 X0.01",
+    "G0",
+    "G4",
+    "G1234567",
+    "G0000001 X1 F1",
+    // 35
+    "X0.01",
+    "G1 F1 X0.01",
+    "G1 F1 X0.02",
+    "G1 F1 X0.02 J0.001",
+    "G1 X0.030 F1",
+    // 36
+    "X1",
+    "G1 X1",
+    "F1 X1",
+    "G1 I1",
+    "I1 F5",
+    // 37
+    "G1 I1 F0",
+    "G1 I0 F1",
+    "G2 X1 F1",
+    "G2 I1 F100\nX5",
+    "G1 F1\nX1\nJ0",
+    // modality
+    "G1\nF600\nX1\nY1\nG2 I1\nJ1\nG1 X0\n",
+    "F100 G1\n\nN5\n   \nX1.5Y-2.25F60\nN7Y0",
+    "X+5Y-0G1F6000\nX-0.000Y+0.020\n",
+];
+
+fn worked(index: usize) -> Option<Vec<u8>> {
+    if let Some(text) = WORKED.get(index) {
+        return Some(text.as_bytes().to_vec());
+    }
+    match index - WORKED.len() {
+        0 => Some(vec![b' '; 80]),
+        1 => Some(vec![b' '; 81]),
+        2 => Some(padded("G1 X1 F100", 80)),
+        3 => Some(padded("G1 X1 F100", 81)),
+        4 => Some(padded("G1 X1 F100 ?", 81)),
+        5 => Some([padded("G1 X1 F100", 80), b"\r\nX5\n".to_vec()].concat()),
+        6 => Some([padded("G1 X1 F100", 79), b"\r\nX5\n".to_vec()].concat()),
+        7 => Some([padded("G1 X1 F100", 80), b"\nX5\n".to_vec()].concat()),
+        8 => Some(vec![b'\n'; 65_536]),
+        9 => Some(vec![b'\n'; 65_537]),
+        10 => Some(filled(65_536, b"G1 X1 F100\n")),
+        11 => Some(filled(65_537, b"G1 X1 F100\n")),
+        12 => Some(filled(65_536, b"?\n")),
+        13 => Some(filled(65_537, b"?\n")),
+        14 => Some(filled(65_535, b"")),
+        15 => Some(vec![b'?'; 65_536]),
+        16 => Some(vec![b'?'; 65_537]),
+        17 => Some(vec![b'G', b'1', 0, b'X']),
+        18 => Some(vec![0xEF, 0xBB, 0xBF, b'G', b'1']),
+        19 => Some(vec![b'G', b'1', 0xA0, b'X', b'1']),
+        20 => Some([filled(65_500, b"G1 F100\n"), b"X1\nX2\nX3 I1\n".to_vec()].concat()),
+        _ => None,
+    }
+}
+
+/// A line with blanks after it, so many bytes in all.
+fn padded(line: &str, bytes: usize) -> Vec<u8> {
+    let mut text = line.as_bytes().to_vec();
+    text.resize(bytes, b' ');
+    text
+}
+
+/// A text of so many bytes: the first line, then short moves to and fro, the last line an N word without LF.
+fn filled(bytes: usize, first: &[u8]) -> Vec<u8> {
+    let mut text = first.to_vec();
+    let moves: [&[u8]; 3] =
+        if first.starts_with(b"G1 X") { [b"X0.02 Y0.04\n", b"X-1 Y1\n", b"N7\n"] } else { [b"N1\n", b"\n", b"G1 N5\n"] };
+    for line in moves.iter().cycle() {
+        if text.len() + line.len() + 2 > bytes {
+            break;
+        }
+        text.extend_from_slice(line);
+    }
+    text.resize(bytes, b' ');
+    text
+}
+
+fn made_up(rng: &mut Rng) -> Vec<u8> {
+    let mut text = Vec::new();
+    let (mut reader, mut book) = (Reader::default(), Book::make(USUAL).0);
+    for _ in 0..rng.between(1, 14) {
+        let line = line(rng, &reader, &book);
+        reader.line(&mut book, &line);
+        book.finish_at_once();
+        text.extend_from_slice(&line);
+        text.push(b'\n');
+    }
+    if rng.percent(45) {
+        damage(rng, &mut text);
+    }
+    if rng.percent(30) && text.last() == Some(&b'\n') {
+        text.pop();
+    }
+    text
+}
+
+/// A line that is good where the reader stands, now and then aimed at a refusal.
+fn line(rng: &mut Rng, reader: &Reader, book: &Book) -> Vec<u8> {
+    let mut words = Vec::new();
+    let g = match reader.g {
+        Some(g) if rng.percent(50) => g,
+        _ => 1 + rng.below(3),
+    };
+    if reader.g != Some(g) || rng.percent(20) {
+        words.push(format!("G{}", digits(rng, g)));
+    }
+    if (reader.f.is_none() && !rng.percent(2)) || rng.percent(25) {
+        let f = feed(rng);
+        words.push(format!("F{}", digits(rng, f)));
+    }
+    if rng.percent(30) {
+        let n = rng.below(10_000_000);
+        words.push(format!("N{}", digits(rng, n)));
+    }
+    if !rng.percent(8) {
+        words.extend(if g == 1 { straight(rng, book.point) } else { round(rng, g, book.point) });
+    }
+    joined(rng, words)
+}
+
+/// "F": 6000 is the most at p 50, w 5,000.
+fn feed(rng: &mut Rng) -> u64 {
+    match rng.below(40) {
+        0 => 0,
+        1 => 6_001,
+        2 => 9_999_999,
+        3..=8 => 6_000,
+        9..=11 => 1 + rng.below(50),
+        _ => 1 + rng.below(6_000),
+    }
+}
+
+fn pulses(rng: &mut Rng) -> i64 {
+    let most = match rng.below(100) {
+        0..=39 => 5,
+        40..=69 => 60,
+        70..=89 => 900,
+        90..=97 => 20_000,
+        98 => 1_000_000,
+        _ => 1_000_003,
+    };
+    rng.between(-most, most)
+}
+
+/// Mostly small; 0 once in a while, a very great circle hardly ever.
+fn radius(rng: &mut Rng) -> i64 {
+    let most = match rng.below(1_000) {
+        0..=9 => 0,
+        10..=499 => 9,
+        500..=799 => 90,
+        800..=979 => 900,
+        980..=998 => 9_000,
+        _ => 1_000_000,
+    };
+    rng.between(most.min(1), most)
+}
+
+fn straight(rng: &mut Rng, at: Point) -> Vec<String> {
+    let (x, y) = match rng.below(12) {
+        0 => (at.x, at.y),
+        1 => (0, 0),
+        2 => (pulses(rng), pulses(rng)),
+        _ => (at.x + pulses(rng), at.y + pulses(rng)),
+    };
+    let mut words = Vec::new();
+    if x != at.x || rng.percent(30) {
+        words.push(length(rng, 'X', x));
+    }
+    if y != at.y || rng.percent(30) {
+        words.push(length(rng, 'Y', y));
+    }
+    words
+}
+
+fn round(rng: &mut Rng, g: u64, at: Point) -> Vec<String> {
+    let long = radius(rng);
+    let short = if rng.percent(40) { 0 } else { rng.between(-long, long) };
+    let (i, j) = if rng.percent(50) { (long, short) } else { (short, -long) };
+    let n = i * i + j * j;
+    let start = Point::new(-i, -j);
+    let end = match rng.below(10) {
+        0..=3 => start,
+        4..=8 => circle_point(rng, n.max(1)).unwrap_or(start),
+        9 if rng.percent(50) => point_at_the_ends_of_f(rng, n.max(1)).unwrap_or(start),
+        _ if rng.percent(60) => start,
+        _ => Point::new(start.x + rng.between(-1, 1), start.y + rng.between(-1, 1)),
+    };
+    let (x, y) = (at.x + i + end.x, at.y + j + end.y);
+    let mut words = Vec::new();
+    if x != at.x || rng.percent(20) {
+        words.push(length(rng, 'X', x));
+    }
+    if y != at.y || rng.percent(20) {
+        words.push(length(rng, 'Y', y));
+    }
+    if i != 0 || rng.percent(20) {
+        words.push(length(rng, 'I', i));
+    }
+    if j != 0 || (i == 0 && g == 2) || rng.percent(20) {
+        words.push(length(rng, 'J', j));
+    }
+    words
+}
+
+/// Up to 7 digits, at times with zeros before.
+fn digits(rng: &mut Rng, value: u64) -> String {
+    match rng.below(6) {
+        0 => format!("{value:02}"),
+        1 => format!("{value:07}"),
+        _ => format!("{value}"),
+    }
+}
+
+/// Pulses at p 50 as millimetres: a pulse is 20 thousandths.
+fn length(rng: &mut Rng, letter: char, pulses: i64) -> String {
+    let thousandths = pulses.unsigned_abs() * 20;
+    let whole = digits(rng, thousandths / 1_000);
+    let part = format!("{:03}", thousandths % 1_000);
+    let short = part.trim_end_matches('0');
+    let part = match (short.is_empty(), rng.below(4)) {
+        (true, 1..) => String::new(),
+        (true, 0) => rng.one_of(&[".0", ".00", ".000"], ".0").to_string(),
+        (false, 0) => format!(".{part}"),
+        (false, _) => format!(".{short}"),
+    };
+    let sign = match (pulses < 0, rng.below(8)) {
+        (true, _) => "-",
+        (false, 0) => "+",
+        (false, 1) if pulses == 0 => "-",
+        _ => "",
+    };
+    format!("{letter}{sign}{whole}{part}")
+}
+
+/// The words in any order, with or without blanks.
+fn joined(rng: &mut Rng, mut words: Vec<String>) -> Vec<u8> {
+    let mut line = Vec::new();
+    let blanks = rng.below(3);
+    while !words.is_empty() {
+        let at = if rng.percent(70) { 0 } else { rng.below(words.len() as u64) as usize };
+        line.extend(words.remove(at).bytes());
+        let count = if words.is_empty() { 0 } else { blanks.min(1 + rng.below(3)) };
+        line.extend(std::iter::repeat_n(b' ', count as usize));
+    }
+    line
+}
+
+/// One thing wrong somewhere in the text.
+fn damage(rng: &mut Rng, text: &mut Vec<u8>) {
+    let at = rng.below(text.len() as u64 + 1) as usize;
+    let end_of_line = text.iter().skip(at).position(|&byte| byte == b'\n').map_or(text.len(), |more| at + more);
+    match rng.below(16) {
+        0 => text.insert(at, rng.one_of(b"\t\r.?-+ xgZ09\0\xff(", b'?')),
+        1 => insert(text, at, b"\n"),
+        2 => drop(text.splice(at..text.len().min(at + 1), [])),
+        3 => text.truncate(at),
+        4 => lower(text, at),
+        5 => {
+            let length = rng.one_of(&[79, 80, 81, 82], 80);
+            insert(text, end_of_line, &vec![b' '; length]);
+        }
+        6 => fill_line(rng, text, end_of_line),
+        7 => insert(text, end_of_line, b"\r"),
+        8 => insert(text, end_of_line, rng.one_of(&[b"G4".as_slice(), b"G0", b"G2", b"G1"], b"G9")),
+        9 => insert(text, end_of_line, rng.one_of(&[b"X0.01".as_slice(), b"Y0.001", b"I0.013", b"J5.5"], b"X0.01")),
+        10 => insert(text, end_of_line, rng.one_of(&[b"X1".as_slice(), b"Y-2", b"I3", b"J4"], b"X1")),
+        11 => insert(text, end_of_line, rng.one_of(&[b"X12345678".as_slice(), b"N00000001", b"X0.0200", b"F12345678"], b"X12345678")),
+        12 => insert(text, end_of_line, rng.one_of(&[b"X".as_slice(), b"Y-", b"I.", b"J5.", b"N", b"F"], b"X")),
+        13 => insert(text, end_of_line, rng.one_of(&[b"F0".as_slice(), b"F6001", b"F9999999"], b"F0")),
+        14 => insert(
+            text,
+            end_of_line,
+            rng.one_of(&[b"\nX30000".as_slice(), b"\nG1X19999.9F6000\nG3J0.1", b"\nG2 I30000 F5", b"\nG2 X1 I7 F5"], b""),
+        ),
+        _ => insert(text, end_of_line, b"N1"),
+    }
+}
+
+fn insert(text: &mut Vec<u8>, at: usize, what: &[u8]) {
+    drop(text.splice(at..at, what.iter().copied()));
+}
+
+fn lower(text: &mut [u8], at: usize) {
+    if let Some(letter) = text.iter_mut().skip(at).find(|byte| byte.is_ascii_uppercase()) {
+        letter.make_ascii_lowercase();
+    }
+}
+
+/// Blanks so that the line ending here has 80 or 81 bytes.
+fn fill_line(rng: &mut Rng, text: &mut Vec<u8>, end_of_line: usize) {
+    let begin = text[..end_of_line].iter().rposition(|&byte| byte == b'\n').map_or(0, |lf| lf + 1);
+    let wanted = 80 + rng.below(2) as usize;
+    let blanks = wanted.saturating_sub(end_of_line - begin);
+    insert(text, end_of_line, &vec![b' '; blanks]);
+}
+
+#[cfg(test)]
+mod tests {
+    use super::*;
+    use crate::listing::{check, Pace};
+    use std::collections::HashMap;
+
+    #[test]
+    fn jobs_meet_every_refusal() {
+        let mut met: HashMap<String, u64> = HashMap::new();
+        for index in 0..6_000 {
+            let mut out = Vec::new();
+            check(&job(1, index), Pace::AtOnce, &mut out).unwrap();
+            let out = String::from_utf8(out).unwrap();
+            let last: Vec<&str> = out.lines().last().unwrap().split(' ').collect();
+            let key = if last[0] == "line" { last[3].to_string() } else { last[0].to_string() };
+            *met.entry(key).or_default() += 1;
+        }
+        println!("{met:?}");
+        for number in [11, 12, 14, 15, 16, 30, 31, 32, 33, 34, 35, 36, 37] {
+            assert!(met.contains_key(&number.to_string()), "{number}");
+        }
+        assert!(met["total"] > 1_500);
+        for never in [0, 9, 10, 13] {
+            assert!(!met.contains_key(&never.to_string()), "{never} cannot come out of the check program");
+        }
+    }
+
+    #[test]
+    fn edge_lengths_are_there() {
+        let lengths: Vec<usize> = (0..130).map(|index| job(0, index).len()).collect();
+        assert!(lengths.contains(&65_536) && lengths.contains(&65_537) && lengths.contains(&80) && lengths.contains(&81));
+    }
+}

@@ -1,0 +1,87 @@
+//! "Any call on a record: is it sound? 9." A refused call leaves the record as it is, so an unsound
+//! record stays one; that a call on a sound one answers a sound one is tried in demand3.rs.
+
+use crate::book::{Book, Load, Why};
+use crate::settings::Settings;
+use crate::sound::{book_of, Record, Work};
+
+pub enum Machine {
+    Sound(Book),
+    Unsound(Record),
+}
+
+/// What a line of a call file shows of a record.
+#[derive(Clone, Copy, PartialEq, Eq, Debug)]
+pub struct Shown {
+    pub x: i64,
+    pub y: i64,
+    pub held: bool,
+    pub remainder: u64,
+    pub busy: bool,
+}
+
+const UNSOUND: u32 = 9;
+
+impl Machine {
+    pub fn make(settings: Settings) -> (Machine, Option<u32>) {
+        let (book, number) = Book::make(settings);
+        (Machine::Sound(book), number)
+    }
+
+    pub fn of_record(record: &Record) -> Machine {
+        match book_of(record) {
+            Some(book) => Machine::Sound(book),
+            None => Machine::Unsound(*record),
+        }
+    }
+
+    pub fn book(&self) -> Option<&Book> {
+        match self {
+            Machine::Sound(book) => Some(book),
+            Machine::Unsound(_) => None,
+        }
+    }
+
+    fn asked(&mut self) -> Result<&mut Book, u32> {
+        match self {
+            Machine::Sound(book) => Ok(book),
+            Machine::Unsound(_) => Err(UNSOUND),
+        }
+    }
+
+    pub fn load(&mut self, load: &Load) -> Result<u32, u32> {
+        self.asked()?.load(load)
+    }
+
+    pub fn tick(&mut self) -> Result<u8, u32> {
+        Ok(self.asked()?.tick())
+    }
+
+    pub fn run(&mut self, budget: u64, length: u64, write: impl FnMut(u8)) -> Result<(Why, u64), u32> {
+        Ok(self.asked()?.run(budget, length, write))
+    }
+
+    /// "These three answer done, or 9."
+    pub fn hold(&mut self) -> Result<(), u32> {
+        self.asked()?.hold();
+        Ok(())
+    }
+
+    pub fn release(&mut self) -> Result<(), u32> {
+        self.asked()?.release();
+        Ok(())
+    }
+
+    pub fn stop(&mut self) -> Result<(), u32> {
+        self.asked()?.stop();
+        Ok(())
+    }
+
+    pub fn shown(&self) -> Shown {
+        let (point, held, remainder, busy) = match self {
+            Machine::Sound(book) => (book.point, book.held, book.remainder, book.block.is_some()),
+            Machine::Unsound(record) => (record.point, record.held, record.remainder, record.work != Work::Nothing),
+        };
+        Shown { x: point.x, y: point.y, held, remainder, busy }
+    }
+}
