@@ -26,13 +26,16 @@ pub mod settings;
 
 pub struct Machine {
     pub settings: Settings,
+    // The position: document 01's point.
     pub at: Point,
+    // Document 01's mark.
     pub held: bool,
+    // What the feed divider has left over; it goes on to the next block.
     pub remainder: u64,
     pub work: Work,
 }
 
-// What make, load, hold, release and stop answer.
+// What make, load, hold, release and stop answer: done, the register width of an accepted block, or the number of a question.
 pub enum Answer {
     Done,
     Width(u64),
