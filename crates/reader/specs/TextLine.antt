@@ -40,7 +40,8 @@ abbrev pub readWith : (before after : Reader) → Machine → Words → (number 
 readWith k k′ m ws zero = cond (moving ws) (takenOf k k′ m (blockOf (m .settings .scale) k′ ws (m .at))) (reads Read.Nothing k′ m)
 readWith k k′ m ws (suc n) = reads (Read.Refused (suc n)) k m
 
--- "Any call on a record: is it sound? 9."
+-- "Any call on a record: is it sound? 9." `lineOf` is the scan that the code does; it is the one answer about the bytes that `Means` in
+-- `words/specs/Meaning.antt` allows, by `line-means` and `means-unique`, so hold that file against the paper and not the scan.
 unfoldable pub readLineOf : Reader → Machine → (bytes : List ℕ) → ReadLine
 readLineOf k m bytes =
     let l = lineOf bytes in

@@ -1,6 +1,6 @@
 // The reader of a job text: what one line asks of the machine.
-pub mod command;
-pub mod questions;
+mod command;
+mod questions;
 pub mod text_line;
 
 use circle::plane::Turn;
