@@ -1,9 +1,11 @@
 -- The listing of document 01's example, byte by byte; an empty job, a refusal, an arc to the left.
 use mathlib.Core.Path.{_≡_, refl}
 use mathlib.Core.List.{[], _∷_}
+use native.Mathlib.Omega.{arith}
 use lib.IntN.{pos, negsuc}
 use Rattle.row.specs.declared.lines.Kind.the-variants.{Line, Arc}
 use Rattle.row.specs.Decimal.{decimal, signedDecimal}
+use Rattle.row.specs.laws.Decimal.{decimal-large}
 use Rattle.row.specs.Lines.{headerLine, blockLine, totalLine, refusedLine}
 
 -- "block line kind cycles x y bits"
@@ -21,10 +23,24 @@ pub second-block : blockLine 2 2 Line 2500 (pos 2500) (pos 4000) 11 ≡ 50 ∷ 3
 unfolding decimal signedDecimal
 second-block = refl
 
--- "total 2 4737 284220"
+-- "total 2 4737 284220". The ticks are taken digit by digit: computing a decimal outright takes time that grows with the number.
+two : decimal 2 ≡ 50 ∷ []
+unfolding decimal
+two = refl
+
+cycles : decimal 4737 ≡ 52 ∷ 55 ∷ 51 ∷ 55 ∷ []
+unfolding decimal
+cycles = refl
+
+first-ticks : decimal 2842 ≡ 50 ∷ 56 ∷ 52 ∷ 50 ∷ []
+unfolding decimal
+first-ticks = refl
+
+ticks : decimal 284220 ≡ 50 ∷ 56 ∷ 52 ∷ 50 ∷ 50 ∷ 48 ∷ []
+ticks = rw (decimal-large 284220 (omega arith), decimal-large 28422 (omega arith), first-ticks)
+
 pub total : totalLine 2 4737 284220 ≡ 116 ∷ 111 ∷ 116 ∷ 97 ∷ 108 ∷ 32 ∷ 50 ∷ 32 ∷ 52 ∷ 55 ∷ 51 ∷ 55 ∷ 32 ∷ 50 ∷ 56 ∷ 52 ∷ 50 ∷ 50 ∷ 48 ∷ 10 ∷ []
-unfolding decimal signedDecimal
-total = refl
+total = rw (two, cycles, ticks)
 
 -- "total 0 0 0"
 pub empty-job : totalLine 0 0 0 ≡ 116 ∷ 111 ∷ 116 ∷ 97 ∷ 108 ∷ 32 ∷ 48 ∷ 32 ∷ 48 ∷ 32 ∷ 48 ∷ 10 ∷ []
