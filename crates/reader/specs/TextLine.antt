@@ -7,7 +7,7 @@ use Rattle.plane.specs.declared.point.Point.{Point}
 use Rattle.plane.specs.Point.{equalPoint}
 use Rattle.block.specs.declared.Block.{Block}
 use Rattle.block.specs.declared.Path.{Path}
-use Rattle.words.specs.declared.word.Words.{Words}
+use Rattle.letters.specs.declared.word.Words.{Words}
 use Rattle.words.specs.laws.Scan.{lineOf}
 use Rattle.machine.specs.declared.Machine.{Machine}
 use Rattle.machine.specs.declared.Answer.{Answer}

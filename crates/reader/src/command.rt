@@ -10,11 +10,11 @@ use block::Block;
 use block::Path;
 use circle::plane::Offset;
 use circle::plane::Turn;
+use letters::word::Word;
+use letters::word::Words;
 use plane::point::Point;
 use whole::sign::SignMagnitude;
 use whole::sign::join;
-use words::word::Word;
-use words::word::Words;
 
 fn motion_of(g: u64) -> Motion
     ensures { λ r. ⌜ r ≡ motionOf g ⌝ }

@@ -5,9 +5,9 @@ ghost use Rattle.reader.specs.laws.Small.{Small, SmallWords};
 use crate::Feed;
 use crate::Motion;
 use crate::Reader;
+use letters::word::Word;
+use letters::word::Words;
 use words::line::Line;
-use words::word::Word;
-use words::word::Words;
 
 fn motion_right(g: Word) -> bool
     ensures { λ r. ⌜ r ≡ motionRight g ⌝ }

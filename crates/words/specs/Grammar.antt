@@ -1,45 +1,12 @@
 -- How a line of words is written. 01, Questions: "Is it made of zero or more words, with any number of blanks (byte 32) or none before, between and after?"
+-- The letters, their bytes, and which of them take a sign and a point: `Letter` in crate `letters`.
 use Prim.Native.Nat.{ℕ, _+_, _≤_, _<_}
 use mathlib.Core.Path.{_≡_}
 use mathlib.Core.List.{List, [], _∷_, _++_}
 use mathlib.Core.Bool.{Bool, true, false}
 use lib.ListN.{length}
-use Rattle.words.specs.declared.letter.Letter.{Letter}
-use Rattle.words.specs.declared.letter.Letter.the-variants.{N, G, F, X, Y, I, J}
-
--- 01: "A word is N, G or F with 1 to 7 digits, or X, Y, I, J with an optional sign, 1 to 7 digits and optionally a point with 1 to 3 digits, in millimetres."
--- The letters, and their bytes:
-abbrev pub letters : List Letter
-letters = N ∷ G ∷ F ∷ X ∷ Y ∷ I ∷ J ∷ []
-
-abbrev pub letterByte : Letter → ℕ
-letterByte N = 78
-letterByte G = 71
-letterByte F = 70
-letterByte X = 88
-letterByte Y = 89
-letterByte I = 73
-letterByte J = 74
-
--- "with an optional sign"
-abbrev pub takesSign : Letter → Bool
-takesSign N = false
-takesSign G = false
-takesSign F = false
-takesSign X = true
-takesSign Y = true
-takesSign I = true
-takesSign J = true
-
--- "and optionally a point"
-abbrev pub takesPoint : Letter → Bool
-takesPoint N = false
-takesPoint G = false
-takesPoint F = false
-takesPoint X = true
-takesPoint Y = true
-takesPoint I = true
-takesPoint J = true
+use Rattle.letters.specs.declared.letter.Letter.{Letter}
+use Rattle.letters.specs.Letter.{letterByte, takesSign, takesPoint}
 
 -- ---- a line is a list of items
 

@@ -2,15 +2,15 @@
 use Prim.Native.Nat.{ℕ, _+_, _-_, _*_, _^_}
 use mathlib.Core.Path.{_≡_}
 use mathlib.Core.List.{List, [], _∷_}
-use mathlib.Core.Bool.{Bool, true, false, cond, not, _||_}
+use mathlib.Core.Bool.{Bool, true, false, cond}
 use lib.ListN.{length}
-use lib.Dec.{eqb}
-use Rattle.words.specs.declared.letter.Letter.{Letter}
-use Rattle.words.specs.declared.letter.Letter.the-variants.{N, G, F, X, Y, I, J}
-use Rattle.words.specs.declared.word.Word.{Word}
-use Rattle.words.specs.declared.word.Words.{Words}
+use Rattle.letters.specs.declared.letter.Letter.{Letter}
+use Rattle.letters.specs.declared.word.Word.{Word}
+use Rattle.letters.specs.declared.word.Words.{Words}
 use Rattle.words.specs.declared.line.Line.{Line}
-use Rattle.words.specs.Grammar.{letters, letterByte, takesPoint, Sign, unsigned, plus, minus, Item, blank, word, LineOfWords}
+use Rattle.letters.specs.Letter.{unitOf, same}
+use Rattle.letters.specs.Word.{missingWord, oneWord, twiceWord, wordsBy, onceOf}
+use Rattle.words.specs.Grammar.{Sign, unsigned, plus, minus, Item, blank, word, LineOfWords}
 
 -- ---- a word's value
 
@@ -18,10 +18,6 @@ use Rattle.words.specs.Grammar.{letters, letterByte, takesPoint, Sign, u
 abbrev pub number : List ℕ → ℕ
 number [] = 0
 number (d ∷ ds) = d * 10 ^ length ds + number ds
-
--- what a one before the point counts: a thousand thousandths for a letter that takes a point, else just one
-abbrev pub unitOf : Letter → ℕ
-unitOf l = cond (takesPoint l) 1000 1
 
 -- 01: "1 to 7 digits and optionally a point with 1 to 3 digits, in millimetres." X12.5 is 12,500 thousandths, N12 is 12.
 abbrev pub magnitudeOf : Letter → (whole decimals : List ℕ) → ℕ
@@ -40,10 +36,6 @@ pub data Value : Type 0 where
   one : (negative : Bool) (magnitude : ℕ) → Value
   twice : Value
 
--- no two letters have the same byte
-abbrev pub same : Letter → Letter → Bool
-same k l = eqb (letterByte k) (letterByte l)
-
 -- a word of the letter, in front of what the rest of the line says of it
 abbrev pub andThen : (negative : Bool) (magnitude : ℕ) → Value → Value
 andThen n m missing = one n m
@@ -57,39 +49,10 @@ says l (word k s w f ∷ is) = cond (same l k) (andThen (isMinus s) (magnitudeOf
 
 -- ---- the same as the code answers it
 
-abbrev pub missingWord : Word
-missingWord = record { stands = false; twice = false; negative = false; magnitude = 0 }
-
-abbrev pub oneWord : (negative : Bool) (magnitude : ℕ) → Word
-oneWord n m = record { stands = true; twice = false; negative = n; magnitude = m }
-
-abbrev pub twiceWord : Word
-twiceWord = record { stands = true; twice = true; negative = false; magnitude = 0 }
-
 abbrev pub wordOf : Value → Word
 wordOf missing = missingWord
 wordOf (one n m) = oneWord n m
 wordOf twice = twiceWord
-
-abbrev pub wordAt : Words → Letter → Word
-wordAt ws N = ws .n
-wordAt ws G = ws .g
-wordAt ws F = ws .f
-wordAt ws X = ws .x
-wordAt ws Y = ws .y
-wordAt ws I = ws .i
-wordAt ws J = ws .j
-
-abbrev pub wordsBy : (Letter → Word) → Words
-wordsBy w = record { n = w N; g = w G; f = w F; x = w X; y = w Y; i = w I; j = w J }
-
--- 01, question 33: "No letter twice?"
-abbrev pub anyTwice : List Letter → Words → Bool
-anyTwice [] ws = false
-anyTwice (l ∷ ls) ws = wordAt ws l .twice || anyTwice ls ws
-
-abbrev pub onceOf : Words → Bool
-onceOf ws = not (anyTwice letters ws)
 
 abbrev pub answerOf : (formed : Bool) → Words → Line
 answerOf formed ws = record { formed = formed; once = onceOf ws; words = ws }

@@ -1,5 +1,4 @@
 pub mod Scan
-pub mod Byte
 pub mod Bounds
 pub mod Digits
 pub mod Sound

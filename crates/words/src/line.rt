@@ -1,15 +1,16 @@
 // The scan of a line: one step a byte, in whatever part of a word the bytes so far have left off.
-use crate::byte;
-use crate::byte::Class;
-use crate::letter;
 use crate::token;
 use crate::token::Token;
-use crate::word;
-use crate::word::Words;
+use letters::byte;
+use letters::byte::Class;
+use letters::letter;
+use letters::word;
+use letters::word::Words;
 ghost use mathlib.Core.Path.{_≡_};
 ghost use Prim.Native.Nat.{_<_};
 ghost use Rattle.words.specs.Meaning.{answerOf};
-ghost use Rattle.words.specs.laws.Scan.{Small, Sized, PartSized, betweenOf, endedOf, afterSign, afterDigit, afterPoint, afterDecimal, wholeOf, begunOf, decimalsOf, stepOf, isBetween, startScan, finishOf, lineOf};
+ghost use Rattle.letters.specs.laws.Scan.{Small};
+ghost use Rattle.words.specs.laws.Scan.{Sized, PartSized, betweenOf, endedOf, afterSign, afterDigit, afterPoint, afterDecimal, wholeOf, begunOf, decimalsOf, stepOf, isBetween, startScan, finishOf, lineOf};
 
 enum Part {
     // Between words: before one, or after a blank.
@@ -47,10 +48,7 @@ fn between(c: Class) -> Part
             let t = token::new(l);
             Part::Begun(t)
         }
-        Class::Sign(_) => Part::Bad,
-        Class::Point => Part::Bad,
-        Class::Digit(_) => Part::Bad,
-        Class::Other => Part::Bad,
+        _ => Part::Bad,
     }
 }
 
@@ -143,10 +141,7 @@ fn whole(ws: Words, t: Token, c: Class) -> Scan
                 words: ws,
             }
         }
-        Class::Blank => ended(some, ws, t, c),
-        Class::Name(_) => ended(some, ws, t, c),
-        Class::Sign(_) => ended(some, ws, t, c),
-        Class::Other => ended(some, ws, t, c),
+        _ => ended(some, ws, t, c),
     }
 }
 
@@ -164,11 +159,7 @@ fn begun(ws: Words, t: Token, c: Class) -> Scan
                 words: ws,
             }
         }
-        Class::Blank => whole(ws, t, c),
-        Class::Name(_) => whole(ws, t, c),
-        Class::Point => whole(ws, t, c),
-        Class::Digit(_) => whole(ws, t, c),
-        Class::Other => whole(ws, t, c),
+        _ => whole(ws, t, c),
     }
 }
 
@@ -186,11 +177,7 @@ fn decimals(ws: Words, t: Token, c: Class) -> Scan
                 words: ws,
             }
         }
-        Class::Blank => ended(some, ws, t, c),
-        Class::Name(_) => ended(some, ws, t, c),
-        Class::Sign(_) => ended(some, ws, t, c),
-        Class::Point => ended(some, ws, t, c),
-        Class::Other => ended(some, ws, t, c),
+        _ => ended(some, ws, t, c),
     }
 }
 

@@ -1,9 +1,9 @@
 // A word that is being read.
 use crate::digits;
 use crate::digits::Digits;
-use crate::letter;
-use crate::letter::Letter;
-use crate::word::Word;
+use letters::letter;
+use letters::letter::Letter;
+use letters::word::Word;
 ghost use mathlib.Core.Path.{_≡_};
 ghost use Prim.Native.Nat.{_-_, _^_, _≤_, _<_};
 ghost use Rattle.words.specs.laws.Scan.{Sized, newToken, signedToken, wholeToken, decimalToken, tokenWord};

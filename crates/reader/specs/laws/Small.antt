@@ -12,9 +12,9 @@ use Rattle.whole.specs.laws.Order.{abs-fits}
 use Rattle.words.specs.laws.Scan.{lineOf}
 use Rattle.words.specs.laws.Reading.{line-below}
 use Rattle.reader.specs.Reader.{pulsesOf, coordinate}
-use Rattle.words.specs.declared.letter.Letter.the-variants.{F, X, Y, I, J}
-use Rattle.words.specs.declared.word.Word.{Word}
-use Rattle.words.specs.declared.word.Words.{Words}
+use Rattle.letters.specs.declared.letter.Letter.the-variants.{F, X, Y, I, J}
+use Rattle.letters.specs.declared.word.Word.{Word}
+use Rattle.letters.specs.declared.word.Words.{Words}
 
 abbrev pub Small : (p : ℕ) → Word → Type 0
 Small p w = w .magnitude * p < 2 ^ 63

@@ -1,7 +1,7 @@
 -- A line that a question refuses changes nothing.
 use mathlib.Core.Path.{_≡_, refl}
 use Prim.Native.Nat.{ℕ, zero, suc}
-use Rattle.words.specs.declared.word.Words.{Words}
+use Rattle.letters.specs.declared.word.Words.{Words}
 use Rattle.machine.specs.declared.Machine.{Machine}
 use Rattle.reader.specs.declared.Reader.{Reader}
 use Rattle.reader.specs.declared.«text_line».Read.{Read}

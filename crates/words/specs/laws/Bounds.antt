@@ -8,19 +8,19 @@ use native.Mathlib.Nat.{pow-suc, one-le-pow, pow-le-pow-right, lt-of-lt-of-le, m
 use lib.Pow.{pow-add}
 use lib.Dec.{ltb, leb}
 use borrow.Author.Tests.{ltb-true}
-use Rattle.words.specs.declared.letter.Letter.{Letter}
-use Rattle.words.specs.declared.byte.Class.{Class}
-use Rattle.words.specs.declared.byte.Class.the-variants.{Blank, Name, Sign, Point, Digit, Other}
+use Rattle.letters.specs.declared.letter.Letter.{Letter}
+use Rattle.letters.specs.declared.byte.Class.{Class}
+use Rattle.letters.specs.declared.byte.Class.the-variants.{Blank, Name, Sign, Point, Digit, Other}
 use Rattle.words.specs.declared.digits.Digits.{Digits}
 use Rattle.words.specs.declared.token.Token.{Token}
-use Rattle.words.specs.declared.word.Words.{Words}
+use Rattle.letters.specs.declared.word.Words.{Words}
 use Rattle.words.specs.declared.line.Part.{Part}
 use Rattle.words.specs.declared.line.Part.the-variants.{Between, Begun, Whole, Decimals, Bad}
 use Rattle.words.specs.declared.line.Scan.{Scan}
-use Rattle.words.specs.Grammar.{takesSign, takesPoint}
-use Rattle.words.specs.Meaning.{unitOf}
-use Rattle.words.specs.laws.Scan.{classOf, pushOf, noDigits, newToken, signedToken, wholeToken, decimalToken, at, betweenOf, endedOf, afterPoint, wholeOf, begunOf, decimalsOf, advance, stepOf, Bounded, Sized, Small, PartSized}
-use Rattle.words.specs.laws.Byte.{small}
+use Rattle.letters.specs.Letter.{takesSign, takesPoint, unitOf}
+use Rattle.letters.specs.laws.Scan.{classOf, Small}
+use Rattle.words.specs.laws.Scan.{pushOf, noDigits, newToken, signedToken, wholeToken, decimalToken, at, betweenOf, endedOf, afterPoint, wholeOf, begunOf, decimalsOf, advance, stepOf, Bounded, Sized, PartSized}
+use Rattle.letters.specs.laws.Byte.{small}
 
 pub below-7 : (k : ℕ) (ds : Digits) → k ≤ 7 → Bounded k ds → ds .value < 10 ^ 7
 below-7 k ds h b = let e : ds .count ≤ 7 = omega (arith, b .few) in lt-of-lt-of-le (b .low) (pow-le-pow-right (omega arith) e)

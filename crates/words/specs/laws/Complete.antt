@@ -6,18 +6,21 @@ use mathlib.Core.Bool.{Bool, true, false}
 use native.Mathlib.Omega.{arith}
 use lib.ListN.{length}
 use borrow.Author.Tests.{lt-ltb, le-leb}
-use Rattle.words.specs.declared.letter.Letter.{Letter}
-use Rattle.words.specs.declared.byte.Class.the-variants.{Blank, Name}
+use Rattle.letters.specs.declared.letter.Letter.{Letter}
+use Rattle.letters.specs.declared.byte.Class.the-variants.{Blank, Name}
 use Rattle.words.specs.declared.digits.Digits.{Digits}
 use Rattle.words.specs.declared.token.Token.{Token}
-use Rattle.words.specs.declared.word.Words.{Words}
+use Rattle.letters.specs.declared.word.Words.{Words}
 use Rattle.words.specs.declared.line.Part.{Part}
 use Rattle.words.specs.declared.line.Part.the-variants.{Between, Begun, Whole, Decimals, Bad}
 use Rattle.words.specs.declared.line.Scan.{Scan}
-use Rattle.words.specs.Grammar.{takesSign, takesPoint, letterByte, Sign, unsigned, plus, minus, Item, blank, word, signText, digitsText, decimalsText, lineText, AllDigits, SignRight, PointRight, RightWord, RightLine}
-use Rattle.words.specs.Meaning.{isMinus, magnitudeOf, oneWord}
-use Rattle.words.specs.laws.Scan.{noDigits, pushOf, newToken, putOf, noWords, tokenWord, at, afterSign, advance, stepOf, startScan, runOf}
-use Rattle.words.specs.laws.Byte.{class-digit, class-letter}
+use Rattle.letters.specs.Letter.{takesSign, takesPoint, letterByte}
+use Rattle.words.specs.Grammar.{Sign, unsigned, plus, minus, Item, blank, word, signText, digitsText, decimalsText, lineText, AllDigits, SignRight, PointRight, RightWord, RightLine}
+use Rattle.letters.specs.Word.{oneWord}
+use Rattle.words.specs.Meaning.{isMinus, magnitudeOf}
+use Rattle.letters.specs.laws.Scan.{putOf, noWords}
+use Rattle.words.specs.laws.Scan.{noDigits, pushOf, newToken, tokenWord, at, afterSign, advance, stepOf, startScan, runOf}
+use Rattle.letters.specs.laws.Byte.{class-digit, class-letter}
 use Rattle.words.specs.laws.Digits.{pushes, pushed-all, token-word}
 
 abbrev token : Letter → Bool → Digits → Digits → Token

@@ -6,10 +6,12 @@ use mathlib.Core.Bool.{Bool, true, false, cond}
 use native.Mathlib.Omega.{arith}
 use native.Mathlib.Nat.{pow-suc}
 use lib.ListN.{length}
-use Rattle.words.specs.declared.letter.Letter.{Letter}
+use Rattle.letters.specs.declared.letter.Letter.{Letter}
 use Rattle.words.specs.declared.digits.Digits.{Digits}
-use Rattle.words.specs.Grammar.{takesPoint, AllDigits, PointRight}
-use Rattle.words.specs.Meaning.{number, unitOf, magnitudeOf, oneWord}
+use Rattle.letters.specs.Letter.{takesPoint, unitOf}
+use Rattle.words.specs.Grammar.{AllDigits, PointRight}
+use Rattle.letters.specs.Word.{oneWord}
+use Rattle.words.specs.Meaning.{number, magnitudeOf}
 use Rattle.words.specs.laws.Scan.{noDigits, pushOf, tokenWord, Bounded}
 use Rattle.words.specs.laws.Bounds.{push-bounded, none-bounded, below-7, thousandths}
 

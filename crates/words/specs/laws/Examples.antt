@@ -3,10 +3,11 @@ use Prim.Native.Nat.{ℕ}
 use mathlib.Core.Path.{_≡_, refl}
 use mathlib.Core.List.{List, [], _∷_}
 use mathlib.Core.Bool.{Bool, true, false, Bool·beq, _&&_}
-use Rattle.words.specs.declared.letter.Letter.{Letter}
-use Rattle.words.specs.declared.letter.Letter.the-variants.{N, G, F, X, Y, I, J}
-use Rattle.words.specs.declared.word.Word.{Word}
-use Rattle.words.specs.Meaning.{missingWord, oneWord, answerOf, wordsBy}
+use Rattle.letters.specs.declared.letter.Letter.{Letter}
+use Rattle.letters.specs.declared.letter.Letter.the-variants.{N, G, F, X, Y, I, J}
+use Rattle.letters.specs.declared.word.Word.{Word}
+use Rattle.letters.specs.Word.{missingWord, oneWord, wordsBy}
+use Rattle.words.specs.Meaning.{answerOf}
 use Rattle.words.specs.laws.Scan.{lineOf}
 
 pub record Example : Type 0 where

@@ -6,15 +6,18 @@ use mathlib.Core.List.{List, [], _∷_}
 use mathlib.Core.Bool.{Bool, true, false, cond, _||_, true≢false}
 use native.Mathlib.Omega.{arith}
 use borrow.Author.Tests.{eqb-true, eq-eqb, not-true}
-use Rattle.words.specs.declared.letter.Letter.{Letter}
-use Rattle.words.specs.declared.letter.Letter.the-variants.{N, G, F, X, Y, I, J}
-use Rattle.words.specs.declared.byte.Class.the-variants.{Name}
-use Rattle.words.specs.declared.word.Words.{Words}
+use Rattle.letters.specs.declared.letter.Letter.{Letter}
+use Rattle.letters.specs.declared.letter.Letter.the-variants.{N, G, F, X, Y, I, J}
+use Rattle.letters.specs.declared.byte.Class.the-variants.{Name}
+use Rattle.letters.specs.declared.word.Words.{Words}
 use Rattle.words.specs.declared.line.Line.{Line}
-use Rattle.words.specs.Grammar.{letters, letterByte, takesPoint, Sign, Item, blank, word, lineText, RightLine, LineOfWords}
-use Rattle.words.specs.Meaning.{unitOf, magnitudeOf, isMinus, Value, missing, one, twice, same, andThen, says, missingWord, oneWord, wordOf, wordAt, anyTwice, onceOf, answerOf, saidBy, notWords, Means}
-use Rattle.words.specs.laws.Scan.{classOf, stepOf, startScan, isBetween, closeOf, runOf, lineOf}
-use Rattle.words.specs.laws.Byte.{class-letter}
+use Rattle.letters.specs.Letter.{letters, letterByte, takesPoint, unitOf, same}
+use Rattle.words.specs.Grammar.{Sign, Item, blank, word, lineText, RightLine, LineOfWords}
+use Rattle.letters.specs.Word.{missingWord, oneWord, wordAt, anyTwice, onceOf}
+use Rattle.words.specs.Meaning.{magnitudeOf, isMinus, Value, missing, one, twice, andThen, says, wordOf, answerOf, saidBy, notWords, Means}
+use Rattle.letters.specs.laws.Scan.{classOf}
+use Rattle.words.specs.laws.Scan.{stepOf, startScan, isBetween, closeOf, runOf, lineOf}
+use Rattle.letters.specs.laws.Byte.{class-letter}
 use Rattle.words.specs.laws.Digits.{magnitude-below}
 use Rattle.words.specs.laws.Sound.{sound}
 use Rattle.words.specs.laws.Complete.{complete}

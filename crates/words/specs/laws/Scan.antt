@@ -2,49 +2,22 @@
 use Prim.Native.Nat.{ℕ, _+_, _-_, _*_, _^_, _≤_, _<_}
 use mathlib.Core.List.{List, [], _∷_}
 use mathlib.Core.Bool.{Bool, true, false, cond}
-use lib.Dec.{ltb, leb, eqb}
-use Rattle.words.specs.declared.letter.Letter.{Letter}
-use Rattle.words.specs.declared.byte.Class.{Class}
-use Rattle.words.specs.declared.byte.Class.the-variants.{Blank, Name, Sign, Point, Digit, Other}
+use lib.Dec.{ltb, leb}
+use Rattle.letters.specs.declared.letter.Letter.{Letter}
+use Rattle.letters.specs.declared.byte.Class.{Class}
+use Rattle.letters.specs.declared.byte.Class.the-variants.{Blank, Name, Sign, Point, Digit, Other}
+use Rattle.letters.specs.laws.Scan.{classOf, noWords, putOf}
 use Rattle.words.specs.declared.digits.Digits.{Digits}
 use Rattle.words.specs.declared.token.Token.{Token}
-use Rattle.words.specs.declared.word.Word.{Word}
-use Rattle.words.specs.declared.word.Words.{Words}
+use Rattle.letters.specs.declared.word.Word.{Word}
+use Rattle.letters.specs.declared.word.Words.{Words}
 use Rattle.words.specs.declared.line.Part.{Part}
 use Rattle.words.specs.declared.line.Part.the-variants.{Between, Begun, Whole, Decimals, Bad}
 use Rattle.words.specs.declared.line.Scan.{Scan}
 use Rattle.words.specs.declared.line.Line.{Line}
-use Rattle.words.specs.Grammar.{letters, letterByte, takesSign, takesPoint}
-use Rattle.words.specs.Meaning.{unitOf, same, missingWord, oneWord, twiceWord, wordAt, wordsBy, answerOf, notWords}
-
--- ---- bytes
-
-pub record Entry : Type 0 where
-  pub byte : ℕ
-  pub class : Class
-
-abbrev pub named : List Letter → List Entry
-named [] = []
-named (l ∷ ls) = record { byte = letterByte l; class = Name l } ∷ named ls
-
-abbrev pub table : List Entry
-table =
-    record { byte = 32; class = Blank }
-    ∷ record { byte = 43; class = Sign false }
-    ∷ record { byte = 45; class = Sign true }
-    ∷ record { byte = 46; class = Point }
-    ∷ named letters
-
-abbrev pub lookup : List Entry → ℕ → Class → Class
-lookup [] b other = other
-lookup (e ∷ es) b other = cond (eqb b (e .byte)) (e .class) (lookup es b other)
-
--- a byte that the table does not have
-abbrev pub unnamed : ℕ → Class
-unnamed b = cond (ltb b 48) Other (cond (leb b 57) (Digit (b - 48)) Other)
-
-abbrev pub classOf : ℕ → Class
-classOf b = lookup table b (unnamed b)
+use Rattle.letters.specs.Letter.{takesSign, takesPoint, unitOf}
+use Rattle.letters.specs.Word.{oneWord}
+use Rattle.words.specs.Meaning.{answerOf, notWords}
 
 -- ---- the word that is being read
 
@@ -68,17 +41,6 @@ decimalToken t d = record { letter = t .letter; negative = t .negative; whole = 
 
 abbrev pub tokenWord : Token → Word
 tokenWord t = oneWord (t .negative) (t .whole .value * unitOf (t .letter) + t .decimals .value * 10 ^ (3 - t .decimals .count))
-
--- ---- the words found
-
-abbrev pub noWords : Words
-noWords = wordsBy (λ l. missingWord)
-
-abbrev pub moreOf : (old new : Word) → Word
-moreOf old new = cond (old .stands) twiceWord new
-
-abbrev pub putOf : Words → Letter → Word → Words
-putOf ws l new = wordsBy (λ k. cond (same k l) (moreOf (wordAt ws k) new) (wordAt ws k))
 
 -- ---- a step in each part of a word
 
@@ -178,14 +140,6 @@ pub record Bounded (most : ℕ) (ds : Digits) : Type 0 where
 pub record Sized (t : Token) : Type 0 where
   pub whole : Bounded 7 (t .whole)
   pub decimals : Bounded 3 (t .decimals)
-
-abbrev pub Small : Class → Type 0
-Small Blank = Unit
-Small (Name l) = Unit
-Small (Sign n) = Unit
-Small Point = Unit
-Small (Digit d) = d < 10
-Small Other = Unit
 
 abbrev pub PartSized : Part → Type 0
 PartSized Between = Unit

@@ -7,17 +7,19 @@ use native.Mathlib.Omega.{arith}
 use lib.ListN.{length}
 use lib.Dec.{ltb, leb}
 use borrow.Author.Tests.{ltb-true, leb-true}
-use Rattle.words.specs.declared.letter.Letter.{Letter}
-use Rattle.words.specs.declared.byte.Class.{Class}
-use Rattle.words.specs.declared.byte.Class.the-variants.{Blank, Name, Sign as SignClass, Point, Digit, Other}
+use Rattle.letters.specs.declared.letter.Letter.{Letter}
+use Rattle.letters.specs.declared.byte.Class.{Class}
+use Rattle.letters.specs.declared.byte.Class.the-variants.{Blank, Name, Sign as SignClass, Point, Digit, Other}
 use Rattle.words.specs.declared.token.Token.{Token}
-use Rattle.words.specs.declared.word.Words.{Words}
+use Rattle.letters.specs.declared.word.Words.{Words}
 use Rattle.words.specs.declared.line.Part.{Part}
 use Rattle.words.specs.declared.line.Part.the-variants.{Between, Begun, Whole, Decimals, Bad}
 use Rattle.words.specs.declared.line.Scan.{Scan}
-use Rattle.words.specs.Grammar.{takesSign, takesPoint, letterByte, Sign, unsigned, plus, minus, blank, word, signText, digitsText, decimalsText, AllDigits, SignRight, PointRight, LineOfWords}
-use Rattle.words.specs.laws.Scan.{classOf, newToken, signedToken, wholeToken, decimalToken, putOf, tokenWord, at, betweenOf, endedOf, wholeOf, begunOf, decimalsOf, advance, stepOf, startScan, runOf, isBetween}
-use Rattle.words.specs.laws.Byte.{ByteOf, byte-of, signByte}
+use Rattle.letters.specs.Letter.{takesSign, takesPoint, letterByte}
+use Rattle.words.specs.Grammar.{Sign, unsigned, plus, minus, blank, word, signText, digitsText, decimalsText, AllDigits, SignRight, PointRight, LineOfWords}
+use Rattle.letters.specs.laws.Scan.{classOf, putOf}
+use Rattle.words.specs.laws.Scan.{newToken, signedToken, wholeToken, decimalToken, tokenWord, at, betweenOf, endedOf, wholeOf, begunOf, decimalsOf, advance, stepOf, startScan, runOf, isBetween}
+use Rattle.letters.specs.laws.Byte.{ByteOf, byte-of, signByte}
 
 -- ---- what is still to come
 

@@ -3,13 +3,15 @@ use Prim.Native.Nat.{ℕ}
 use mathlib.Core.Path.{_≡_, refl, ap, _∙_}
 use mathlib.Core.List.{List, [], _∷_}
 use mathlib.Core.Bool.{Bool, true, false, cond}
-use Rattle.words.specs.declared.letter.Letter.{Letter}
-use Rattle.words.specs.declared.letter.Letter.the-variants.{N, G, F, X, Y, I, J}
-use Rattle.words.specs.declared.word.Word.{Word}
-use Rattle.words.specs.declared.word.Words.{Words}
+use Rattle.letters.specs.declared.letter.Letter.{Letter}
+use Rattle.letters.specs.declared.letter.Letter.the-variants.{N, G, F, X, Y, I, J}
+use Rattle.letters.specs.declared.word.Word.{Word}
+use Rattle.letters.specs.declared.word.Words.{Words}
 use Rattle.words.specs.Grammar.{Item, blank, word}
-use Rattle.words.specs.Meaning.{isMinus, magnitudeOf, Value, missing, one, twice, same, andThen, says, missingWord, oneWord, twiceWord, wordOf, wordAt, wordsBy}
-use Rattle.words.specs.laws.Scan.{noWords, moreOf, putOf}
+use Rattle.letters.specs.Letter.{same}
+use Rattle.letters.specs.Word.{missingWord, oneWord, twiceWord, wordAt, wordsBy}
+use Rattle.words.specs.Meaning.{isMinus, magnitudeOf, Value, missing, one, twice, andThen, says, wordOf}
+use Rattle.letters.specs.laws.Scan.{noWords, moreOf, putOf}
 use Rattle.words.specs.laws.Complete.{gather}
 
 -- ---- words by their letters

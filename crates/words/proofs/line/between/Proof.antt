@@ -1,7 +1,25 @@
 -- `between` is right because it goes by the same cases as `betweenOf`.
+use mathlib.Core.Path.{_≡_, refl}
+use mathlib.Core.List.{[], _∷_}
+use denote.Enum.Declared.{tagOf}
+use types.Run.{OneOf, miss}
 use borrow.Author.Needs.{needs}
+use Rattle.letters.specs.declared.byte.Class.{Class}
+use Rattle.letters.proofs.byte.Class.{the-type}
+use Rattle.letters.specs.declared.byte.Class.the-variants.{Blank, Name, Sign, Point, Digit, Other}
+use Rattle.words.specs.declared.line.Part.the-variants.{Bad}
+use Rattle.words.specs.laws.Scan.{betweenOf}
 use Rattle.words.proofs.line.between.Statement.{statement}
 use Rattle.words.proofs.line.between.Tie as tie
+
+-- the arm `_` takes the other classes
+others : (c : Class) → OneOf (2 ∷ 3 ∷ 4 ∷ 5 ∷ []) (tagOf the-type c) → Bad ≡ betweenOf c
+others Blank h = absurd (miss (2 ∷ 3 ∷ 4 ∷ 5 ∷ []) 0 tt h)
+others (Name l) h = absurd (miss (2 ∷ 3 ∷ 4 ∷ 5 ∷ []) 1 tt h)
+others (Sign n) h = refl
+others Point h = refl
+others (Digit d) h = refl
+others Other h = refl
 
 enum-told : tie.Need-enum-told
 enum-told c = search needs
@@ -12,18 +30,6 @@ enum-known-c c = search needs
 new-requires : tie.Need-new-requires
 new-requires c κs = search needs
 
-enum-told-2 : tie.Need-enum-told-2
-enum-told-2 c = search needs
-
-enum-told-3 : tie.Need-enum-told-3
-enum-told-3 c = search needs
-
-enum-told-4 : tie.Need-enum-told-4
-enum-told-4 c = search needs
-
-enum-told-5 : tie.Need-enum-told-5
-enum-told-5 c = search needs
-
 returns : tie.Need-returns
 returns c = search needs
 
@@ -31,31 +37,7 @@ returns-2 : tie.Need-returns-2
 returns-2 c = rw (c .new .ensures, c .before .before .c .given .1)
 
 returns-3 : tie.Need-returns-3
-returns-3 c = search needs
-
-returns-4 : tie.Need-returns-4
-returns-4 c = search needs
-
-returns-5 : tie.Need-returns-5
-returns-5 c = search needs
-
-returns-6 : tie.Need-returns-6
-returns-6 c = search needs
+returns-3 c = others (c .before .args .c) (c .match .keys3)
 
 pub between-spec : {M : Type 1} → statement M
-between-spec =
-    tie.close
-    (tie.spec
-    enum-told
-    enum-known-c
-    new-requires
-    enum-told-2
-    enum-told-3
-    enum-told-4
-    enum-told-5
-    returns
-    returns-2
-    returns-3
-    returns-4
-    returns-5
-    returns-6)
+between-spec = tie.close (tie.spec enum-told enum-known-c new-requires returns returns-2 returns-3)

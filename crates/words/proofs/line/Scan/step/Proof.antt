@@ -1,5 +1,5 @@
 -- `step` is right because each part has its function, and a digit is below 10.
-use Rattle.words.specs.laws.Byte.{small}
+use Rattle.letters.specs.laws.Byte.{small}
 use borrow.Author.Needs.{needs}
 use Rattle.words.proofs.line.Scan.step.Statement.{statement}
 use Rattle.words.proofs.line.Scan.step.Tie as tie

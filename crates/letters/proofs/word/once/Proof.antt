@@ -1,8 +1,8 @@
 -- `once` is right because it joins the seven marks in the order of `letters`.
 use mathlib.Core.Bool.{or-false}
 use borrow.Author.Needs.{needs}
-use Rattle.words.proofs.word.once.Statement.{statement}
-use Rattle.words.proofs.word.once.Tie as tie
+use Rattle.letters.proofs.word.once.Statement.{statement}
+use Rattle.letters.proofs.word.once.Tie as tie
 
 either-requires : tie.Need-either-requires
 either-requires c κs = search needs

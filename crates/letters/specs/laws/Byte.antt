@@ -7,12 +7,12 @@ use native.Mathlib.Omega.{arith}
 use native.Mathlib.Nat.{add-sub-cancel-left}
 use lib.Dec.{ltb, leb, eqb}
 use borrow.Author.Tests.{ltb-true, ltb-false, leb-true, eqb-true, le-ltb, le-leb, ne-eqb}
-use Rattle.words.specs.declared.letter.Letter.{Letter}
-use Rattle.words.specs.declared.letter.Letter.the-variants.{N, G, F, X, Y, I, J}
-use Rattle.words.specs.declared.byte.Class.{Class}
-use Rattle.words.specs.declared.byte.Class.the-variants.{Blank, Name, Sign, Point, Digit, Other}
-use Rattle.words.specs.Grammar.{letters, letterByte}
-use Rattle.words.specs.laws.Scan.{Entry, named, table, lookup, unnamed, classOf, Small}
+use Rattle.letters.specs.declared.letter.Letter.{Letter}
+use Rattle.letters.specs.declared.letter.Letter.the-variants.{N, G, F, X, Y, I, J}
+use Rattle.letters.specs.declared.byte.Class.{Class}
+use Rattle.letters.specs.declared.byte.Class.the-variants.{Blank, Name, Sign, Point, Digit, Other}
+use Rattle.letters.specs.Letter.{letters, letterByte}
+use Rattle.letters.specs.laws.Scan.{Entry, named, table, lookup, unnamed, classOf, Small}
 
 -- ---- from the byte to its class
 

@@ -1,7 +1,6 @@
 // The letters that words begin with.
 ghost use mathlib.Core.Path.{_≡_};
-ghost use Rattle.words.specs.Grammar.{takesSign, takesPoint};
-ghost use Rattle.words.specs.Meaning.{unitOf};
+ghost use Rattle.letters.specs.Letter.{takesSign, takesPoint, unitOf};
 
 pub enum Letter {
     N,

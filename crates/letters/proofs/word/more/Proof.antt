@@ -1,7 +1,7 @@
 -- `more` is right because its test is that of `moreOf`.
 use borrow.Author.Needs.{needs}
-use Rattle.words.proofs.word.more.Statement.{statement}
-use Rattle.words.proofs.word.more.Tie as tie
+use Rattle.letters.proofs.word.more.Statement.{statement}
+use Rattle.letters.proofs.word.more.Tie as tie
 
 returns : tie.Need-returns
 returns c = rw (c .if1 .taken)

@@ -2,8 +2,8 @@
 use crate::letter::Letter;
 ghost use mathlib.Core.Path.{_≡_};
 ghost use mathlib.Core.Bool.{_||_};
-ghost use Rattle.words.specs.Meaning.{onceOf};
-ghost use Rattle.words.specs.laws.Scan.{moreOf, putOf, noWords};
+ghost use Rattle.letters.specs.Word.{onceOf};
+ghost use Rattle.letters.specs.laws.Scan.{moreOf, putOf, noWords};
 
 // A letter's word. The magnitude is in thousandths for a letter that takes a point (below 10^10), else a plain number (below 10^7).
 // A letter that does not stand, or stands twice, has no value: plus 0.

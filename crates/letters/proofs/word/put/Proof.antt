@@ -1,7 +1,7 @@
 -- `put` is right because it changes the field of its letter, and only that, as `putOf` does.
 use borrow.Author.Needs.{needs}
-use Rattle.words.proofs.word.put.Statement.{statement}
-use Rattle.words.proofs.word.put.Tie as tie
+use Rattle.letters.proofs.word.put.Statement.{statement}
+use Rattle.letters.proofs.word.put.Tie as tie
 
 enum-told : tie.Need-enum-told
 enum-told c = search needs

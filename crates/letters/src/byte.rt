@@ -1,7 +1,7 @@
 // What a byte can be in a word.
 use crate::letter::Letter;
 ghost use mathlib.Core.Path.{_≡_};
-ghost use Rattle.words.specs.laws.Scan.{classOf};
+ghost use Rattle.letters.specs.laws.Scan.{classOf};
 
 pub enum Class {
     Blank,

@@ -1,9 +1,9 @@
 -- `classify` is right because its arms stand in the order of `table`, and what is left is told by two comparisons.
 use borrow.Author.Tests.{le-ltb, lt-ltb, le-leb, lt-leb}
-use Rattle.words.specs.laws.Byte.{class-unnamed}
+use Rattle.letters.specs.laws.Byte.{class-unnamed}
 use native.Mathlib.Omega.{arith}
-use Rattle.words.proofs.byte.classify.Statement.{statement}
-use Rattle.words.proofs.byte.classify.Tie as tie
+use Rattle.letters.proofs.byte.classify.Statement.{statement}
+use Rattle.letters.proofs.byte.classify.Tie as tie
 
 returns : tie.Need-returns
 returns c = rw (class-unnamed (c .before .before .args .b) (c .before .match .rest), lt-ltb _ _ (c .if1 .taken))

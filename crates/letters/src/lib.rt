@@ -1,0 +1,4 @@
+// The bytes and the letters of a line of words, and what a line says of each letter. No function here asks anything of its arguments.
+pub mod byte;
+pub mod letter;
+pub mod word;
