@@ -135,7 +135,7 @@ fn fresh(settings: Settings) -> Machine
 
 impl Machine {
     // The only place beside `fresh` that writes a record.
-    fn moved(self, at: Point, remainder: u64, work: Work) -> Machine
+    pub fn moved(self, at: Point, remainder: u64, work: Work) -> Machine
         ensures { λ r. ⌜ r ≡ movedOf self at remainder work ⌝ }
     {
         let settings = self.settings;

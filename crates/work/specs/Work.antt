@@ -1,7 +1,7 @@
 -- 01, Job and machine: "What is in work is nothing, a line with its numbers or an arc with its numbers."
 use mathlib.Core.Path.{_≡_}
 use mathlib.Core.Bool.{Bool, true, false, cond, _&&_}
-use Prim.Native.Nat.{ℕ, _+_, _^_, _<_}
+use Prim.Native.Nat.{ℕ, _+_, _-_, _^_, _<_}
 use lib.Dec.{eqb}
 use Rattle.plane.specs.declared.point.Point.{Point}
 use Rattle.plane.specs.declared.travel.Travel.{Travel}
@@ -11,7 +11,7 @@ use Rattle.plane.specs.Travel.{insideOf}
 use Rattle.line.specs.declared.line.Line.{Line}
 use Rattle.line.specs.Line.{differ, lineOf, shortOf, lineAt, steppedOf}
 use Rattle.arc.specs.declared.arc.Arc.{Arc}
-use Rattle.arc.specs.Arc.{OnArc, arcAt, arcStepped}
+use Rattle.arc.specs.Arc.{OnArc, arcAt, arcCycles, arcStepped}
 use Rattle.divider.specs.declared.Fed.{Fed}
 use Rattle.divider.specs.Divider.{fedOf}
 use Rattle.block.specs.declared.Block.{Block}
@@ -77,6 +77,18 @@ abbrev pub feedOf : Work → ℕ
 feedOf Work.Nothing = 0
 feedOf (Work.Line l) = l .feed
 feedOf (Work.Arc a) = a .feed
+
+-- 01, Feed divider: "A block of k cycles (q for a line, the number of visited points for an arc)": those that what is in work has left to its end
+abbrev pub cyclesLeft : (at : Point) → Work → ℕ
+cyclesLeft at Work.Nothing = 0
+cyclesLeft at (Work.Line l) = l .cycles - l .done
+cyclesLeft at (Work.Arc a) = arcCycles a at
+
+-- where what is in work ends: the commanded end, or with nothing in work the point
+abbrev pub endOf : (at : Point) → Work → Point
+endOf at Work.Nothing = at
+endOf at (Work.Line l) = l .end
+endOf at (Work.Arc a) = a .end
 
 -- 01, Feed divider: "Each working tick .. adds f to the remainder. If it then reaches or passes q0, q0 is taken off and one cycle is done."
 abbrev pub advanceBy : (at : Point) → Work → Fed → Advance

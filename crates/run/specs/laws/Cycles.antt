@@ -1,5 +1,5 @@
--- The cycles that what is in work has left to its end: each cycle does one of them.
-use mathlib.Core.Path.{_≡_, refl, sym, subst, _∙_}
+-- The cycles that what is in work has left to its end: each cycle does one of them, and the last leads to the end.
+use mathlib.Core.Path.{_≡_, refl, sym, ap, subst, _∙_}
 use mathlib.Core.Bool.{Bool, true, false}
 use Prim.Native.Nat.{ℕ, suc, _+_, _-_, _*_, _^_, _≤_, _<_}
 use native.Mathlib.Nat.{mul-le-mul, mul-le-mul-right}
@@ -11,21 +11,17 @@ use Rattle.plane.specs.declared.travel.Travel.{Travel}
 use Rattle.plane.specs.Point.{equalPoint}
 use Rattle.plane.specs.laws.Point.{equal-point, equal-itself}
 use Rattle.line.specs.declared.line.Line.{Line}
-use Rattle.line.specs.Line.{steppedOf}
+use Rattle.line.specs.Line.{pointOf, steppedOf}
 use Rattle.line.specs.laws.Cycles.{cycles-bound}
-use Rattle.line.specs.laws.Work.{Drawn}
+use Rattle.line.specs.laws.Points.{point-end}
+use Rattle.line.specs.laws.Work.{Drawn, some-cycle}
 use Rattle.arc.specs.declared.arc.Arc.{Arc}
 use Rattle.arc.specs.Arc.{arcAfter, arcCycles, arcStepped}
 use Rattle.arc.specs.laws.Step.{Circles, cycles-bounds, last-cycle, more-cycles}
 use Rattle.work.specs.declared.Work.{Work}
-use Rattle.work.specs.Work.{isNothing, workSound, following, lineCycle, arcCycle, cycleOf, feedOf}
+use Rattle.work.specs.Work.{isNothing, workSound, following, lineCycle, arcCycle, cycleOf, feedOf, cyclesLeft, endOf}
 use Rattle.work.specs.laws.Sound.{Feed, line-work, arc-work}
 use Rattle.run.specs.Run.{SoundIn}
-
-abbrev pub cyclesLeft : (at : Point) → Work → ℕ
-cyclesLeft at Work.Nothing = 0
-cyclesLeft at (Work.Line l) = l .cycles - l .done
-cyclesLeft at (Work.Arc a) = arcCycles a at
 
 line-counts : (l : Line) → Drawn l → (ended : Bool) → eqb (l .done + 1) (l .cycles) ≡ ended
     → l .cycles - l .done ≡ suc (cyclesLeft (steppedOf l .at) (following ended (Work.Line (steppedOf l .line))))
@@ -80,12 +76,32 @@ same-feed at (Work.Arc a) more = by (equalPoint (arcStepped a at .at) (a .end)) 
     by true m = absurd (subst T m tt)
     by false m = refl
 
+line-ends : (l : Line) → Drawn l → (ended : Bool) → eqb (l .done + 1) (l .cycles) ≡ ended
+    → endOf (steppedOf l .at) (following ended (Work.Line (steppedOf l .line))) ≡ l .end
+unfolding steppedOf
+line-ends l d true e = ap (pointOf (l .start) (l .end)) (eqb-true (l .done + 1) (l .cycles) e ∙ d .own) ∙ point-end (l .start) (l .end) (some-cycle l d)
+line-ends l d false e = refl
+
+arc-ends : (a : Arc) (at : Point) (ended : Bool) → equalPoint (arcAfter a at 1) (a .end) ≡ ended → endOf (arcAfter a at 1) (following ended (Work.Arc a)) ≡ a .end
+arc-ends a at true e = equal-point _ _ e
+arc-ends a at false e = refl
+
+-- a cycle does not move the end; after the last cycle the point is there
+ends : (q0 : ℕ) (t : Travel) (at : Point) (w : Work) → workSound q0 t at w ≡ true → endOf (cycleOf at w .at) (cycleOf at w .work) ≡ endOf at w
+unfolding workSound cycleOf lineCycle arcCycle arcStepped
+ends q0 t at Work.Nothing e = refl
+ends q0 t at (Work.Line l) e = line-ends l (line-work e .line .drawing) (eqb (l .done + 1) (l .cycles)) refl
+ends q0 t at (Work.Arc a) e = arc-ends a at (equalPoint (arcAfter a at 1) (a .end)) refl
+
 module _ {q0 : ℕ} {at : Point} {r : ℕ} {w : Work} (i : SoundIn q0 at r w) where
   pub in-work : Working q0 (feedOf w) (cyclesLeft at w)
   in-work = working q0 (i .travel) at w (i .sound) (i .busy)
 
   pub cycle-counts : cyclesLeft at w ≡ suc (cyclesLeft (cycleOf at w .at) (cycleOf at w .work))
   cycle-counts = counts q0 (i .travel) at w (i .sound) (i .busy)
+
+  pub same-end : endOf (cycleOf at w .at) (cycleOf at w .work) ≡ endOf at w
+  same-end = ends q0 (i .travel) at w (i .sound)
 
   pub due-later : r < cyclesLeft at w * q0
   due-later = omega (arith, i .below, mul-le-mul-right q0 (in-work .some))

@@ -11,7 +11,7 @@ use Rattle.divider.specs.Divider.{endTick}
 use Rattle.work.specs.declared.Work.{Work}
 use Rattle.work.specs.declared.Cycle.{Cycle}
 use Rattle.work.specs.laws.Sound.{Feed}
-use Rattle.work.specs.Work.{isNothing, cycleOf, feedOf, advanceOf}
+use Rattle.work.specs.Work.{isNothing, cycleOf, feedOf, cyclesLeft, advanceOf}
 use Rattle.run.specs.declared.gap.Gap.{Gap}
 use Rattle.run.specs.Run.{Strip, stripOf, SoundIn}
 use Rattle.run.specs.Gap.{gapOf, clearedOf}
@@ -19,7 +19,7 @@ use Rattle.run.specs.laws.Going.{Going, Answer, going-start, going-on, g
 use Rattle.run.specs.laws.Sound.{waiting, still-sound}
 use Rattle.run.specs.laws.Gap.{Due, gap-due}
 use Rattle.run.specs.laws.Left.{Left, left-start, left-turn, left-out, left-end}
-use Rattle.run.specs.laws.Cycles.{cyclesLeft, in-work, cycle-counts, due-later, same-feed}
+use Rattle.run.specs.laws.Cycles.{in-work, cycle-counts, due-later, same-feed}
 use Rattle.run.specs.laws.Idle.{cycle-tick, cleared-length, cleared-twice, going-idle, answer-old}
 
 -- `done` ticks are done, up to a cycle; g is the gap to the next; in out₀ the n bytes are cleared

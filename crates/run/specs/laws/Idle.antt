@@ -21,7 +21,7 @@ unfolding after
 after-after xs ys s =
     ap (λ (bs : List ℕ). record { bytes = bs; at = s .at; remainder = s .remainder; work = s .work; ended = s .ended }) (sym (append-assoc xs ys (s .bytes)))
 
-idle-tick : (q0 : ℕ) (at : Point) (r : ℕ) (w : Work) → r + feedOf w < q0 → advanceOf q0 at r w ≡ record { at = at; remainder = r + feedOf w; byte = 0; work = w }
+pub idle-tick : (q0 : ℕ) (at : Point) (r : ℕ) (w : Work) → r + feedOf w < q0 → advanceOf q0 at r w ≡ record { at = at; remainder = r + feedOf w; byte = 0; work = w }
 unfolding advanceOf
 idle-tick q0 at r w h = rw (lt-leb q0 (r + feedOf w) h)
 

@@ -1,0 +1,95 @@
+// A run to the end of the block in work, without its bytes: the cycles left give the ticks, so none is walked.
+ghost use mathlib.Core.Path.{_≡_};
+ghost use Rattle.finish.specs.Finish.{Countable, leftOf, worksOf, finishOf};
+use divider::end_tick;
+use machine::Machine;
+use machine::sound;
+use plane::point::Point;
+use work::Work;
+use work::is_nothing;
+
+// What such a run does: its cycles, its working ticks, and the record that it leaves.
+pub struct Finished {
+    pub cycles: u64,
+    pub ticks: u64,
+    pub machine: Machine,
+}
+
+// What is in work, as far as its end asks.
+struct Left {
+    cycles: u64,
+    feed: u64,
+    end: Point,
+}
+
+fn work_left(at: Point, work: Work) -> Left
+    requires { ⌜ Countable at work ⌝ }
+    ensures { λ r. ⌜ r ≡ leftOf at work ⌝ }
+{
+    match work {
+        Work::Nothing => Left {
+            cycles: 0,
+            feed: 0,
+            end: at,
+        },
+        Work::Line(l) => {
+            let end = l.end;
+            Left {
+                cycles: l.cycles - l.done,
+                feed: l.feed,
+                end: end,
+            }
+        }
+        Work::Arc(a) => {
+            let end = a.end;
+            Left {
+                cycles: a.cycles(at),
+                feed: a.feed,
+                end: end,
+            }
+        }
+    }
+}
+
+// Whether a tick of this record is a working one: it is sound, has a block in work and is not held.
+fn works(m: Machine) -> bool
+    ensures { λ r. ⌜ r ≡ worksOf m ⌝ }
+{
+    let settings = m.settings;
+    let at = m.at;
+    let held = m.held;
+    let work = m.work;
+    if !sound(settings, at, m.remainder, work) {
+        return false;
+    }
+    if is_nothing(work) {
+        return false;
+    }
+    !held
+}
+
+// To the end of the block in work; a record whose ticks are no working ones stays as it was.
+pub fn finish(m: Machine) -> Finished
+    ensures { λ r. ⌜ r ≡ finishOf m ⌝ }
+{
+    if !works(m) {
+        return Finished {
+            cycles: 0,
+            ticks: 0,
+            machine: m,
+        };
+    }
+    let settings = m.settings;
+    let at = m.at;
+    let work = m.work;
+    let capacity = 60 * settings.clock;
+    let left = work_left(at, work);
+    let end = left.end;
+    let ticks = end_tick(capacity, left.feed, m.remainder, left.cycles);
+    let remainder = m.remainder + ticks * left.feed - left.cycles * capacity;
+    Finished {
+        cycles: left.cycles,
+        ticks: ticks,
+        machine: m.moved(end, remainder, Work::Nothing),
+    }
+}
