@@ -1,0 +1,88 @@
+-- What a check has still to hand out, for any state of it and any text. `Listing` says what the listing of a whole text is.
+use mathlib.Core.Path.{_≡_}
+use mathlib.Core.Bool.{Bool, true, false, cond}
+use mathlib.Core.List.{List, [], _∷_, _++_}
+use Prim.Native.Nat.{ℕ, _+_, _-_, _≤_, _<_}
+use lib.Dec.{leb}
+use lib.ListN.{length, take, drop}
+use Rattle.row.specs.declared.Row.{Row}
+use Rattle.row.specs.declared.gather.Place.{Place}
+use Rattle.row.specs.Row.{contents}
+use Rattle.row.specs.Lines.{headerLine, totalLine, refusedLine}
+use Rattle.machine.specs.declared.Machine.{Machine}
+use Rattle.machine.specs.declared.settings.Settings.{Settings}
+use Rattle.listing.specs.declared.Tally.{Tally}
+use Rattle.listing.specs.Tally.{listedOf}
+use Rattle.listing.specs.Tally.{startOf as tallyStart}
+use Rattle.job.specs.declared.Stage.{Stage}
+use Rattle.job.specs.declared.Check.{Check}
+use Rattle.job.specs.declared.Step.{Step}
+use Rattle.job.specs.declared.Filled.{Filled}
+use Rattle.job.specs.Text.{linesOf}
+use Rattle.job.specs.Listing.{listingOf}
+
+unfoldable pub startOf : Machine → Check
+startOf m = record { stage = Stage.Header; at = 0; tally = tallyStart m }
+
+abbrev pub stageOver : Stage → Bool
+stageOver Stage.Header = false
+stageOver Stage.Lines = false
+stageOver Stage.Over = true
+
+abbrev pub isOver : Check → Bool
+isOver c = stageOver (c .stage)
+
+-- ---- what is still to come
+
+abbrev pub unless : (over : Bool) → List ℕ → List ℕ
+unless true rest = []
+unless false rest = rest
+
+-- the rows of these text lines, and the last line of the listing
+unfoldable pub rowsFrom : Tally → (lines : List (List ℕ)) → List ℕ
+rowsFrom t [] = totalLine (t .blocks) (t .cycles) (t .ticks)
+rowsFrom t (l ∷ ls) = let g = listedOf t l in g .bytes ++ unless (g .over) (rowsFrom (g .tally) ls)
+
+-- 01: "is the text at most 65,536 bytes (asked once, line 1)? 30."
+abbrev pub linesRest : Check → (text : List ℕ) → List ℕ
+linesRest c text = cond (leb (length text) 65536) (rowsFrom (c .tally) (linesOf (drop (c .at) text))) (refusedLine 1 30)
+
+abbrev pub restAt : Stage → Check → (text : List ℕ) → List ℕ
+restAt Stage.Header c text = headerLine ++ linesRest c text
+restAt Stage.Lines c text = linesRest c text
+restAt Stage.Over c text = []
+
+unfoldable pub restOf : Check → (text : List ℕ) → List ℕ
+restOf c text = restAt (c .stage) c text
+
+-- whatever the text, what is to come is its listing
+abbrev pub Lists : Settings → Check → Type 0
+Lists s c = (text : List ℕ) → restOf c text ≡ listingOf s text
+
+-- ---- what a call hands out
+
+abbrev pub lastOf : Check → Row → Step
+lastOf c row = record { row = row; check = record { stage = Stage.Over; at = c .at; tally = c .tally } }
+
+abbrev pub nextPlace : Place → (at : ℕ) → ℕ
+nextPlace (Place.Next next) at = next
+nextPlace Place.NoRoom at = at
+
+-- a step, of which at most so many are left
+abbrev pub stepsLeft : Stage → (at size : ℕ) → ℕ
+stepsLeft Stage.Header at size = 2 + size
+stepsLeft Stage.Lines at size = 1 + (size - at)
+stepsLeft Stage.Over at size = 0
+
+pub record Steps (c : Check) (text : List ℕ) (s : Step) : Type 0 where
+  pub room : length (contents (s .row)) ≤ 160
+  pub bytes : contents (s .row) ++ restOf (s .check) text ≡ restOf c text
+  pub fewer : stepsLeft (s .check .stage) (s .check .at) (length text) < stepsLeft (c .stage) (c .at) (length text)
+
+-- A buffer's first bytes are the next of the listing, and its later ones keep their contents. How many rows it takes is free; one that holds a row
+-- takes at least one byte, until all is handed out.
+pub record Fills (c : Check) (text old : List ℕ) (f : Filled) (new : List ℕ) : Type 0 where
+  pub bytes : take (f .len) new ++ restOf (f .check) text ≡ restOf c text
+  pub later : drop (f .len) new ≡ drop (f .len) old
+  pub room : f .len ≤ length old
+  pub onward : 160 ≤ length old → isOver (f .check) ≡ false → 1 ≤ f .len

@@ -1,0 +1,8 @@
+pub mod Text
+pub mod Step
+pub mod Fill
+pub mod Ended
+pub mod Asks
+pub mod Rows
+pub mod Listing
+pub mod Calls

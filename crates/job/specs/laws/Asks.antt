@@ -1,0 +1,73 @@
+-- What the reader's call answers at an idle machine is what the line asks.
+use mathlib.Core.Path.{_≡_, refl, ap, subst, _∙_}
+use mathlib.Core.Bool.{Bool, true, false, cond}
+use mathlib.Core.List.{List}
+use Prim.Native.Nat.{ℕ, zero, suc}
+use lib.ListN.{length}
+use Rattle.block.specs.declared.Block.{Block}
+use Rattle.block.specs.Block.{blockWidth}
+use Rattle.block.specs.Questions.{loadNo}
+use Rattle.letters.specs.declared.word.Words.{Words}
+use Rattle.words.specs.laws.Scan.{lineOf}
+use Rattle.work.specs.Work.{isNothing, begunOf}
+use Rattle.machine.specs.declared.Machine.{Machine}
+use Rattle.machine.specs.declared.Answered.{Answered}
+use Rattle.machine.specs.Settings.{capacityOf}
+use Rattle.machine.specs.Machine.{soundOf}
+use Rattle.machine.specs.Calls.{taking, loadWith, loadOf}
+use Rattle.reader.specs.declared.Reader.{Reader}
+use Rattle.reader.specs.declared.«text_line».Read.{Read}
+use Rattle.reader.specs.declared.«text_line».ReadLine.{ReadLine}
+use Rattle.reader.specs.Reader.{readerAfter, moving, lineNo, blockOf}
+use Rattle.reader.specs.TextLine.{reads, still, loaded, takenOf, readWith, readLineOf}
+use Rattle.job.specs.laws.Ended.{Accepted}
+use Rattle.job.specs.Job.{Asks, loadAsks, blockAsks, wordsAsk, lineAsks}
+
+-- a line read at the machine m with k known, side by side: what it asks, and what the call answers
+pub data Read-as (m : Machine) (k : Reader) : Asks → ReadLine → Type 0 where
+  nothing : (known : Reader) → Read-as m k (Asks.nothing known) (reads Read.Nothing known m)
+  makes : (known : Reader) (b : Block) → Accepted m b → Read-as m k (Asks.makes known b) (reads (Read.Loaded (blockWidth (m .at) b)) known (loadOf m b .machine))
+  refuses : (number : ℕ) → Read-as m k (Asks.refuses number) (reads (Read.Refused number) k m)
+
+module _ (m : Machine) (sound : soundOf m ≡ true) (idle : isNothing (m .work) ≡ true) where
+  load-is : (b : Block) → loadOf m b ≡ loadWith m b (loadNo (capacityOf (m .settings)) (m .settings .travel) true (m .at) b)
+  unfolding loadOf
+  load-is b = rw (sound, idle)
+
+  pub load-accepted : (b : Block) → Accepted m b → loadOf m b ≡ taking m (begunOf (m .at) b)
+  load-accepted b e = load-is b ∙ ap (loadWith m b) e
+
+module _ (m : Machine) (k : Reader) (sound : soundOf m ≡ true) (idle : isNothing (m .work) ≡ true) where
+  load-asks : (k′ : Reader) (b : Block) (number : ℕ) → loadNo (capacityOf (m .settings)) (m .settings .travel) true (m .at) b ≡ number
+      → Read-as m k (loadAsks k′ b number) (loaded k k′ m (loadWith m b number .machine) (loadWith m b number .answer))
+  unfolding begunOf
+  load-asks k′ b zero e =
+      subst (λ (n : Machine). Read-as m k (Asks.makes k′ b) (reads (Read.Loaded (blockWidth (m .at) b)) k′ n))
+      (ap (λ (a : Answered). a .machine) (load-accepted m sound idle b e))
+      (Read-as.makes k′ b e)
+  load-asks k′ b (suc n) e = Read-as.refuses (suc n)
+
+  block-asks : (k′ : Reader) (b : Block) → Read-as m k (blockAsks (m .settings) (m .at) k′ b) (takenOf k k′ m b)
+  unfolding takenOf
+  block-asks k′ b = by (still (b .end) (m .at) (b .path))
+    where
+      by : (stays : Bool) → Read-as m k (cond stays (Asks.nothing k′) (loadAsks k′ b (loadNo (capacityOf (m .settings)) (m .settings .travel) true (m .at) b)))
+          (cond stays (reads Read.Nothing k′ m) (loaded k k′ m (loadOf m b .machine) (loadOf m b .answer)))
+      by true = Read-as.nothing k′
+      by false = rw (load-is m sound idle b) (load-asks k′ b (loadNo (capacityOf (m .settings)) (m .settings .travel) true (m .at) b) refl)
+
+  words-ask : (k′ : Reader) (ws : Words) (number : ℕ) → Read-as m k (wordsAsk (m .settings) (m .at) k′ ws number) (readWith k k′ m ws number)
+  words-ask k′ ws zero = by (moving ws)
+    where
+      by : (moves : Bool) → Read-as m k (cond moves (blockAsks (m .settings) (m .at) k′ (blockOf (m .settings .scale) k′ ws (m .at))) (Asks.nothing k′))
+          (cond moves (takenOf k k′ m (blockOf (m .settings .scale) k′ ws (m .at))) (reads Read.Nothing k′ m))
+      by true = block-asks k′ (blockOf (m .settings .scale) k′ ws (m .at))
+      by false = Read-as.nothing k′
+  words-ask k′ ws (suc n) = Read-as.refuses (suc n)
+
+  pub line-asks : (line : List ℕ) → Read-as m k (lineAsks (m .settings) (m .at) k line) (readLineOf k m line)
+  unfolding lineAsks readLineOf
+  line-asks line =
+      let l = lineOf line in
+      let k′ = readerAfter k (l .words) in
+      rw sound (words-ask k′ (l .words) (lineNo (m .settings .scale) k′ (length line) l))

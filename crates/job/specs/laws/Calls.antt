@@ -1,0 +1,34 @@
+-- The calls tell what the job means.
+use mathlib.Core.Path.{_≡_, refl}
+use mathlib.Core.List.{List, [], _∷_}
+use Prim.Native.Nat.{ℕ, _+_}
+use Rattle.machine.specs.declared.Machine.{Machine}
+use Rattle.machine.specs.Settings.{capacityOf}
+use Rattle.machine.specs.Machine.{movedOf}
+use Rattle.finish.specs.laws.Record.{AtRest}
+use Rattle.reader.specs.declared.Reader.{Reader}
+use Rattle.reader.specs.declared.«text_line».ReadLine.{ReadLine}
+use Rattle.job.specs.Job.{Asks, Job, onward, jobFrom}
+use Rattle.job.specs.Calls.{Cuts, afterRead, callsFrom, cutsOf}
+use Rattle.job.specs.laws.Ended.{endedOf, ended-rests, ended-run, ended-cycles}
+use Rattle.job.specs.laws.Asks.{Read-as, line-asks}
+
+abbrev pub told : Machine → Job → Cuts
+told m j = record { cuts = cutsOf (capacityOf (m .settings)) (m .remainder) (j .blocks); end = j .end }
+
+by-line : (m : Machine) (n : ℕ) (k : Reader) (ls : List (List ℕ)) → AtRest m
+    → ((n : ℕ) (m : Machine) (k : Reader) → AtRest m → callsFrom n m k ls ≡ told m (jobFrom (m .settings) n (m .at) k ls))
+    → {a : Asks} {r : ReadLine} → Read-as m k a r
+    → afterRead n (r .reader) (r .machine) (r .answer) (λ m′ k′. callsFrom (n + 1) m′ k′ ls)
+    ≡ told m (onward n (m .at) a (λ at k′. jobFrom (m .settings) (n + 1) at k′ ls))
+unfolding cutsOf movedOf
+by-line m n k ls i rest (Read-as.nothing known) = rest (n + 1) m known i
+by-line m n k ls i rest (Read-as.makes known b ok) =
+    rw (ended-run m i b ok, ended-cycles m i b ok, rest (n + 1) (endedOf m b .machine) known (ended-rests m i b ok))
+by-line m n k ls i rest (Read-as.refuses number) = refl
+
+-- each block is loaded where and when the one before has ended, with the remainder kept
+pub calls-tell : (ls : List (List ℕ)) (n : ℕ) (m : Machine) (k : Reader) → AtRest m → callsFrom n m k ls ≡ told m (jobFrom (m .settings) n (m .at) k ls)
+unfolding callsFrom jobFrom cutsOf
+calls-tell [] n m k i = refl
+calls-tell (l ∷ ls) n m k i = by-line m n k ls i (calls-tell ls) (line-asks m k (i .sound) (i .idle) l)

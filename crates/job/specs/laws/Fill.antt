@@ -1,0 +1,82 @@
+-- Rows gathered in a buffer, one after the other, are the next bytes of what was still to come.
+use mathlib.Core.Path.{_≡_, refl, sym, ap, _∙_}
+use mathlib.Core.Bool.{Bool, true, false, cond}
+use mathlib.Core.List.{List, _++_, append-assoc}
+use Prim.Native.Nat.{ℕ, suc, _+_, _-_, _≤_, _<_}
+use native.Mathlib.Omega.{arith}
+use lib.ListN.{length, take, drop, length-take, length-append}
+use lib.Seq.{length-take-le, drop-drop, drop-at}
+use borrow.Author.Tests.{le-leb}
+use Rattle.row.specs.declared.gather.Place.{Place}
+use Rattle.row.specs.Row.{contents}
+use Rattle.row.specs.Gather.{placeAfter, bufferAfter}
+use Rattle.row.specs.laws.Gather.{length-after, gathered}
+use Rattle.job.specs.declared.Check.{Check}
+use Rattle.job.specs.declared.Step.{Step}
+use Rattle.job.specs.declared.Filled.{Filled}
+use Rattle.job.specs.Check.{isOver, restOf, nextPlace, Steps, Fills}
+
+-- so far: of the check that began as c, with the buffer as old
+pub record Filling (c : Check) (text old : List ℕ) (new : List ℕ) (check : Check) (len : ℕ) : Type 0 where
+  pub bytes : take len new ++ restOf check text ≡ restOf c text
+  pub later : drop len new ≡ drop len old
+  pub room : len ≤ length old
+  pub long : length new ≡ length old
+
+pub filling-start : (c : Check) (text old : List ℕ) → Filling c text old old c 0
+filling-start c text old = record { bytes = refl; later = refl; room = omega arith; long = refl }
+
+module _ {c : Check} {text old new : List ℕ} {check : Check} {len : ℕ} (f : Filling c text old new check len) where
+  pub filling-done : (160 ≤ length old → isOver check ≡ false → 1 ≤ len) → Fills c text old (record { len = len; check = check }) new
+  filling-done onward = record { bytes = f .bytes; later = f .later; room = f .room; onward = onward }
+
+  module _ (free : 160 ≤ length new - len) {s : Step} (t : Steps check text s) {next : ℕ}
+      (moved : next ≡ nextPlace (placeAfter (contents (s .row)) new len) len) where
+    abbrev line : List ℕ
+    line = contents (s .row)
+
+    fits : len + length line ≤ length new
+    fits = omega (arith, t .room)
+
+    placed : placeAfter line new len ≡ Place.Next (len + length line)
+    placed = rw (le-leb (len + length line) (length new) fits)
+
+    place : next ≡ len + length line
+    place = moved ∙ ap (λ (p : Place). nextPlace p len) placed
+
+    after : drop (len + length line) (bufferAfter line new len) ≡ drop (len + length line) new
+    after =
+        let front : length (take len new ++ line) ≡ len + length line = simp (length-append, length-take) (omega (arith, fits)) in
+        rw (le-leb (len + length line) (length new) fits) (drop-at (take len new ++ line) (drop (len + length line) new) (len + length line) front)
+
+    pub filling-on : Filling c text old (bufferAfter line new len) (s .check) next
+    filling-on =
+        rw place
+        (record {
+          bytes =
+              ap (λ (front : List ℕ). front ++ restOf (s .check) text) (gathered line new len (len + length line) placed)
+              ∙ append-assoc (take len new) line (restOf (s .check) text)
+              ∙ ap (λ (rest : List ℕ). take len new ++ rest) (t .bytes)
+              ∙ f .bytes;
+          later = after ∙ sym (drop-drop (length line) len new) ∙ ap (drop (length line)) (f .later) ∙ drop-drop (length line) len old;
+          room = omega (arith, fits, f .long);
+          long = length-after line new len ∙ f .long;
+        })
+
+-- ---- for programs that fill a buffer until all is handed out
+
+abbrev pub toCome : Check → (text : List ℕ) → ℕ
+toCome c text = cond (isOver c) 0 (suc (length (restOf c text)))
+
+pub fill-less : {c : Check} {text old new : List ℕ} {f : Filled} → Fills c text old f new → 160 ≤ length old → length new ≡ length old → isOver c ≡ false
+    → toCome (f .check) text < toCome c text
+fill-less {c} {text} {old} {new} {f} fill room long going = rw going (by (isOver (f .check)) refl)
+  where
+    handed : f .len + length (restOf (f .check) text) ≡ length (restOf c text)
+    handed =
+        let n : length (take (f .len) new) ≡ f .len = length-take-le (f .len) new (omega (arith, fill .room)) in
+        sym (ap (λ (k : ℕ). k + length (restOf (f .check) text)) n) ∙ sym (length-append (take (f .len) new) (restOf (f .check) text)) ∙ ap length (fill .bytes)
+
+    by : (over : Bool) → isOver (f .check) ≡ over → cond over 0 (suc (length (restOf (f .check) text))) < suc (length (restOf c text))
+    by true e = omega arith
+    by false e = omega (arith, handed, fill .onward room e)

@@ -1,0 +1,61 @@
+-- What a check that has just begun has still to hand out is the listing of the text.
+use mathlib.Core.Path.{_≡_, refl, ap, _∙_}
+use mathlib.Core.Bool.{Bool, true, false, cond}
+use mathlib.Core.List.{List, [], _∷_, _++_}
+use Prim.Native.Nat.{ℕ, suc, _≤_}
+use native.Mathlib.Omega.{arith}
+use lib.Dec.{eqb, leb}
+use lib.ListN.{length}
+use borrow.Author.Tests.{leb-true}
+use Rattle.plane.specs.laws.Travel.{inside-test}
+use Rattle.work.specs.Work.{workSound}
+use Rattle.row.specs.Lines.{headerLine, refusedLine}
+use Rattle.machine.specs.declared.settings.Settings.{Settings}
+use Rattle.machine.specs.Settings.{capacityOf, settingsNo}
+use Rattle.finish.specs.laws.Record.{AtRest}
+use Rattle.machine.specs.Machine.{freshOf}
+use Rattle.machine.specs.laws.Sound.{settings-right, sound-test}
+use lib.IntN.{pos}
+use Rattle.listing.specs.Tally.{unknown, startOf as tallyStart}
+use Rattle.job.specs.Text.{lineOr, linesOf}
+use Rattle.job.specs.Job.{Made, End, jobFrom, jobOf}
+use Rattle.job.specs.Listing.{rows, lastLine, listingOf}
+use Rattle.job.specs.Check.{startOf, rowsFrom, restOf}
+use Rattle.job.specs.laws.Rows.{lastAfter, total-same, lists}
+
+pub lines-few : (s : List ℕ) → length (linesOf s) ≤ length s
+unfolding linesOf
+lines-few [] = omega arith
+lines-few (b ∷ s) = by (eqb b 10) (linesOf s) (lines-few s)
+  where
+    by : (lf : Bool) (ls : List (List ℕ)) → length ls ≤ length s → length (lineOr lf b ls) ≤ suc (length s)
+    by true ls h = omega arith
+    by false [] h = omega arith
+    by false (l ∷ ls) h = omega arith
+
+fresh-rests : (s : Settings) → settingsNo s ≡ 0 → AtRest (freshOf s)
+unfolding freshOf workSound
+fresh-rests s passed =
+    let r = settings-right s passed in
+    record { sound = sound-test (record { settings = passed; in-travel = inside-test (r .origin); below = omega (arith, r .clock-some); work = refl }); idle = refl; free = refl }
+
+last-is : (q0 : ℕ) (ms : List Made) (end : End) → lastAfter 0 0 0 q0 0 ms end ≡ lastLine q0 ms end
+last-is q0 ms End.complete = total-same (omega arith) (omega arith) (omega arith)
+last-is q0 ms (End.refused n number) = refl
+
+-- from a machine made fresh
+pub listing-is : (s : Settings) → settingsNo s ≡ 0 → (text : List ℕ) → restOf (startOf (freshOf s)) text ≡ listingOf s text
+unfolding restOf startOf tallyStart listingOf jobOf freshOf rows
+listing-is s passed text = ap (λ (rest : List ℕ). headerLine ++ rest) (by (leb (length text) 65536) refl)
+  where
+    by : (short : Bool) → leb (length text) 65536 ≡ short
+        → cond short (rowsFrom (tallyStart (freshOf s)) (linesOf text)) (refusedLine 1 30)
+        ≡ (let j = cond short (jobFrom s 1 (record { x = pos 0; y = pos 0 }) unknown (linesOf text)) (record { blocks = []; end = End.refused 1 30 }) in
+        rows 1 (j .blocks) ++ lastLine (capacityOf s) (j .blocks) (j .end))
+    by true e =
+        let j = jobFrom s 1 (record { x = pos 0; y = pos 0 }) unknown (linesOf text) in
+        lists (linesOf text) (tallyStart (freshOf s)) (fresh-rests s passed)
+        (record { lines = omega arith; blocks = omega arith; cycles = omega arith; ticks = omega arith })
+        (omega (arith, lines-few text, leb-true (length text) 65536 e))
+        ∙ ap (λ (last : List ℕ). rows 1 (j .blocks) ++ last) (last-is (capacityOf s) (j .blocks) (j .end))
+    by false e = refl

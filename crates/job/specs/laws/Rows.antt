@@ -1,0 +1,113 @@
+-- The rows that the tally hands out, line by line, are the listing of the job.
+use mathlib.Core.Path.{_≡_, refl, sym}
+use mathlib.Core.Bool.{false}
+use mathlib.Core.List.{List, [], _∷_, _++_, append-assoc, append-nil}
+use Prim.Native.Nat.{ℕ, suc, _+_, _≤_}
+use native.Mathlib.Omega.{arith}
+use lib.ListN.{length}
+use Rattle.block.specs.declared.Block.{Block}
+use Rattle.block.specs.declared.Path.{Path}
+use Rattle.block.specs.Block.{blockWidth}
+use Rattle.row.specs.Lines.{totalLine, refusedLine}
+use Rattle.work.specs.declared.Work.{Work}
+use Rattle.work.specs.Work.{workAlong, begunOf}
+use Rattle.machine.specs.declared.Machine.{Machine}
+use Rattle.machine.specs.declared.settings.Settings.{Settings}
+use Rattle.machine.specs.Settings.{capacityOf}
+use Rattle.machine.specs.Machine.{movedOf}
+use Rattle.machine.specs.Calls.{loadOf}
+use Rattle.finish.specs.laws.Record.{AtRest, cycles-most, ticks-most}
+use Rattle.reader.specs.declared.Reader.{Reader}
+use Rattle.reader.specs.declared.«text_line».ReadLine.{ReadLine}
+use Rattle.reader.specs.TextLine.{readLineOf}
+use Rattle.listing.specs.declared.Tally.{Tally}
+use Rattle.listing.specs.Tally.{kindOf, listedWith, blockListed}
+use Rattle.listing.specs.laws.Counts.{Counts, counts-test}
+use Rattle.listing.specs.laws.Read.{listed}
+use Rattle.job.specs.Job.{Asks, Made, End, Job, onward, jobFrom}
+use Rattle.job.specs.Listing.{pathKind, madeLine, rows, allCycles, allTicks}
+use Rattle.job.specs.Check.{rowsFrom, unless}
+use Rattle.job.specs.laws.Ended.{Accepted, endedOf, ended, ended-rests}
+use Rattle.job.specs.laws.Asks.{Read-as, load-accepted, line-asks}
+
+-- the last line, after blocks with these totals
+abbrev pub lastAfter : (blocks cycles ticks q0 r : ℕ) → List Made → End → List ℕ
+lastAfter blocks cycles ticks q0 r ms End.complete = totalLine (blocks + length ms) (cycles + allCycles ms) (ticks + allTicks q0 r ms)
+lastAfter blocks cycles ticks q0 r ms (End.refused n number) = refusedLine n number
+
+abbrev pub lastOf : Tally → List Made → End → List ℕ
+lastOf t = lastAfter (t .blocks) (t .cycles) (t .ticks) (capacityOf (t .machine .settings)) (t .machine .remainder)
+
+abbrev pub listingAfter : Tally → Job → List ℕ
+listingAfter t j = rows (t .blocks + 1) (j .blocks) ++ lastOf t (j .blocks) (j .end)
+
+pub total-same : {a b c a′ b′ c′ : ℕ} → a ≡ a′ → b ≡ b′ → c ≡ c′ → totalLine a b c ≡ totalLine a′ b′ c′
+total-same p q r = rw (p, q, r)
+
+-- ---- a line that makes a block
+
+module _ (t : Tally) (k : Reader) (b : Block) (i : AtRest (t .machine)) (ok : Accepted (t .machine) b) where
+  abbrev made : Made
+  made = record { textLine = t .lines + 1; start = t .machine .at; block = b }
+
+  abbrev next : Tally
+  next =
+      let f = endedOf (t .machine) b in
+      record { reader = k; machine = f .machine; lines = t .lines + 1; blocks = t .blocks + 1; cycles = t .cycles + f .cycles; ticks = t .ticks + f .ticks }
+
+  kind-loaded : kindOf (loadOf (t .machine) b .machine .work) ≡ pathKind (b .path)
+  unfolding begunOf movedOf
+  kind-loaded = rw (load-accepted (t .machine) (i .sound) (i .idle) b ok) (by (b .path))
+    where
+      by : (p : Path) → kindOf (workAlong (t .machine .at) b p) ≡ pathKind p
+      by Path.Line = refl
+      by (Path.Arc turn centre) = refl
+
+  block-given : blockListed t k (loadOf (t .machine) b .machine) (blockWidth (t .machine .at) b) ≡ record { bytes = madeLine (t .blocks + 1) made; over = false; tally = next }
+  unfolding blockListed movedOf
+  block-given = rw (ended (t .machine) i b ok, kind-loaded)
+
+  counted : Counts t → t .lines + 1 ≤ 65536 → Counts next
+  counted c most =
+      let e = ended (t .machine) i b ok in
+      let few = rw e at (cycles-most (loadOf (t .machine) b .machine)) in
+      let short = rw e at (ticks-most (loadOf (t .machine) b .machine)) in
+      record { lines = omega arith; blocks = omega (arith, c .blocks); cycles = omega (arith, c .cycles); ticks = omega (arith, c .ticks) }
+
+  last-next : (ms : List Made) (end : End) → lastOf next ms end ≡ lastOf t (made ∷ ms) end
+  unfolding allCycles allTicks movedOf
+  last-next ms End.complete = total-same (omega arith) (omega arith) (omega arith)
+  last-next ms (End.refused n number) = refl
+
+  listed-next : (j : Job) → madeLine (t .blocks + 1) made ++ listingAfter next j ≡ listingAfter t (record { blocks = made ∷ j .blocks; end = j .end })
+  unfolding rows
+  listed-next j =
+      rw (last-next (j .blocks) (j .end))
+      (sym (append-assoc (madeLine (t .blocks + 1) made) (rows (t .blocks + 1 + 1) (j .blocks)) (lastOf t (made ∷ j .blocks) (j .end))))
+
+-- ---- any line
+
+abbrev pub Lists : List (List ℕ) → Tally → Type 0
+Lists ls t = AtRest (t .machine) → Counts t → t .lines + length ls ≤ 65536
+    → rowsFrom t ls ≡ listingAfter t (jobFrom (t .machine .settings) (t .lines + 1) (t .machine .at) (t .reader) ls)
+
+by-line : (t : Tally) (ls : List (List ℕ)) → AtRest (t .machine) → Counts t → t .lines + suc (length ls) ≤ 65536 → ((t′ : Tally) → Lists ls t′)
+    → {a : Asks} {r : ReadLine} → Read-as (t .machine) (t .reader) a r
+    → (let g = listedWith t (r .reader) (r .machine) (r .answer) in g .bytes ++ unless (g .over) (rowsFrom (g .tally) ls))
+    ≡ listingAfter t (onward (t .lines + 1) (t .machine .at) a (λ at k. jobFrom (t .machine .settings) (t .lines + 1 + 1) at k ls))
+unfolding rows movedOf
+by-line t ls i c most rest (Read-as.nothing k) =
+    rest (record { reader = k; machine = t .machine; lines = t .lines + 1; blocks = t .blocks; cycles = t .cycles; ticks = t .ticks }) i
+    (record { lines = omega arith; blocks = omega (arith, c .blocks); cycles = omega (arith, c .cycles); ticks = omega (arith, c .ticks) })
+    (omega arith)
+by-line t ls i c most rest (Read-as.makes k b ok) =
+    rw (block-given t k b i ok, rest (next t k b i ok) (ended-rests (t .machine) i b ok) (counted t k b i ok c (omega arith)) (omega arith))
+    (listed-next t k b i ok (jobFrom (t .machine .settings) (t .lines + 1 + 1) (b .end) k ls))
+by-line t ls i c most rest (Read-as.refuses n) = append-nil (refusedLine (t .lines + 1) n)
+
+pub lists : (ls : List (List ℕ)) (t : Tally) → Lists ls t
+unfolding rowsFrom jobFrom rows allCycles allTicks
+lists [] t i c most = total-same (omega arith) (omega arith) (omega arith)
+lists (l ∷ ls) t i c most =
+    rw (listed t l (counts-test t c) {r = readLineOf (t .reader) (t .machine) l} refl)
+    (by-line t ls i c most (lists ls) (line-asks (t .machine) (t .reader) (i .sound) (i .idle) l))

@@ -1,0 +1,37 @@
+-- `start` is right because a fresh machine's check has the listing to hand out.
+use borrow.Author.Needs.{needs}
+use Rattle.jobcheck.proofs.start.Statement.{statement}
+use Rattle.jobcheck.proofs.start.Tie as tie
+use Rattle.jobcheck.proofs.start.Reads as reads
+use Rattle.jobcheck.proofs.start.Lts as lts
+use Rattle.job.proofs.Check.start.Reads as start-reads
+use Rattle.jobcheck.proofs.settings.Reads as settings-reads
+use Rattle.machine.proofs.Machine.make.Reads as make-reads
+use Rattle.job.specs.declared.Check.{Check}
+use Rattle.job.specs.Check.{restOf, startOf}
+use mathlib.Core.Path.{_≡_, ap, _∙_}
+use Rattle.machine.specs.Settings.{standardSettings}
+use Rattle.machine.specs.Machine.{freshOf}
+use Rattle.machine.specs.Calls.{makeOf}
+use Rattle.machine.specs.laws.Sound.{standard-passes}
+use Rattle.job.specs.laws.Listing.{listing-is}
+
+settings-requires : tie.Need-settings-requires
+settings-requires c κs = search needs
+
+make-requires : tie.Need-make-requires
+make-requires c κs = search needs
+
+start-requires : tie.Need-start-requires
+start-requires c κs = search needs
+
+fresh : (c : tie.After-start) → c .start .result ≡ startOf (freshOf standardSettings)
+unfolding makeOf
+fresh c = rw (c .start .ensures, c .before .before .make .ensures, c .before .before .before .settings .ensures, standard-passes)
+
+returns : tie.Need-returns
+returns c text =
+    ap (λ (k : Check). restOf k text) (fresh c) ∙ listing-is standardSettings standard-passes text
+
+pub start-spec : {M : Type 1} → statement M
+start-spec = tie.close (tie.spec settings-requires make-requires start-requires returns)

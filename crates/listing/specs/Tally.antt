@@ -1,0 +1,81 @@
+-- What a text line adds to a listing, for any tally whatever. `Listing` says what the listing of a whole text is.
+use mathlib.Core.Path.{_≡_}
+use mathlib.Core.Bool.{Bool, true, false, cond, _&&_}
+use mathlib.Core.List.{List, []}
+use Prim.Native.Nat.{ℕ, _+_, _*_}
+use lib.Dec.{leb}
+use Rattle.row.specs.declared.lines.Kind.{Kind}
+use Rattle.row.specs.Row.{Holds}
+use Rattle.row.specs.Lines.{blockLine, refusedLine}
+use Rattle.work.specs.declared.Work.{Work}
+use Rattle.machine.specs.declared.Machine.{Machine}
+use Rattle.finish.specs.Finish.{finishOf}
+use Rattle.reader.specs.declared.Motion.{Motion}
+use Rattle.reader.specs.declared.Feed.{Feed}
+use Rattle.reader.specs.declared.Reader.{Reader}
+use Rattle.reader.specs.declared.«text_line».Read.{Read}
+use Rattle.reader.specs.TextLine.{readLineOf}
+use Rattle.listing.specs.declared.Tally.{Tally}
+use Rattle.listing.specs.declared.Listed.{Listed}
+
+-- nothing known, nothing read
+abbrev pub unknown : Reader
+unknown = record { motion = Motion.Unknown; feed = Feed.Unknown }
+
+unfoldable pub startOf : Machine → Tally
+startOf m = record { reader = unknown; machine = m; lines = 0; blocks = 0; cycles = 0; ticks = 0 }
+
+-- what a text line gives: the bytes of its row, whether the listing is over, and the tally after it
+pub record Given : Type 0 where
+  pub bytes : List ℕ
+  pub over : Bool
+  pub tally : Tally
+
+-- the code's answer says so
+pub record Gives (r : Listed) (g : Given) : Type 0 where
+  pub row : Holds (r .row) (g .bytes)
+  pub over : r .over ≡ g .over
+  pub tally : r .tally ≡ g .tally
+
+-- No block has more than 8,000,000 cycles, nor q0 more than 1,200,000: so the totals of the at most 65,536 lines of a text fit in 64 bits.
+unfoldable pub countsRight : Tally → Bool
+countsRight t =
+    leb (t .lines) 65536
+    && (leb (t .blocks) (t .lines) && (leb (t .cycles) (8000000 * t .lines) && leb (t .ticks) (9600000000000 * t .lines)))
+
+abbrev pub kindOf : Work → Kind
+kindOf Work.Nothing = Kind.Line
+kindOf (Work.Line l) = Kind.Line
+kindOf (Work.Arc a) = Kind.Arc
+
+-- 01, The check program: "Each block is loaded once the one before has ended, remainder kept."
+unfoldable pub blockListed : Tally → Reader → (loaded : Machine) → (bits : ℕ) → Given
+blockListed t k m bits =
+    let f = finishOf m in
+    record {
+      bytes = blockLine (t .blocks + 1) (t .lines + 1) (kindOf (m .work)) (f .cycles) (f .machine .at .x) (f .machine .at .y) bits;
+      over = false;
+      tally = record {
+        reader = k;
+        machine = f .machine;
+        lines = t .lines + 1;
+        blocks = t .blocks + 1;
+        cycles = t .cycles + f .cycles;
+        ticks = t .ticks + f .ticks;
+      };
+    }
+
+-- "At a refusal the rows so far stand and the last line is `line 3 refused 15` with its own numbers."
+abbrev pub listedWith : Tally → Reader → Machine → Read → Given
+listedWith t k m Read.Nothing =
+    record { bytes = []; over = false; tally = record { reader = k; machine = m; lines = t .lines + 1; blocks = t .blocks; cycles = t .cycles; ticks = t .ticks } }
+listedWith t k m (Read.Loaded bits) = blockListed t k m bits
+listedWith t k m (Read.Refused number) = record { bytes = refusedLine (t .lines + 1) number; over = true; tally = t }
+
+-- a tally that no text of 65,536 bytes can reach gets no row
+unfoldable pub listedOf : Tally → (line : List ℕ) → Given
+listedOf t line =
+    let r = readLineOf (t .reader) (t .machine) line in
+    cond (countsRight t)
+    (listedWith t (r .reader) (r .machine) (r .answer))
+    (record { bytes = []; over = true; tally = t })
