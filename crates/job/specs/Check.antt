@@ -5,9 +5,7 @@ use mathlib.Core.List.{List, [], _∷_, _++_}
 use Prim.Native.Nat.{ℕ, _+_, _-_, _≤_, _<_}
 use lib.Dec.{leb}
 use lib.ListN.{length, take, drop}
-use Rattle.row.specs.declared.Row.{Row}
-use Rattle.row.specs.declared.gather.Place.{Place}
-use Rattle.row.specs.Row.{contents}
+use Rattle.row.specs.Buffer.{placed}
 use Rattle.row.specs.Lines.{headerLine, totalLine, refusedLine}
 use Rattle.machine.specs.declared.Machine.{Machine}
 use Rattle.machine.specs.declared.settings.Settings.{Settings}
@@ -61,12 +59,8 @@ Lists s c = (text : List ℕ) → restOf c text ≡ listingOf s text
 
 -- ---- what a call hands out
 
-abbrev pub lastOf : Check → Row → Step
-lastOf c row = record { row = row; check = record { stage = Stage.Over; at = c .at; tally = c .tally } }
-
-abbrev pub nextPlace : Place → (at : ℕ) → ℕ
-nextPlace (Place.Next next) at = next
-nextPlace Place.NoRoom at = at
+abbrev pub lastOf : Check → (next : ℕ) → Step
+lastOf c next = record { next = next; check = record { stage = Stage.Over; at = c .at; tally = c .tally } }
 
 -- a step, of which at most so many are left
 abbrev pub stepsLeft : Stage → (at size : ℕ) → ℕ
@@ -74,9 +68,13 @@ stepsLeft Stage.Header at size = 2 + size
 stepsLeft Stage.Lines at size = 1 + (size - at)
 stepsLeft Stage.Over at size = 0
 
-pub record Steps (c : Check) (text : List ℕ) (s : Step) : Type 0 where
-  pub room : length (contents (s .row)) ≤ 160
-  pub bytes : contents (s .row) ++ restOf (s .check) text ≡ restOf c text
+-- the next of what is to come, written from `at` on
+pub record Steps (c : Check) (text old : List ℕ) (at : ℕ) (s : Step) (new : List ℕ) : Type 0 where
+  pub line : List ℕ
+  pub room : length line ≤ 160
+  pub buffer : new ≡ placed line old at
+  pub next : s .next ≡ at + length line
+  pub bytes : line ++ restOf (s .check) text ≡ restOf c text
   pub fewer : stepsLeft (s .check .stage) (s .check .at) (length text) < stepsLeft (c .stage) (c .at) (length text)
 
 -- A buffer's first bytes are the next of the listing, and its later ones keep their contents. How many rows it takes is free; one that holds a row

@@ -1,12 +1,12 @@
 // The check of a job text: its listing, handed out piece by piece into a lent buffer. How far it has come goes in by value and comes back by value.
 ghost use mathlib.Core.Path.{_≡_};
-ghost use mathlib.Core.Bool.{false};
-ghost use Rattle.job.specs.Check.{Steps, Fills, startOf, isOver, lastOf, nextPlace};
+ghost use mathlib.Core.Bool.{true, false};
+ghost use Rattle.row.specs.Buffer.{hasRoom};
+ghost use Rattle.job.specs.Check.{Steps, Fills, startOf, isOver, lastOf};
 use listing::Tally;
+use listing::has_room;
+use listing::next_place;
 use machine::Machine;
-use row::Row;
-use row::gather::Place;
-use row::gather::put;
 
 pub mod text;
 
@@ -24,8 +24,9 @@ pub struct Check {
     pub tally: Tally,
 }
 
+// A row written: the place after it, and how far the check has come with it.
 struct Step {
-    row: Row,
+    next: usize,
     check: Check,
 }
 
@@ -33,16 +34,6 @@ struct Step {
 pub struct Filled {
     pub len: usize,
     pub check: Check,
-}
-
-// Where the next row goes.
-fn next_place(place: Place, at: usize) -> usize
-    ensures { λ r. ⌜ r ≡ nextPlace place at ⌝ }
-{
-    match place {
-        Place::Next(next) => next,
-        Place::NoRoom => at,
-    }
 }
 
 impl Check {
@@ -70,8 +61,8 @@ impl Check {
         }
     }
 
-    fn last(self, row: Row) -> Step
-        ensures { λ r. ⌜ r ≡ lastOf self row ⌝ }
+    fn last(self, next: usize) -> Step
+        ensures { λ r. ⌜ r ≡ lastOf self next ⌝ }
     {
         let tally = self.tally;
         let check = Check {
@@ -80,29 +71,30 @@ impl Check {
             tally: tally,
         };
         Step {
-            row: row,
+            next: next,
             check: check,
         }
     }
 
     // The row of the next text line, or the total after the last one.
-    fn line(self, text: &[u8]) -> Step
-        requires { ⌜ self .stage ≡ Stage.Lines ⌝ }
-        ensures { λ r. ⌜ Steps self (now (text .entry)) r ⌝ }
+    fn line(self, text: &[u8], out: &mut [u8], place: usize) -> Step
+        requires { ⌜ (self .stage ≡ Stage.Lines) × (hasRoom (now out) place ≡ true) ⌝ }
+        ensures { λ r. ⌜ Steps self (now (text .entry)) (now (out .entry)) place r (now (out .exit)) ⌝ }
     {
         let tally = self.tally;
         if 65_536 < text.len() {
-            return self.last(row::lines::refused(1, 30));
-        }
-        if text.len() <= self.at {
-            return self.last(tally.total());
+            let refused = row::lines::refused(out, place, 1, 30);
+            return self.last(next_place(refused, place));
         }
         let at = self.at;
+        if text.len() <= at {
+            let total = tally.total(out, place);
+            return self.last(next_place(total, place));
+        }
         let end = text::line_end(text, at);
-        let l = tally.read(&text[at..end]);
-        let row = l.row;
+        let l = tally.read(&text[at..end], out, place);
         if l.over {
-            return self.last(row);
+            return self.last(l.next);
         }
         let next = l.tally;
         let check = Check {
@@ -111,18 +103,19 @@ impl Check {
             tally: next,
         };
         Step {
-            row: row,
+            next: l.next,
             check: check,
         }
     }
 
-    fn step(self, text: &[u8]) -> Step
-        requires { ⌜ isOver self ≡ false ⌝ }
-        ensures { λ r. ⌜ Steps self (now (text .entry)) r ⌝ }
+    fn step(self, text: &[u8], out: &mut [u8], place: usize) -> Step
+        requires { ⌜ (isOver self ≡ false) × (hasRoom (now out) place ≡ true) ⌝ }
+        ensures { λ r. ⌜ Steps self (now (text .entry)) (now (out .entry)) place r (now (out .exit)) ⌝ }
     {
         let stage = self.stage;
         match stage {
             Stage::Header => {
+                let header = row::lines::header(out, place);
                 let tally = self.tally;
                 let check = Check {
                     stage: Stage::Lines,
@@ -130,32 +123,30 @@ impl Check {
                     tally: tally,
                 };
                 Step {
-                    row: row::lines::header(),
+                    next: next_place(header, place),
                     check: check,
                 }
             }
-            Stage::Lines => self.line(text),
-            Stage::Over => self.last(row::lines::header()),
+            Stage::Lines => self.line(text, out, place),
+            Stage::Over => self.last(place),
         }
     }
 
-    // Fills the buffer with whole rows, as long as one more surely fits: 160 bytes hold every row.
+    // Fills the buffer with whole rows, as long as one more surely fits.
     pub fn fill(self, text: &[u8], out: &mut [u8]) -> Filled
         ensures { λ r. ⌜ Fills self (now (text .entry)) (now (out .entry)) r (now (out .exit)) ⌝ }
     {
         let mut check = self;
         let mut len = 0;
-        while 160 <= out.len() - len {
+        while has_room(out.len(), len) {
             if check.is_over() {
                 return Filled {
                     len: len,
                     check: check,
                 };
             }
-            let s = check.step(text);
-            let row = s.row;
-            let place = put(row, out, len);
-            len = next_place(place, len);
+            let s = check.step(text, out, len);
+            len = s.next;
             check = s.check;
         }
         Filled {

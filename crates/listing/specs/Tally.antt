@@ -2,10 +2,12 @@
 use mathlib.Core.Path.{_≡_}
 use mathlib.Core.Bool.{Bool, true, false, cond, _&&_}
 use mathlib.Core.List.{List, []}
-use Prim.Native.Nat.{ℕ, _+_, _*_}
+use Prim.Native.Nat.{ℕ, _+_, _*_, _≤_}
 use lib.Dec.{leb}
+use lib.ListN.{length}
 use Rattle.row.specs.declared.lines.Kind.{Kind}
-use Rattle.row.specs.Row.{Holds}
+use Rattle.row.specs.declared.lines.Place.{Place}
+use Rattle.row.specs.Buffer.{hasRoom, placed}
 use Rattle.row.specs.Lines.{blockLine, refusedLine}
 use Rattle.work.specs.declared.Work.{Work}
 use Rattle.machine.specs.declared.Machine.{Machine}
@@ -31,11 +33,17 @@ pub record Given : Type 0 where
   pub over : Bool
   pub tally : Tally
 
--- the code's answer says so
-pub record Gives (r : Listed) (g : Given) : Type 0 where
-  pub row : Holds (r .row) (g .bytes)
+-- the code's answer, and the buffer after it: the row stands from `at` on, and no row is longer than 160 bytes
+pub record Gives (g : Given) (old : List ℕ) (at : ℕ) (r : Listed) (new : List ℕ) : Type 0 where
+  pub short : length (g .bytes) ≤ 160
+  pub buffer : new ≡ placed (g .bytes) old at
+  pub next : r .next ≡ at + length (g .bytes)
   pub over : r .over ≡ g .over
   pub tally : r .tally ≡ g .tally
+
+abbrev pub nextPlace : Place → (at : ℕ) → ℕ
+nextPlace (Place.Next next) at = next
+nextPlace Place.NoRoom at = at
 
 -- No block has more than 8,000,000 cycles, nor q0 more than 1,200,000: so the totals of the at most 65,536 lines of a text fit in 64 bits.
 unfoldable pub countsRight : Tally → Bool
@@ -79,3 +87,7 @@ listedOf t line =
     cond (countsRight t)
     (listedWith t (r .reader) (r .machine) (r .answer))
     (record { bytes = []; over = true; tally = t })
+
+-- without room for a row nothing is read
+abbrev pub readOf : Tally → (line old : List ℕ) (at : ℕ) → Given
+readOf t line old at = cond (hasRoom old at) (listedOf t line) (record { bytes = []; over = false; tally = t })

@@ -2,10 +2,12 @@
 // by value beside the row, as the machine does. Blocks are not walked: each is finished by the closed forms.
 ghost use mathlib.Core.Path.{_≡_};
 ghost use mathlib.Core.Bool.{true};
-ghost use mathlib.Core.List.{[]};
-ghost use Rattle.row.specs.Row.{Holds};
+ghost use Prim.Native.Nat.{_+_, _≤_};
+ghost use lib.ListN.{length};
+ghost use lib.Dec.{leb};
 ghost use Rattle.row.specs.Lines.{totalLine};
-ghost use Rattle.listing.specs.Tally.{Gives, countsRight, kindOf, startOf, blockListed, listedOf};
+ghost use Rattle.row.specs.Buffer.{hasRoom, bufferAfter, placeAfter};
+ghost use Rattle.listing.specs.Tally.{Gives, countsRight, kindOf, nextPlace, startOf, blockListed, readOf};
 use finish::finish;
 use machine::Machine;
 use reader::Feed;
@@ -13,8 +15,8 @@ use reader::Motion;
 use reader::Reader;
 use reader::text_line::Read;
 use reader::text_line::read_line;
-use row::Row;
 use row::lines::Kind;
+use row::lines::Place;
 use work::Work;
 
 pub struct Tally {
@@ -29,9 +31,9 @@ pub struct Tally {
     pub ticks: u64,
 }
 
-// What a text line gives: its row, empty where it makes no block, and whether the listing is over with it.
+// What a text line gives: the place after its row in the buffer, the same where it makes no block, and whether the listing is over with it.
 pub struct Listed {
-    pub row: Row,
+    pub next: usize,
     pub over: bool,
     pub tally: Tally,
 }
@@ -46,12 +48,23 @@ fn kind_of(work: Work) -> Kind
     }
 }
 
-fn no_row() -> Row
-    ensures { λ r. ⌜ Holds r [] ⌝ }
+// Whether a buffer of this length has room for any row from `at` on.
+pub fn has_room(len: usize, at: usize) -> bool
+    ensures { λ r. ⌜ r ≡ leb (at + 160) len ⌝ }
 {
-    Row {
-        bytes: [0; 160],
-        len: 0,
+    if len < 160 {
+        return false;
+    }
+    at <= len - 160
+}
+
+// The place after a line; the line's own where it was not written.
+pub fn next_place(place: Place, at: usize) -> usize
+    ensures { λ r. ⌜ r ≡ nextPlace place at ⌝ }
+{
+    match place {
+        Place::Next(next) => next,
+        Place::NoRoom => at,
     }
 }
 
@@ -91,9 +104,9 @@ impl Tally {
     }
 
     // A block that a line brought into work, run to its end.
-    fn block(self, reader: Reader, loaded: Machine, bits: u64) -> Listed
-        requires { ⌜ countsRight self ≡ true ⌝ }
-        ensures { λ r. ⌜ Gives r (blockListed self reader loaded bits) ⌝ }
+    fn block(self, reader: Reader, loaded: Machine, bits: u64, out: &mut [u8], at: usize) -> Listed
+        requires { ⌜ (countsRight self ≡ true) × (hasRoom (now out) at ≡ true) ⌝ }
+        ensures { λ r. ⌜ Gives (blockListed self reader loaded bits) (now (out .entry)) at r (now (out .exit)) ⌝ }
     {
         let done = finish(loaded);
         let work = loaded.work;
@@ -101,7 +114,9 @@ impl Tally {
         let end = machine.at;
         let lines = self.lines + 1;
         let blocks = self.blocks + 1;
-        let row = row::lines::block(
+        let place = row::lines::block(
+            out,
+            at,
             blocks,
             lines,
             kind_of(work),
@@ -119,19 +134,26 @@ impl Tally {
             ticks: self.ticks + done.ticks,
         };
         Listed {
-            row: row,
+            next: next_place(place, at),
             over: false,
             tally: tally,
         }
     }
 
-    // The next text line, without its LF.
-    pub fn read(self, line: &[u8]) -> Listed
-        ensures { λ r. ⌜ Gives r (listedOf self (now (line .entry))) ⌝ }
+    // The next text line, without its LF; its row goes into the buffer from `at` on. Without room for a row nothing is read.
+    pub fn read(self, line: &[u8], out: &mut [u8], at: usize) -> Listed
+        ensures { λ r. ⌜ Gives (readOf self (now (line .entry)) (now (out .entry)) at) (now (out .entry)) at r (now (out .exit)) ⌝ }
     {
+        if !has_room(out.len(), at) {
+            return Listed {
+                next: at,
+                over: false,
+                tally: self,
+            };
+        }
         if !self.counts_right() {
             return Listed {
-                row: no_row(),
+                next: at,
                 over: true,
                 tally: self,
             };
@@ -154,24 +176,29 @@ impl Tally {
                     ticks: self.ticks,
                 };
                 Listed {
-                    row: no_row(),
+                    next: at,
                     over: false,
                     tally: tally,
                 }
             }
-            Read::Loaded(bits) => self.block(next, after, bits),
-            Read::Refused(number) => Listed {
-                row: row::lines::refused(lines, number),
-                over: true,
-                tally: self,
-            },
+            Read::Loaded(bits) => self.block(next, after, bits, out, at),
+            Read::Refused(number) => {
+                let place = row::lines::refused(out, at, lines, number);
+                Listed {
+                    next: next_place(place, at),
+                    over: true,
+                    tally: self,
+                }
+            }
         }
     }
 
     // The last row of a job that was read to its end.
-    pub fn total(self) -> Row
-        ensures { λ r. ⌜ Holds r (totalLine (self .blocks) (self .cycles) (self .ticks)) ⌝ }
+    pub fn total(self, out: &mut [u8], at: usize) -> Place
+        ensures buffer { λ r. ⌜ now (out .exit) ≡ bufferAfter (totalLine (self .blocks) (self .cycles) (self .ticks)) (now (out .entry)) at ⌝ }
+        ensures place { λ r. ⌜ r ≡ placeAfter (totalLine (self .blocks) (self .cycles) (self .ticks)) (now (out .entry)) at ⌝ }
+        ensures short { λ r. ⌜ length (totalLine (self .blocks) (self .cycles) (self .ticks)) ≤ 160 ⌝ }
     {
-        row::lines::total(self.blocks, self.cycles, self.ticks)
+        row::lines::total(out, at, self.blocks, self.cycles, self.ticks)
     }
 }

@@ -1,6 +1,5 @@
--- To be believed: Decimal, Lines, Row, Gather. Proved of them: laws.
+-- To be believed: Decimal, Lines, Buffer. Proved of them: laws.
 pub mod Decimal
 pub mod Lines
-pub mod Row
-pub mod Gather
+pub mod Buffer
 pub mod laws

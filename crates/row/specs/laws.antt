@@ -2,7 +2,7 @@ pub mod All
 pub mod Decimal
 pub mod Digits
 pub mod Lines
-pub mod Adds
-pub mod Gather
+pub mod Buffer
+pub mod Puts
 pub mod Examples
 pub mod Fields

@@ -1,9 +1,12 @@
-// The four lines of the listing, each whole.
-use crate::Row;
+// The four lines of the listing, each whole, from a place of a lent buffer on. Where the buffer is too short, it stays as it is.
 use crate::push;
 ghost use mathlib.Core.Path.{_≡_};
-ghost use Rattle.row.specs.Row.{Holds};
+ghost use Prim.Native.Nat.{_-_};
 ghost use Rattle.row.specs.Lines.{kindLetter, headerLine, blockLine, totalLine, refusedLine};
+ghost use Rattle.row.specs.Buffer.{bufferAfter, placeAfter};
+
+// 160 bytes hold every line of the listing: none takes more than 128.
+pub const ROOM: usize = 160;
 
 const BLANK: u8 = 32;
 
@@ -12,6 +15,12 @@ const LF: u8 = 10;
 pub enum Kind {
     Line,
     Arc,
+}
+
+// The place after the line, or that there is no room for every line from the given place on.
+pub enum Place {
+    Next(usize),
+    NoRoom,
 }
 
 fn letter(kind: Kind) -> u8
@@ -23,46 +32,79 @@ fn letter(kind: Kind) -> u8
     }
 }
 
-pub fn header() -> Row
-    ensures { λ r. ⌜ Holds r headerLine ⌝ }
+// How many bytes a buffer has from a place on: none where the place lies past its end.
+fn left(len: usize, at: usize) -> usize
+    ensures { λ r. ⌜ r ≡ len - at ⌝ }
 {
-    let r = push::empty();
-    push::text(r, b"block line kind cycles x y bits\n")
+    if len < at { 0 } else { len - at }
+}
+
+pub fn header(out: &mut [u8], at: usize) -> Place
+    ensures buffer { λ r. ⌜ now (out .exit) ≡ bufferAfter headerLine (now (out .entry)) at ⌝ }
+    ensures place { λ r. ⌜ r ≡ placeAfter headerLine (now (out .entry)) at ⌝ }
+{
+    if left(out.len(), at) < ROOM {
+        return Place::NoRoom;
+    }
+    let next = push::text(out, at, b"block line kind cycles x y bits\n");
+    Place::Next(next)
 }
 
 // The row of a block: its number, its line in the job text, its kind and cycles, its absolute end and the register width.
-pub fn block(block: u64, line: u64, kind: Kind, cycles: u64, x: i64, y: i64, bits: u64) -> Row
-    ensures { λ r. ⌜ Holds r (blockLine block line kind cycles x y bits) ⌝ }
+pub fn block(
+    out: &mut [u8],
+    at: usize,
+    block: u64,
+    line: u64,
+    kind: Kind,
+    cycles: u64,
+    x: i64,
+    y: i64,
+    bits: u64,
+) -> Place
+    ensures buffer { λ r. ⌜ now (out .exit) ≡ bufferAfter (blockLine block line kind cycles x y bits) (now (out .entry)) at ⌝ }
+    ensures place { λ r. ⌜ r ≡ placeAfter (blockLine block line kind cycles x y bits) (now (out .entry)) at ⌝ }
 {
-    let r0 = push::empty();
-    let r1 = push::number(r0, block, BLANK);
-    let r2 = push::number(r1, line, BLANK);
-    let r3 = push::byte(r2, letter(kind));
-    let r4 = push::byte(r3, BLANK);
-    let r5 = push::number(r4, cycles, BLANK);
-    let r6 = push::signed(r5, x, BLANK);
-    let r7 = push::signed(r6, y, BLANK);
-    push::number(r7, bits, LF)
+    if left(out.len(), at) < ROOM {
+        return Place::NoRoom;
+    }
+    let at1 = push::number(out, at, block, BLANK);
+    let at2 = push::number(out, at1, line, BLANK);
+    let at3 = push::byte(out, at2, letter(kind));
+    let at4 = push::byte(out, at3, BLANK);
+    let at5 = push::number(out, at4, cycles, BLANK);
+    let at6 = push::signed(out, at5, x, BLANK);
+    let at7 = push::signed(out, at6, y, BLANK);
+    let next = push::number(out, at7, bits, LF);
+    Place::Next(next)
 }
 
 // The last line of a job that was read to its end.
-pub fn total(blocks: u64, cycles: u64, ticks: u64) -> Row
-    ensures { λ r. ⌜ Holds r (totalLine blocks cycles ticks) ⌝ }
+pub fn total(out: &mut [u8], at: usize, blocks: u64, cycles: u64, ticks: u64) -> Place
+    ensures buffer { λ r. ⌜ now (out .exit) ≡ bufferAfter (totalLine blocks cycles ticks) (now (out .entry)) at ⌝ }
+    ensures place { λ r. ⌜ r ≡ placeAfter (totalLine blocks cycles ticks) (now (out .entry)) at ⌝ }
 {
-    let r0 = push::empty();
-    let r1 = push::text(r0, b"total ");
-    let r2 = push::number(r1, blocks, BLANK);
-    let r3 = push::number(r2, cycles, BLANK);
-    push::number(r3, ticks, LF)
+    if left(out.len(), at) < ROOM {
+        return Place::NoRoom;
+    }
+    let at1 = push::text(out, at, b"total ");
+    let at2 = push::number(out, at1, blocks, BLANK);
+    let at3 = push::number(out, at2, cycles, BLANK);
+    let next = push::number(out, at3, ticks, LF);
+    Place::Next(next)
 }
 
 // The last line of a job that was refused: where, and the number of the question.
-pub fn refused(line: u64, number: u64) -> Row
-    ensures { λ r. ⌜ Holds r (refusedLine line number) ⌝ }
+pub fn refused(out: &mut [u8], at: usize, line: u64, number: u64) -> Place
+    ensures buffer { λ r. ⌜ now (out .exit) ≡ bufferAfter (refusedLine line number) (now (out .entry)) at ⌝ }
+    ensures place { λ r. ⌜ r ≡ placeAfter (refusedLine line number) (now (out .entry)) at ⌝ }
 {
-    let r0 = push::empty();
-    let r1 = push::text(r0, b"line ");
-    let r2 = push::number(r1, line, BLANK);
-    let r3 = push::text(r2, b"refused ");
-    push::number(r3, number, LF)
+    if left(out.len(), at) < ROOM {
+        return Place::NoRoom;
+    }
+    let at1 = push::text(out, at, b"line ");
+    let at2 = push::number(out, at1, line, BLANK);
+    let at3 = push::text(out, at2, b"refused ");
+    let next = push::number(out, at3, number, LF);
+    Place::Next(next)
 }

@@ -2,19 +2,17 @@
 use mathlib.Core.Path.{_≡_, refl, sym, ap, _∙_}
 use mathlib.Core.Bool.{Bool, true, false, cond}
 use mathlib.Core.List.{List, _++_, append-assoc}
-use Prim.Native.Nat.{ℕ, suc, _+_, _-_, _≤_, _<_}
+use Prim.Native.Nat.{ℕ, suc, _+_, _≤_, _<_}
 use native.Mathlib.Omega.{arith}
-use lib.ListN.{length, take, drop, length-take, length-append}
-use lib.Seq.{length-take-le, drop-drop, drop-at}
-use borrow.Author.Tests.{le-leb}
-use Rattle.row.specs.declared.gather.Place.{Place}
-use Rattle.row.specs.Row.{contents}
-use Rattle.row.specs.Gather.{placeAfter, bufferAfter}
-use Rattle.row.specs.laws.Gather.{length-after, gathered}
+use lib.ListN.{length, take, drop, length-append}
+use lib.Seq.{length-take-le, drop-drop}
+use borrow.Author.Tests.{leb-true}
+use Rattle.row.specs.Buffer.{hasRoom}
+use Rattle.row.specs.laws.Buffer.{placed-length, placed-front, placed-rest}
 use Rattle.job.specs.declared.Check.{Check}
 use Rattle.job.specs.declared.Step.{Step}
 use Rattle.job.specs.declared.Filled.{Filled}
-use Rattle.job.specs.Check.{isOver, restOf, nextPlace, Steps, Fills}
+use Rattle.job.specs.Check.{isOver, restOf, Steps, Fills}
 
 -- so far: of the check that began as c, with the buffer as old
 pub record Filling (c : Check) (text old : List ℕ) (new : List ℕ) (check : Check) (len : ℕ) : Type 0 where
@@ -30,38 +28,20 @@ module _ {c : Check} {text old new : List ℕ} {check : Check} {len : ℕ} (f : 
   pub filling-done : (160 ≤ length old → isOver check ≡ false → 1 ≤ len) → Fills c text old (record { len = len; check = check }) new
   filling-done onward = record { bytes = f .bytes; later = f .later; room = f .room; onward = onward }
 
-  module _ (free : 160 ≤ length new - len) {s : Step} (t : Steps check text s) {next : ℕ}
-      (moved : next ≡ nextPlace (placeAfter (contents (s .row)) new len) len) where
-    abbrev line : List ℕ
-    line = contents (s .row)
-
-    fits : len + length line ≤ length new
-    fits = omega (arith, t .room)
-
-    placed : placeAfter line new len ≡ Place.Next (len + length line)
-    placed = rw (le-leb (len + length line) (length new) fits)
-
-    place : next ≡ len + length line
-    place = moved ∙ ap (λ (p : Place). nextPlace p len) placed
-
-    after : drop (len + length line) (bufferAfter line new len) ≡ drop (len + length line) new
-    after =
-        let front : length (take len new ++ line) ≡ len + length line = simp (length-append, length-take) (omega (arith, fits)) in
-        rw (le-leb (len + length line) (length new) fits) (drop-at (take len new ++ line) (drop (len + length line) new) (len + length line) front)
-
-    pub filling-on : Filling c text old (bufferAfter line new len) (s .check) next
-    filling-on =
-        rw place
-        (record {
-          bytes =
-              ap (λ (front : List ℕ). front ++ restOf (s .check) text) (gathered line new len (len + length line) placed)
-              ∙ append-assoc (take len new) line (restOf (s .check) text)
-              ∙ ap (λ (rest : List ℕ). take len new ++ rest) (t .bytes)
-              ∙ f .bytes;
-          later = after ∙ sym (drop-drop (length line) len new) ∙ ap (drop (length line)) (f .later) ∙ drop-drop (length line) len old;
-          room = omega (arith, fits, f .long);
-          long = length-after line new len ∙ f .long;
-        })
+  pub filling-on : hasRoom new len ≡ true → {s : Step} {new′ : List ℕ} → Steps check text new len s new′ → Filling c text old new′ (s .check) (s .next)
+  filling-on free {s} {new′} t =
+      let fits : len + length (t .line) ≤ length new = omega (arith, t .room, leb-true (len + 160) (length new) free) in
+      rw (t .next, t .buffer)
+      (record {
+        bytes =
+            ap (λ (front : List ℕ). front ++ restOf (s .check) text) (placed-front (t .line) new len fits)
+            ∙ append-assoc (take len new) (t .line) (restOf (s .check) text)
+            ∙ ap (λ (rest : List ℕ). take len new ++ rest) (t .bytes)
+            ∙ f .bytes;
+        later = placed-rest (t .line) new len fits ∙ sym (drop-drop (length (t .line)) len new) ∙ ap (drop (length (t .line))) (f .later) ∙ drop-drop (length (t .line)) len old;
+        room = omega (arith, f .long);
+        long = placed-length (t .line) new len fits ∙ f .long;
+      })
 
 -- ---- for programs that fill a buffer until all is handed out
 

@@ -4,62 +4,96 @@ use mathlib.Core.Bool.{true, false}
 use mathlib.Core.List.{List, _++_, append-nil}
 use Prim.Native.Nat.{ℕ, suc, _+_, _≤_, _<_}
 use native.Mathlib.Omega.{arith}
-use lib.ListN.{length, drop, length-take, length-drop, drop-of-length-le}
+use lib.ListN.{length, drop, length-drop, drop-of-length-le}
 use lib.Seq.{drop-drop}
 use borrow.Author.Tests.{le-leb, lt-leb}
-use Rattle.row.specs.declared.Row.{Row}
-use Rattle.row.specs.Row.{contents, Holds}
+use Rattle.row.specs.declared.lines.Place.{Place}
+use Rattle.row.specs.Buffer.{hasRoom, placed, bufferAfter, placeAfter}
 use Rattle.row.specs.Lines.{headerLine, totalLine, refusedLine}
+use Rattle.row.specs.laws.Buffer.{header-short, refused-short}
 use Rattle.listing.specs.declared.Listed.{Listed}
-use Rattle.listing.specs.Tally.{Gives, listedOf}
+use Rattle.listing.specs.Tally.{Gives, nextPlace, listedOf, readOf}
+use Rattle.listing.specs.laws.Read.{written, goes-on}
 use Rattle.job.specs.declared.Stage.{Stage}
 use Rattle.job.specs.declared.Check.{Check}
 use Rattle.job.specs.Text.{firstLine, linesOf}
 use Rattle.job.specs.Check.{rowsFrom, unless, restOf, lastOf, Steps}
 use Rattle.job.specs.laws.Text.{lines-next}
 
-held-short : {r : Row} {line : List ℕ} → Holds r line → length (contents r) ≤ 160
-held-short {r} h = rw (length-take (r .len) (r .bytes)) (omega (arith, h .room))
+-- a line that one of row's functions wrote, where there was room
+pub record Wrote (line old : List ℕ) (at : ℕ) (p : Place) (new : List ℕ) : Type 0 where
+  pub room : hasRoom old at ≡ true
+  pub buffer : new ≡ bufferAfter line old at
+  pub place : p ≡ placeAfter line old at
 
-module _ (c : Check) (text : List ℕ) where
-  pub step-header : {row : Row} → c .stage ≡ Stage.Header → Holds row headerLine
-      → Steps c text (record { row = row; check = record { stage = Stage.Lines; at = c .at; tally = c .tally } })
+module _ (c : Check) (text old : List ℕ) (at : ℕ) {new : List ℕ} where
+  pub step-header : {p : Place} → c .stage ≡ Stage.Header → Wrote headerLine old at p new
+      → Steps c text old at (record { next = nextPlace p at; check = record { stage = Stage.Lines; at = c .at; tally = c .tally } }) new
   unfolding restOf
-  step-header e h = record { room = held-short h; bytes = rw (e, h .bytes); fewer = rw e (omega arith) }
+  step-header e w =
+      record {
+        line = headerLine;
+        room = header-short;
+        buffer = w .buffer ∙ written headerLine old at (w .room);
+        next = goes-on headerLine old at (w .room) (w .place);
+        bytes = rw e;
+        fewer = rw e (omega arith);
+      }
 
   module _ (lines : c .stage ≡ Stage.Lines) where
     -- the last row
-    last : {row : Row} {line : List ℕ} → Holds row line → line ≡ restOf c text → Steps c text (lastOf c row)
+    last : {next : ℕ} (line : List ℕ) → length line ≤ 160 → new ≡ placed line old at → next ≡ at + length line → line ≡ restOf c text → Steps c text old at (lastOf c next) new
     unfolding restOf
-    last {row} h e = record { room = held-short h; bytes = append-nil (contents row) ∙ h .bytes ∙ e; fewer = rw lines (omega arith) }
+    last line short buffer next e = record { line = line; room = short; buffer = buffer; next = next; bytes = append-nil line ∙ e; fewer = rw lines (omega arith) }
 
-    pub step-long : {row : Row} → 65536 < length text → Holds row (refusedLine 1 30) → Steps c text (lastOf c row)
+    last-written : {p : Place} (line : List ℕ) → length line ≤ 160 → Wrote line old at p new → line ≡ restOf c text → Steps c text old at (lastOf c (nextPlace p at)) new
+    last-written line short w e = last line short (w .buffer ∙ written line old at (w .room)) (goes-on line old at (w .room) (w .place)) e
+
+    pub step-long : {p : Place} → 65536 < length text → Wrote (refusedLine 1 30) old at p new → Steps c text old at (lastOf c (nextPlace p at)) new
     unfolding restOf
-    step-long long h = last h (rw (lines, lt-leb (length text) 65536 long))
+    step-long long w = last-written (refusedLine 1 30) (refused-short 1 30 (omega arith) (omega arith)) w (rw (lines, lt-leb (length text) 65536 long))
 
     module _ (short : length text ≤ 65536) where
-      pub step-total : {row : Row} → length text ≤ c .at → Holds row (totalLine (c .tally .blocks) (c .tally .cycles) (c .tally .ticks)) → Steps c text (lastOf c row)
+      pub step-total : {p : Place}
+          → (let line = totalLine (c .tally .blocks) (c .tally .cycles) (c .tally .ticks) in
+          length line ≤ 160 → length text ≤ c .at → Wrote line old at p new → Steps c text old at (lastOf c (nextPlace p at)) new)
       unfolding restOf rowsFrom linesOf
-      step-total end h = last h (rw (lines, le-leb (length text) 65536 short, drop-of-length-le text end))
+      step-total few end w =
+          last-written (totalLine (c .tally .blocks) (c .tally .cycles) (c .tally .ticks)) few w
+          (rw (lines, le-leb (length text) 65536 short, drop-of-length-le text end))
 
-      module _ {l : Listed} {end : ℕ} (more : c .at < length text) (first : end ≡ c .at + length (firstLine (drop (c .at) text)))
-          (g : Gives l (listedOf (c .tally) (firstLine (drop (c .at) text)))) where
-        after : drop (suc (length (firstLine (drop (c .at) text)))) (drop (c .at) text) ≡ drop (end + 1) text
+      module _ {l : Listed} {end : ℕ} (room : hasRoom old at ≡ true) (more : c .at < length text) (first : end ≡ c .at + length (firstLine (drop (c .at) text)))
+          (read : Gives (readOf (c .tally) (firstLine (drop (c .at) text)) old at) old at l new) where
+        abbrev line : List ℕ
+        line = firstLine (drop (c .at) text)
+
+        g : Gives (listedOf (c .tally) line) old at l new
+        g = rw room at read
+
+        after : drop (suc (length line)) (drop (c .at) text) ≡ drop (end + 1) text
         after =
-            let same : c .at + suc (length (firstLine (drop (c .at) text))) ≡ end + 1 = omega (arith, first) in
+            let same : c .at + suc (length line) ≡ end + 1 = omega (arith, first) in
             drop-drop _ (c .at) text ∙ ap (λ (n : ℕ). drop n text) same
 
         -- what was to come, cut after the next line
-        cut : restOf c text ≡ listedOf (c .tally) (firstLine (drop (c .at) text)) .bytes ++ unless (l .over) (rowsFrom (l .tally) (linesOf (drop (end + 1) text)))
+        cut : restOf c text ≡ listedOf (c .tally) line .bytes ++ unless (l .over) (rowsFrom (l .tally) (linesOf (drop (end + 1) text)))
         unfolding restOf rowsFrom
         cut = rw (lines, le-leb (length text) 65536 short, lines-next (drop (c .at) text) (rw (length-drop (c .at) text) (omega arith)), after, g .over, g .tally)
 
-        pub step-refused : l .over ≡ true → Steps c text (lastOf c (l .row))
-        step-refused e = last (g .row) (sym (append-nil _) ∙ sym (rw e at cut))
+        pub step-refused : l .over ≡ true → Steps c text old at (lastOf c (l .next)) new
+        step-refused e = last (listedOf (c .tally) line .bytes) (g .short) (g .buffer) (g .next) (sym (append-nil _) ∙ sym (rw e at cut))
 
-        goes-on : l .over ≡ false → contents (l .row) ++ restOf (record { stage = Stage.Lines; at = end + 1; tally = l .tally }) text ≡ restOf c text
+        onward : l .over ≡ false → listedOf (c .tally) line .bytes ++ restOf (record { stage = Stage.Lines; at = end + 1; tally = l .tally }) text ≡ restOf c text
         unfolding restOf
-        goes-on e = rw (g .row .bytes, le-leb (length text) 65536 short) (sym (rw e at cut))
+        onward e = rw (le-leb (length text) 65536 short) (sym (rw e at cut))
 
-        pub step-line : l .over ≡ false → Steps c text (record { row = l .row; check = record { stage = Stage.Lines; at = end + 1; tally = l .tally } })
-        step-line e = record { room = held-short (g .row); bytes = goes-on e; fewer = rw lines (omega (arith, first)) }
+        pub step-line : l .over ≡ false → Steps c text old at (record { next = l .next; check = record { stage = Stage.Lines; at = end + 1; tally = l .tally } }) new
+        step-line e =
+            record {
+              line = listedOf (c .tally) line .bytes;
+              room = g .short;
+              buffer = g .buffer;
+              next = g .next;
+              bytes = onward e;
+              fewer = rw lines (omega (arith, first));
+            }

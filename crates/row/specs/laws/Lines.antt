@@ -1,4 +1,4 @@
--- The lines of the listing: each has one LF, its last byte, and each fits the 160 bytes of a row.
+-- The lines of the listing: each has one LF, its last byte, and none takes more than 128 bytes.
 use Prim.Native.Nat.{ℕ, suc, _+_, _≤_, _<_}
 use mathlib.Core.Path.{_≡_, refl, sym, ap, _∙_}
 use mathlib.Core.List.{List, [], _∷_, _++_, append-assoc}

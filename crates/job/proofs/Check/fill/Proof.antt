@@ -5,14 +5,14 @@ use Rattle.job.proofs.Check.fill.Reads as reads
 use Rattle.job.proofs.Check.fill.Lts as lts
 use Rattle.job.proofs.Check.is_over.Reads as is-over-reads
 use Rattle.job.proofs.Check.step.Reads as step-reads
-use Rattle.job.proofs.next_place.Reads as next-place-reads
-use Rattle.row.proofs.gather.put.Reads as put-reads
-use mathlib.Core.Path.{sym, ap, _∙_}
+use Rattle.listing.proofs.has_room.Reads as has-room-reads
+use mathlib.Core.Path.{sym, _∙_}
 use mathlib.Core.Bool.{true≢false}
 use native.Mathlib.Omega.{arith}
+use Prim.Native.Nat.{_+_}
 use lib.ListN.{length}
-use Rattle.job.specs.Check.{stepsLeft, nextPlace}
-use Rattle.row.specs.declared.gather.Place.{Place}
+use borrow.Author.Tests.{leb-false}
+use Rattle.job.specs.Check.{stepsLeft}
 use Rattle.job.specs.laws.Fill.{Filling, filling-start, filling-done, filling-on}
 
 abbrev Inv-loop : tie.InvT-loop
@@ -24,42 +24,35 @@ abbrev μ-loop : tie.MeasureT-loop
 loop-holds : tie.Need-loop-holds Inv-loop μ-loop
 loop-holds c = filling-start _ _ _
 
-sub-loop : tie.Need-sub-loop Inv-loop μ-loop
-sub-loop c = let i = c .loop .inv in omega (arith, i .room, i .long)
+has-room-requires : tie.Need-has-room-requires Inv-loop μ-loop
+has-room-requires c κs = tt
 
 is-over-requires : tie.Need-is-over-requires Inv-loop μ-loop
 is-over-requires c κs = tt
 
 same-length : tie.Need-same-length Inv-loop μ-loop
-same-length c = c .before .before .before .loop .inv .long
+same-length c = c .before .before .before .before .loop .inv .long
 
 returns : tie.Need-returns Inv-loop μ-loop
-returns c = filling-done (c .before .before .before .loop .inv) (λ room going. absurd (true≢false (sym (c .if1 .taken) ∙ c .before .is-over .ensures ∙ going)))
+returns c = filling-done (c .before .before .before .before .loop .inv) (λ room going. absurd (true≢false (sym (c .if2 .taken) ∙ c .before .is-over .ensures ∙ going)))
 
 step-requires : tie.Need-step-requires Inv-loop μ-loop
-step-requires c κs = sym (c .before .is-over .ensures) ∙ c .if1 .left
-
-put-requires : tie.Need-put-requires Inv-loop μ-loop
-put-requires c κs = tt
-
-next-place-requires : tie.Need-next-place-requires Inv-loop μ-loop
-next-place-requires c κs = tt
+step-requires c κs = (sym (c .before .before .is-over .ensures) ∙ c .before .if2 .left, sym (c .before .before .before .before .has-room .ensures) ∙ c .before .before .before .if1 .taken)
 
 loop-less : tie.Need-loop-less Inv-loop μ-loop
-loop-less c = c .before .before .before .before .before .before .before .step .ensures .fewer
+loop-less c = c .before .before .before .step .ensures .fewer
 
 loop-again : tie.Need-loop-again Inv-loop μ-loop
-loop-again c =
-    let turn = c .before .before .before .before .before .before .before .before .before .before .before .loop in
-    let put = c .before .before .before .before .put in
-    rw (put .ensures .0)
-    (filling-on (turn .inv) (omega arith) (c .before .before .before .before .before .before .before .step .ensures) (c .before .next-place .ensures ∙ ap (λ (p : Place). nextPlace p (turn .len)) (put .ensures .1)))
+loop-again c = let turn = c .before .before .before .before .before .before .before .before .before in
+    filling-on (turn .loop .inv) (sym (c .before .before .before .before .before .before .before .before .has-room .ensures) ∙ c .before .before .before .before .before .before .before .if1 .taken) (c .before .before .before .step .ensures)
 
 same-length-2 : tie.Need-same-length-2 Inv-loop μ-loop
-same-length-2 c = c .before .loop .inv .long
+same-length-2 c = c .before .before .loop .inv .long
 
 returns-2 : tie.Need-returns-2 Inv-loop μ-loop
-returns-2 c = let i = c .before .loop .inv in filling-done i (λ room going. omega (arith, i .long))
+returns-2 c =
+    let l = c .before .before .loop in
+    filling-done (l .inv) (λ room going. omega (arith, l .inv .long, leb-false (l .len + 160) (length (l .out)) (sym (c .before .has-room .ensures) ∙ c .if1 .left)))
 
 pub fill-spec : {M : Type 1} → statement M
 fill-spec =
@@ -68,13 +61,11 @@ fill-spec =
     Inv-loop
     μ-loop
     loop-holds
-    sub-loop
+    has-room-requires
     is-over-requires
     same-length
     returns
     step-requires
-    put-requires
-    next-place-requires
     loop-less
     loop-again
     same-length-2

@@ -8,16 +8,17 @@ use Rattle.job.proofs.Check.last.Reads as last-reads
 use Rattle.job.proofs.text.line_end.Reads as line-end-reads
 use Rattle.listing.proofs.Tally.read.Reads as read-reads
 use Rattle.listing.proofs.Tally.total.Reads as total-reads
+use Rattle.listing.proofs.next_place.Reads as next-place-reads
 use Rattle.row.proofs.lines.refused.Reads as refused-reads
 use mathlib.Core.Path.{subst}
+use mathlib.Core.List.{List}
+use Prim.Native.Nat.{ℕ, _≤_}
 use native.Mathlib.Omega.{arith}
-use Rattle.job.specs.laws.Step.{step-long, step-total, step-refused, step-line}
 use lib.ListN.{length, drop, length-drop}
-use Rattle.listing.specs.Tally.{Gives, listedOf}
+use Rattle.listing.specs.Tally.{Gives, readOf}
 use Rattle.job.specs.Text.{firstLine}
 use Rattle.job.specs.laws.Text.{first-short, slice-first}
-use Prim.Native.Nat.{ℕ, _≤_}
-use mathlib.Core.List.{List}
+use Rattle.job.specs.laws.Step.{step-long, step-total, step-refused, step-line}
 
 -- the line's end is in the text
 end-within : (c : tie.After-line-end) → c .line-end .result ≤ length (c .before .before .before .before .before .before .args .text .now)
@@ -27,28 +28,48 @@ end-within c =
     omega (arith, c .line-end .ensures, first-short (drop (s .args .self .at) text), length-drop (s .args .self .at) text)
 
 -- the slice is the line
-given : (c : tie.After-read) → Gives (c .read .result) (listedOf (c .before .before .before .before .before .before .before .before .args .self .tally) (firstLine (drop (c .before .before .before .before .before .before .before .before .args .self .at) (c .before .before .before .before .before .before .before .before .args .text .now))))
+given : (c : tie.After-read) → let s = c .before .before .before .before .before .before .before .before .before .args in Gives (readOf (s .self .tally) (firstLine (drop (s .self .at) (s .text .now))) (s .out .now) (s .place)) (s .out .now) (s .place) (c .read .result) (c .read .last .1 .1 .0)
 given c =
-    let s = c .before .before .before .before .before .before .before .before in
-    subst (λ (line : List ℕ). Gives (c .read .result) (listedOf (s .args .self .tally) line)) (slice-first (s .args .text .now) (s .args .self .at) (c .before .before .line-end .ensures)) (c .read .ensures)
+    let s = c .before .before .before .before .before .before .before .before .before .args in
+    subst (λ (line : List ℕ). Gives (readOf (s .self .tally) line (s .out .now) (s .place)) (s .out .now) (s .place) (c .read .result) (c .read .last .1 .1 .0))
+    (slice-first (s .text .now) (s .self .at) (c .before .before .before .line-end .ensures)) (c .read .ensures)
 
 refused-requires : tie.Need-refused-requires
 refused-requires c κs = search needs
 
+next-place-requires : tie.Need-next-place-requires
+next-place-requires c κs = search needs
+
 last-requires : tie.Need-last-requires
 last-requires c κs = search needs
 
+same-length : tie.Need-same-length
+same-length c = search needs
+
 returns : tie.Need-returns
-returns c = rw (c .last .ensures) (step-long _ _ (c .before .before .before .before .before .pre) (omega arith) (c .before .refused .ensures))
+returns c = let s = c .before .before .before .before .before .before .before .before .before .before in
+    let w = c .before .before .before .before .refused in
+    rw (c .last .ensures, c .before .next-place .ensures)
+    (step-long (s .args .self) (s .args .text .now) (s .args .out .now) (s .args .place) (s .pre .0) (omega arith) (record { room = s .pre .1; buffer = w .ensures .0; place = w .ensures .1 }))
 
 total-requires : tie.Need-total-requires
 total-requires c κs = search needs
 
+next-place-requires-2 : tie.Need-next-place-requires-2
+next-place-requires-2 c κs = search needs
+
 last-requires-2 : tie.Need-last-requires-2
 last-requires-2 c κs = search needs
 
+same-length-2 : tie.Need-same-length-2
+same-length-2 c = search needs
+
 returns-2 : tie.Need-returns-2
-returns-2 c = rw (c .last2 .ensures) (step-total _ _ (c .before .before .before .before .before .before .before .pre) (omega arith) (omega arith) (c .before .total .ensures))
+returns-2 c = let s = c .before .before .before .before .before .before .before .before .before .before .before in
+    let w = c .before .before .before .before .total in
+    rw (c .last2 .ensures, c .before .next-place2 .ensures)
+    (step-total (s .args .self) (s .args .text .now) (s .args .out .now) (s .args .place) (s .pre .0) (omega arith) (w .ensures .1 .1) (omega arith)
+    (record { room = s .pre .1; buffer = w .ensures .0; place = w .ensures .1 .0 }))
 
 line-end-requires : tie.Need-line-end-requires
 line-end-requires c κs = search needs
@@ -68,28 +89,39 @@ read-requires c κs = search needs
 last-requires-3 : tie.Need-last-requires-3
 last-requires-3 c κs = search needs
 
-returns-3 : tie.Need-returns-3
-returns-3 c =
-    let r = c .before .before .before in
-    rw (c .last3 .ensures) (step-refused _ _ (r .before .before .before .before .before .before .before .before .pre) (omega arith) (omega arith) (r .before .before .line-end .ensures) (given r) (c .before .if3 .taken))
+same-length-3 : tie.Need-same-length-3
+same-length-3 c = search needs
 
-add-t10 : tie.Need-add-t10
-add-t10 c = omega (arith, end-within (c .before .before .before .before .before))
+returns-3 : tie.Need-returns-3
+returns-3 c = let r = c .before .before .before .before in
+    let s = r .before .before .before .before .before .before .before .before .before in
+    rw (c .last3 .ensures)
+    (step-refused (s .args .self) (s .args .text .now) (s .args .out .now) (s .args .place) (s .pre .0) (omega arith) (s .pre .1) (omega arith) (r .before .before .before .line-end .ensures) (given r) (c .before .if3 .taken))
+
+add-t13 : tie.Need-add-t13
+add-t13 c = omega (arith, end-within (c .before .before .before .before .before .before .before))
+
+same-length-4 : tie.Need-same-length-4
+same-length-4 c = search needs
 
 returns-4 : tie.Need-returns-4
-returns-4 c =
-    let r = c .before .before .before in
-    step-line _ _ (r .before .before .before .before .before .before .before .before .pre) (omega arith) (omega arith) (r .before .before .line-end .ensures) (given r) (c .before .if3 .left)
+returns-4 c = let r = c .before .before .before .before in
+    let s = r .before .before .before .before .before .before .before .before .before in
+    step-line (s .args .self) (s .args .text .now) (s .args .out .now) (s .args .place) (s .pre .0) (omega arith) (s .pre .1) (omega arith) (r .before .before .before .line-end .ensures) (given r) (c .before .if3 .left)
 
 pub line-spec : {M : Type 1} → statement M
 line-spec =
     tie.close
     (tie.spec
     refused-requires
+    next-place-requires
     last-requires
+    same-length
     returns
     total-requires
+    next-place-requires-2
     last-requires-2
+    same-length-2
     returns-2
     line-end-requires
     sub-read
@@ -97,6 +129,8 @@ line-spec =
     part-read-end
     read-requires
     last-requires-3
+    same-length-3
     returns-3
-    add-t10
+    add-t13
+    same-length-4
     returns-4)

@@ -6,28 +6,54 @@ use Rattle.listing.proofs.Tally.block.Reads as reads
 use Rattle.listing.proofs.Tally.block.Lts as lts
 use Rattle.finish.proofs.finish.Reads as finish-reads
 use Rattle.listing.proofs.kind_of.Reads as kind-of-reads
+use Rattle.listing.proofs.next_place.Reads as next-place-reads
 use Rattle.row.proofs.lines.block.Reads as block-reads
-use native.Mathlib.Omega.{arith}
 use mir.Syntax.{w64}
 use mir.Val.{SFits}
 use mir.Facts.{toZ-ofZ}
-use Prim.Native.Nat.{_+_}
-use Rattle.row.specs.Row.{Holds}
+use mathlib.Core.Path.{_≡_, refl, _∙_}
+use Prim.Native.Nat.{_+_, _≤_}
+use native.Mathlib.Omega.{arith}
+use mathlib.Core.List.{List}
+use Prim.Native.Nat.{ℕ}
+use lib.ListN.{length}
 use Rattle.row.specs.Lines.{blockLine}
-use mathlib.Core.Path.{refl}
+use Rattle.row.specs.Buffer.{bufferAfter, placeAfter}
+use Rattle.row.specs.laws.Buffer.{block-short}
 use Rattle.finish.specs.laws.Record.{cycles-most, ticks-most}
 use Rattle.listing.specs.Tally.{blockListed}
 use Rattle.listing.specs.laws.Counts.{Room, room}
+use Rattle.listing.specs.laws.Read.{written, goes-on}
 
 -- the totals have room for the block
-has-room : (c : tie.After-finish) → Room (c .before .args .self) (c .finish .result .cycles) (c .finish .result .ticks)
-has-room c = rw (c .finish .ensures) (room _ _ _ (c .before .pre) (cycles-most _) (ticks-most _))
+has-room : (c : tie.After-finish) → Room (c .before .before .args .self) (c .finish .result .cycles) (c .finish .result .ticks)
+has-room c = rw (c .finish .ensures) (room _ _ _ (c .before .before .pre .0) (cycles-most _) (ticks-most _))
 
-printed : (c : tie.After-block) → Holds (c .block .result) (blockLine (c .before .before .before .before .before .before .before .before .before .args .self .blocks + 1) (c .before .before .before .before .before .before .before .before .before .args .self .lines + 1) (c .before .before .before .kind-of .result) (c .before .before .before .before .before .before .before .before .finish .result .cycles) (c .before .before .before .before .before .before .before .before .finish .result .machine .at .x) (c .before .before .before .before .before .before .before .before .finish .result .machine .at .y) (c .before .before .before .before .before .before .before .before .before .args .bits))
-printed c =
-    let x : SFits w64 (c .before .before .before .before .before .before .before .before .finish .result .machine .at .x) = search needs in
-    let y : SFits w64 (c .before .before .before .before .before .before .before .before .finish .result .machine .at .y) = search needs in
-    simp toZ-ofZ at (c .block .ensures)
+-- the row, with the end's numbers as the code holds them
+abbrev line : tie.After-block → List ℕ
+line c =
+    let s = c .before .before .before .before .before .before .before .before .before .before .before .args in
+    let f = c .before .before .before .before .before .before .before .before .before .finish .result in
+    blockLine (s .self .blocks + 1) (s .self .lines + 1) (c .before .before .before .kind-of .result) (f .cycles) (f .machine .at .x) (f .machine .at .y) (s .bits)
+
+line-short : (c : tie.After-block) → length (line c) ≤ 160
+line-short c =
+    let s = c .before .before .before .before .before .before .before .before .before .before .before .args in
+    let f = c .before .before .before .before .before .before .before .before .before .finish .result in
+    block-short (s .self .blocks + 1) (s .self .lines + 1) (c .before .before .before .kind-of .result) (f .cycles) (f .machine .at .x) (f .machine .at .y) (s .bits)
+    (omega (arith, has-room (c .before .before .before .before .before .before .before .before .before) .blocks)) (omega (arith, has-room (c .before .before .before .before .before .before .before .before .before) .lines)) (omega (arith, has-room (c .before .before .before .before .before .before .before .before .before) .cycles)) (search needs) (search needs) (search needs)
+
+buffer-is : (c : tie.After-block) → c .block .last .0 ≡ bufferAfter (line c) (c .before .before .before .before .before .before .before .before .before .before .before .args .out .now) (c .before .before .before .before .before .before .before .before .before .before .before .args .at)
+buffer-is c =
+    let x : SFits w64 (c .before .before .before .before .before .before .before .before .before .finish .result .machine .at .x) = search needs in
+    let y : SFits w64 (c .before .before .before .before .before .before .before .before .before .finish .result .machine .at .y) = search needs in
+    simp toZ-ofZ at (c .block .ensures .0)
+
+place-is : (c : tie.After-block) → c .block .result ≡ placeAfter (line c) (c .before .before .before .before .before .before .before .before .before .before .before .args .out .now) (c .before .before .before .before .before .before .before .before .before .before .before .args .at)
+place-is c =
+    let x : SFits w64 (c .before .before .before .before .before .before .before .before .before .finish .result .machine .at .x) = search needs in
+    let y : SFits w64 (c .before .before .before .before .before .before .before .before .before .finish .result .machine .at .y) = search needs in
+    simp toZ-ofZ at (c .block .ensures .1)
 
 finish-requires : tie.Need-finish-requires
 finish-requires c κs = search needs
@@ -44,15 +70,32 @@ kind-of-requires c κs = search needs
 block-requires : tie.Need-block-requires
 block-requires c κs = search needs
 
-add-t14 : tie.Need-add-t14
-add-t14 c = omega (arith, has-room (c .before .before .before .before .before .before .before .before .before .before) .cycles)
+add-t18 : tie.Need-add-t18
+add-t18 c = omega (arith, has-room (c .before .before .before .before .before .before .before .before .before .before .before .before .before) .cycles)
 
-add-t15 : tie.Need-add-t15
-add-t15 c = omega (arith, has-room (c .before .before .before .before .before .before .before .before .before .before .before .before) .ticks)
+add-t19 : tie.Need-add-t19
+add-t19 c = omega (arith, has-room (c .before .before .before .before .before .before .before .before .before .before .before .before .before .before .before) .ticks)
+
+next-place-requires : tie.Need-next-place-requires
+next-place-requires c κs = search needs
+
+same-length : tie.Need-same-length
+same-length c = search needs
 
 returns : tie.Need-returns
 unfolding blockListed
-returns c = rw (← c .before .before .before .before .before .before .before .before .before .before .before .before .finish .ensures) (record { row = rw (← c .before .before .before .before .before .before .before .kind-of .ensures) (printed (c .before .before .before .before)); over = refl; tally = refl })
+returns c =
+    let b = c .before .before .before .before .before .before .before in
+    let s = c .before .before .before .before .before .before .before .before .before .before .before .before .before .before .before .before .before .before in
+    let room = s .pre .1 in
+    rw (← c .before .before .before .before .before .before .before .before .before .before .before .before .before .before .before .before .finish .ensures)
+    (record {
+      short = rw (← c .before .before .before .before .before .before .before .before .before .before .kind-of .ensures) (line-short b);
+      buffer = rw (← c .before .before .before .before .before .before .before .before .before .before .kind-of .ensures) (buffer-is b ∙ written (line b) (s .args .out .now) (s .args .at) room);
+      next = rw (← c .before .before .before .before .before .before .before .before .before .before .kind-of .ensures) (c .next-place .ensures ∙ goes-on (line b) (s .args .out .now) (s .args .at) room (place-is b));
+      over = refl;
+      tally = refl;
+    })
 
 pub block-spec : {M : Type 1} → statement M
 block-spec =
@@ -63,6 +106,8 @@ block-spec =
     add-blocks
     kind-of-requires
     block-requires
-    add-t14
-    add-t15
+    add-t18
+    add-t19
+    next-place-requires
+    same-length
     returns)

@@ -1,13 +1,19 @@
 -- `block` is right because its pieces, one after the other, are the fields of the line with what stands between them.
 use native.Mathlib.Omega.{arith}
 use mir.Facts.{toZ-ofZ}
-use Rattle.row.specs.laws.Adds.{_then_, holds}
+use Rattle.row.specs.Lines.{blockLine}
+use Rattle.row.specs.laws.Puts.{_then_, with-room, without-room}
 use borrow.Author.Needs.{needs}
 use Rattle.row.proofs.lines.block.Statement.{statement}
 use Rattle.row.proofs.lines.block.Tie as tie
 
-empty-requires : tie.Need-empty-requires
-empty-requires c κs = search needs
+left-requires : tie.Need-left-requires
+left-requires c κs = search needs
+
+returns : tie.Need-returns
+returns c =
+    let a = c .before .before .before .args in
+    without-room (a .out .now) (a .at) (blockLine (a .block) (a .line) (a .kind) (a .cycles) (a .x) (a .y) (a .bits)) (omega arith)
 
 number-requires : tie.Need-number-requires
 number-requires c κs = search needs
@@ -34,26 +40,50 @@ signed-requires-2 : tie.Need-signed-requires-2
 signed-requires-2 c κs = search needs
 
 number-requires-4 : tie.Need-number-requires-4
-number-requires-4 c κs = search needs
+number-requires-4 c κs =
+    let y = c .before .before .before in
+    let x = y .before .before .before .before in
+    let cycles = x .before .before .before .before in
+    let blank = cycles .before .before .before .before in
+    let kind = blank .before .before .before .before in
+    let line = kind .before .before .before .before .before in
+    let block = line .before .before .before .before in
+    let room = block .before .before in
+    let first = block .number .ensures then line .number2 .ensures then kind .byte .ensures then blank .byte2 .ensures in
+    let all = first then cycles .number3 .ensures then x .signed .ensures then y .signed2 .ensures in
+    omega (arith, all .most, all .len, room .if1 .left, room .before .left .ensures)
 
-returns : tie.Need-returns
-returns c =
-    let d = c .before .before .before .before in
-    let start = d .before .before .before .before .before .before in
+same-length : tie.Need-same-length
+same-length c = search needs
+
+returns-2 : tie.Need-returns-2
+returns-2 c =
+    let bits = c .before .before in
+    let y = bits .before .before .before .before in
+    let x = y .before .before .before .before in
+    let cycles = x .before .before .before .before in
+    let blank = cycles .before .before .before .before in
+    let kind = blank .before .before .before .before in
+    let line = kind .before .before .before .before .before in
+    let block = line .before .before .before .before in
+    let room = block .before .before in
+    let start = room .before .before .before in
+    let a = start .args in
     let fits-x = start .fits .x in
     let fits-y = start .fits .y in
-    let kind = rw (d .before .before .letter .ensures) at (d .before .byte .ensures) in
-    let x = simp toZ-ofZ at (c .before .before .signed .ensures) in
-    let y = simp toZ-ofZ at (c .before .signed2 .ensures) in
-    let later = c .before .before .before .number3 .ensures then x then y then c .number4 .ensures in
-    let all = d .before .before .before .before .number .ensures then d .before .before .before .number2 .ensures then kind then d .byte2 .ensures then later in
-    holds (d .before .before .before .before .before .empty .ensures) all (omega arith)
+    let letter = rw (kind .before .letter .ensures) at (kind .byte .ensures) in
+    let end-x = simp toZ-ofZ at (x .signed .ensures) in
+    let end-y = simp toZ-ofZ at (y .signed2 .ensures) in
+    let later = cycles .number3 .ensures then end-x then end-y then bits .number4 .ensures in
+    with-room (a .out .now) (a .at) (omega (arith, room .if1 .left, room .before .left .ensures))
+    (block .number .ensures then line .number2 .ensures then letter then blank .byte2 .ensures then later)
 
 pub block-spec : {M : Type 1} → statement M
 block-spec =
     tie.close
     (tie.spec
-    empty-requires
+    left-requires
+    returns
     number-requires
     number-requires-2
     letter-requires
@@ -63,4 +93,5 @@ block-spec =
     signed-requires
     signed-requires-2
     number-requires-4
-    returns)
+    same-length
+    returns-2)

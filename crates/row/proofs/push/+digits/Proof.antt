@@ -3,7 +3,7 @@ use native.Mathlib.Omega.{arith}
 use borrow.Author.Needs.{needs}
 use lib.ListN.{length-append}
 use Rattle.row.specs.laws.Decimal.{decimal-small, decimal-large, length-small, length-large}
-use Rattle.row.specs.laws.Adds.{_then_}
+use Rattle.row.specs.laws.Puts.{_then_}
 use Prim.Native.Nat.{ℕ, _<_}
 use borrow.Fn.Kinds.{In}
 use borrow.Fn.PlainCycle.{Measures, is, falls, and}
@@ -14,14 +14,14 @@ use Rattle.row.proofs.push.byte.Reads as byte-reads
 use Rattle.row.proofs.push.+digits.{statement}
 use Rattle.row.proofs.push.+digits.Tie.{close}
 
-abbrev μ-digits : Measures 0 digits-kinds.ps ℕ
-μ-digits κs a = a .1 .0
+abbrev μ-digits : Measures 1 digits-kinds.ps ℕ
+μ-digits κs a = a .1 .1 .0
 
-abbrev digits-at : ℕ → In 0 digits-kinds.ps
-digits-at t = and 0 digits-kinds.ps (is 0 digits-kinds.ps μ-digits t) digits.Pre
+abbrev digits-at : ℕ → In 1 digits-kinds.ps
+digits-at t = and 1 digits-kinds.ps (is 1 digits-kinds.ps μ-digits t) digits.Pre
 
-abbrev digits-below : ℕ → In 0 digits-kinds.ps
-digits-below t = and 0 digits-kinds.ps (falls 0 digits-kinds.ps _<_ μ-digits t) digits.Pre
+abbrev digits-below : ℕ → In 1 digits-kinds.ps
+digits-below t = and 1 digits-kinds.ps (falls 1 digits-kinds.ps _<_ μ-digits t) digits.Pre
 
 digits-cast-d : (t : ℕ) → digits-lts.Need-cast-d (
   byte-reads.Asked,
@@ -45,7 +45,9 @@ digits-byte-requires : (t : ℕ) → digits-lts.Need-byte-requires (
   digits-below t,
   digits.Post,
 ) (digits-at t) digits.Post
-digits-byte-requires t c κs = omega (arith, length-small (c .before .args .n) (omega arith), c .before .pre .1)
+digits-byte-requires t c κs =
+    let start = c .before .before .before in
+    omega (arith, length-small (start .args .n) (omega arith), start .pre .1)
 
 digits-digits-requires : (t : ℕ) → digits-lts.Need-digits-requires (
   byte-reads.Asked,
@@ -53,7 +55,9 @@ digits-digits-requires : (t : ℕ) → digits-lts.Need-digits-requires (
   digits-below t,
   digits.Post,
 ) (digits-at t) digits.Post
-digits-digits-requires t c κs = (omega (arith, c .before .pre .0), omega (arith, length-large (c .before .args .n) (omega arith), c .before .pre .1))
+digits-digits-requires t c κs =
+    let start = c .before .before .before in
+    (omega (arith, start .pre .0), omega (arith, length-large (start .args .n) (omega arith), start .pre .1))
 
 digits-cast-d-2 : (t : ℕ) → digits-lts.Need-cast-d-2 (
   byte-reads.Asked,
@@ -78,7 +82,17 @@ digits-byte-requires-2 : (t : ℕ) → digits-lts.Need-byte-requires-2 (
   digits.Post,
 ) (digits-at t) digits.Post
 digits-byte-requires-2 t c κs =
-    omega (arith, length-large (c .before .before .args .n) (omega arith), c .before .before .pre .1, c .digits .ensures .most)
+    let tens = c .before .before .before in
+    let start = tens .before .before .before .before in
+    omega (arith, length-large (start .args .n) (omega arith), start .pre .1, tens .digits .ensures .place, tens .digits .ensures .len)
+
+digits-same-length : (t : ℕ) → digits-lts.Need-same-length (
+  byte-reads.Asked,
+  byte-reads.Learnt,
+  digits-below t,
+  digits.Post,
+) (digits-at t) digits.Post
+digits-same-length t c = search needs
 
 digits-returns : (t : ℕ) → digits-lts.Need-returns (
   byte-reads.Asked,
@@ -86,7 +100,17 @@ digits-returns : (t : ℕ) → digits-lts.Need-returns (
   digits-below t,
   digits.Post,
 ) (digits-at t) digits.Post
-digits-returns t c = rw (decimal-small (c .before .before .args .n) (omega arith)) (c .byte .ensures)
+digits-returns t c =
+    let one = c .before .before in
+    rw (decimal-small (one .before .before .before .before .args .n) (omega arith)) (one .byte .ensures)
+
+digits-same-length-2 : (t : ℕ) → digits-lts.Need-same-length-2 (
+  byte-reads.Asked,
+  byte-reads.Learnt,
+  digits-below t,
+  digits.Post,
+) (digits-at t) digits.Post
+digits-same-length-2 t c = search needs
 
 digits-returns-2 : (t : ℕ) → digits-lts.Need-returns-2 (
   byte-reads.Asked,
@@ -95,8 +119,10 @@ digits-returns-2 : (t : ℕ) → digits-lts.Need-returns-2 (
   digits.Post,
 ) (digits-at t) digits.Post
 digits-returns-2 t c =
-    rw (decimal-large (c .before .before .before .args .n) (omega arith), length-append)
-    (c .before .digits .ensures then c .byte2 .ensures)
+    let last = c .before .before in
+    let tens = last .before .before .before .before in
+    rw (decimal-large (tens .before .before .before .before .args .n) (omega arith), length-append)
+    (tens .digits .ensures then last .byte2 .ensures)
 
 pub +digits-spec : {M : Type 1} → statement M
 +digits-spec = close μ-digits λ t. digits-lts.spec (
@@ -114,5 +140,7 @@ pub +digits-spec : {M : Type 1} → statement M
     (digits-cast-d-2 t)
     (digits-add-byte-2 t)
     (digits-byte-requires-2 t)
+    (digits-same-length t)
     (digits-returns t)
+    (digits-same-length-2 t)
     (digits-returns-2 t)

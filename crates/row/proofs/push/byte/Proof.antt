@@ -1,23 +1,20 @@
--- `byte` is right because a store at the place where the held bytes end makes them one longer.
-use Prim.Native.Nat.{_<_}
-use native.Mathlib.Omega.{arith}
-use native.Mathlib.Numerals.{add-one}
-use lib.ListN.{length}
-use lib.Seq.{take-suc-set}
+-- `byte` is right because a store is the bytes before it, the stored one, and the bytes after it.
+use Rattle.row.specs.laws.Puts.{puts-byte}
 use borrow.Author.Needs.{needs}
 use Rattle.row.proofs.push.byte.Statement.{statement}
 use Rattle.row.proofs.push.byte.Tie as tie
 
-element-write-t : tie.Need-element-write-t
-element-write-t c = search needs
+slice-write-out : tie.Need-slice-write-out
+slice-write-out c = search needs
 
-add-t : tie.Need-add-t
-add-t c = search needs
+add-result : tie.Need-add-result
+add-result c = search needs
+
+same-length : tie.Need-same-length
+same-length c = search needs
 
 returns : tie.Need-returns
-returns c =
-    let inside : c .args .r .len < length (c .args .r .bytes) = search needs in
-    record { bytes = rw (add-one, take-suc-set); most = omega arith }
+returns c = puts-byte (c .args .out .now) (c .args .at) (c .args .b) (search needs)
 
 pub byte-spec : {M : Type 1} → statement M
-byte-spec = tie.close (tie.spec element-write-t add-t returns)
+byte-spec = tie.close (tie.spec slice-write-out add-result same-length returns)

@@ -1,0 +1,63 @@
+-- What it means to put bytes into a buffer from a place on, and that such steps follow one another.
+use Prim.Native.Nat.{ℕ, _+_, _≤_, _<_}
+use mathlib.Core.Path.{_≡_, refl, ap, _∙_}
+use mathlib.Core.List.{List, [], _∷_, _++_}
+use native.Mathlib.Omega.{arith}
+use native.Mathlib.Numerals.{add-one}
+use lib.ListN.{length, set, length-append, length-set}
+use lib.Seq.{paste, take-length, set-split, append-snoc}
+use borrow.Author.Tests.{le-leb, lt-leb}
+use Rattle.row.specs.declared.lines.Place.the-variants.{Next, NoRoom}
+use Rattle.row.specs.Buffer.{placed, bufferAfter, placeAfter}
+use Rattle.row.specs.laws.Buffer.{placed-length, placed-join}
+
+-- new is old with the line at a place; the next place is after the line, at most k further on, and within the buffer
+pub record Puts (line : List ℕ) (k : ℕ) (old : List ℕ) (at : ℕ) (new : List ℕ) (next : ℕ) : Type 0 where
+  pub buffer : new ≡ placed line old at
+  pub place : next ≡ at + length line
+  pub most : next ≤ at + k
+  pub within : next ≤ length old
+  pub len : length new ≡ length old
+
+-- a line is written piece by piece
+infixr 5 _then_
+pub _then_ : {xs ys a b c : List ℕ} {i j m k l : ℕ} → Puts xs k a i b j → Puts ys l b j c m → Puts (xs ++ ys) (k + l) a i c m
+_then_ {xs} {ys} {a} {b} {c} {i} {j} {m} p q =
+    let h : i + length xs ≤ length a = omega (arith, p .place, p .within) in
+    record {
+      buffer = q .buffer ∙ rw (p .buffer, p .place) (placed-join xs a i h ys);
+      place = simp length-append (omega (arith, p .place, q .place));
+      most = omega (arith, p .most, q .most);
+      within = omega (arith, q .within, p .len);
+      len = q .len ∙ p .len;
+    }
+
+pub at-most : {xs a b : List ℕ} {i j k l : ℕ} → Puts xs k a i b j → k ≤ l → Puts xs l a i b j
+at-most p h = record { buffer = p .buffer; place = p .place; most = omega (arith, p .most); within = p .within; len = p .len }
+
+pub puts-byte : (old : List ℕ) (at b : ℕ) → at < length old → Puts (b ∷ []) 1 old at (set old at b) (at + 1)
+unfolding placed
+puts-byte old at b h = record {
+  buffer = rw (add-one, set-split old at b h, append-snoc);
+  place = refl;
+  most = omega arith;
+  within = omega arith;
+  len = length-set old at b;
+}
+
+-- a text, once all of it is copied
+pub puts-text : (s old new : List ℕ) (at i : ℕ) → at + length s ≤ length old → i ≡ length s → new ≡ paste old at s i → Puts s (length s) old at new (at + length s)
+unfolding placed
+puts-text s old new at i h e copied =
+    let same : new ≡ placed s old at = copied ∙ rw (e, take-length) in
+    record { buffer = same; place = refl; most = omega arith; within = h; len = rw same (placed-length s old at h) }
+
+-- ---- a whole line
+
+module _ (old : List ℕ) (at : ℕ) where
+  pub with-room : {line new : List ℕ} {next k : ℕ} → at + 160 ≤ length old → Puts line k old at new next
+      → (new ≡ bufferAfter line old at) × (Next next ≡ placeAfter line old at)
+  with-room h p = rw (le-leb (at + 160) (length old) h) (p .buffer, ap Next (p .place))
+
+  pub without-room : (line : List ℕ) → length old < at + 160 → (old ≡ bufferAfter line old at) × (NoRoom ≡ placeAfter line old at)
+  without-room line h = rw (lt-leb (at + 160) (length old) h) (refl, refl)
