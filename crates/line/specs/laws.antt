@@ -6,4 +6,5 @@ pub mod Cycles
 pub mod Points
 pub mod Pulses
 pub mod Work
+pub mod Stepper
 pub mod Bounds

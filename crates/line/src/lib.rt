@@ -4,3 +4,4 @@
 // and |b| to the Y register; a register that reaches q gives a pulse and loses q. The record keeps no register: it follows from the position.
 pub mod line;
 pub mod register;
+pub mod stepper;

@@ -5,3 +5,5 @@ pub mod Left
 pub mod Cycles
 pub mod Idle
 pub mod Cycling
+pub mod LineRun
+pub mod ArcRun

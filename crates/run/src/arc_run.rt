@@ -8,10 +8,10 @@ use crate::buffer::clear;
 use crate::buffer::least;
 use crate::gap::first_gap;
 use crate::gap::next_gap;
+use crate::gap::remainder_at;
 use arc::arc::Arc;
 use divider::end_tick;
 use plane::point::Point;
-use plane::point::is_same;
 use plane::pulse::cycle_byte;
 use work::Work;
 
@@ -20,39 +20,40 @@ pub fn run_arc(capacity: u64, at: Point, remainder: u64, a: Arc, most: u64, out:
     ensures { λ r. ⌜ r ≡ ranOf (stripOf capacity most at remainder (Work.Arc a)) ⌝ }
     ensures { λ r. ⌜ now (out .exit) ≡ written (stripOf capacity most at remainder (Work.Arc a) .bytes) (now (out .entry)) ⌝ }
 {
-    let n = least(most, end_tick(capacity, a.feed, remainder, a.cycles(at)));
+    let end = end_tick(capacity, a.feed, remainder, a.cycles(at));
+    let n = least(most, end);
+    let last = least(most, end - 1);
     clear(out, n);
     let whole = capacity / a.feed;
-    let end = a.end;
     let mut gap = first_gap(capacity, a.feed, remainder);
-    let mut done: u64 = 0;
-    let mut rest = remainder;
     let mut here = at;
-    while gap.ticks < n - done {
+    while gap.ticks < last {
         let s = a.step(here);
-        let tick = (done + gap.ticks) as usize;
+        let tick = gap.ticks as usize;
         let pulses = s.pulses;
-        here = s.at;
-        done = done + gap.ticks + 1;
-        rest = gap.remainder;
-        if is_same(here, end) {
-            out[tick] = cycle_byte(pulses, true);
-            return Ran {
-                ticks: done,
-                ended: true,
-                at: here,
-                remainder: rest,
-                work: Work::Nothing,
-            };
-        }
         out[tick] = cycle_byte(pulses, false);
-        gap = next_gap(capacity, a.feed, whole, rest);
+        here = s.at;
+        gap = next_gap(capacity, a.feed, whole, gap);
+    }
+    if last < n {
+        let s = a.step(here);
+        let tick = last as usize;
+        let pulses = s.pulses;
+        let there = a.end;
+        out[tick] = cycle_byte(pulses, true);
+        return Ran {
+            ticks: n,
+            ended: true,
+            at: there,
+            remainder: gap.remainder,
+            work: Work::Nothing,
+        };
     }
     Ran {
         ticks: n,
         ended: false,
         at: here,
-        remainder: rest + (n - done) * a.feed,
+        remainder: remainder_at(capacity, a.feed, gap, n),
         work: Work::Arc(a),
     }
 }

@@ -1,10 +1,10 @@
 // The gap to the next cycle.
 ghost use mathlib.Core.Path.{_≡_};
-ghost use Prim.Native.Nat.{_/_, _≤_, _<_};
+ghost use Prim.Native.Nat.{_+_, _/_, _^_, _≤_, _<_};
 ghost use Rattle.work.specs.laws.Sound.{Feed};
-ghost use Rattle.run.specs.Gap.{gapOf};
+ghost use Rattle.run.specs.Gap.{gapOf, nextGap, remainderAt, Ahead};
 
-// The ticks without a cycle before the next cycle, and the remainder after the tick that does it.
+// The ticks before the one that does the next cycle, counted from the run's first, and the remainder after it.
 pub struct Gap {
     pub ticks: u64,
     pub remainder: u64,
@@ -22,21 +22,29 @@ pub fn first_gap(capacity: u64, feed: u64, remainder: u64) -> Gap
     }
 }
 
-// The gap after a cycle, which leaves less than one feed: as many ticks as whole feeds go into the capacity, or one less. It needs no division.
-pub fn next_gap(capacity: u64, feed: u64, whole: u64, remainder: u64) -> Gap
-    requires { ⌜ Feed capacity feed × (whole ≡ capacity / feed) × (remainder < feed) × (capacity ≤ 1200000) ⌝ }
-    ensures { λ r. ⌜ r ≡ gapOf capacity feed remainder ⌝ }
+// The gap after a gap's cycle, which leaves less than one feed: as many ticks more as whole feeds go into the capacity, or one more. It needs no division.
+pub fn next_gap(capacity: u64, feed: u64, whole: u64, gap: Gap) -> Gap
+    requires { ⌜ Feed capacity feed × (whole ≡ capacity / feed) × (gap .remainder < feed) × (capacity ≤ 1200000) × (gap .ticks + 2000000 < 2 ^ 64) ⌝ }
+    ensures { λ r. ⌜ r ≡ nextGap capacity feed gap ⌝ }
 {
     let over = capacity - whole * feed;
-    if over <= remainder {
+    if over <= gap.remainder {
         Gap {
-            ticks: whole - 1,
-            remainder: remainder - over,
+            ticks: gap.ticks + whole,
+            remainder: gap.remainder - over,
         }
     } else {
         Gap {
-            ticks: whole,
-            remainder: remainder + feed - over,
+            ticks: gap.ticks + 1 + whole,
+            remainder: gap.remainder + feed - over,
         }
     }
+}
+
+// The remainder after n ticks, none of which does the gap's cycle.
+pub fn remainder_at(capacity: u64, feed: u64, gap: Gap, n: u64) -> u64
+    requires { ⌜ Ahead capacity feed gap n ⌝ }
+    ensures { λ r. ⌜ r ≡ remainderAt capacity feed gap n ⌝ }
+{
+    gap.remainder + capacity - (gap.ticks + 1 - n) * feed
 }

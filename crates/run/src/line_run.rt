@@ -1,4 +1,5 @@
-// A run along a line: n is where the ticks asked for or the line end, so no byte after it is touched.
+// A run along a line: n is where the ticks asked for or the line end, so no byte after it is touched. The loop does the cycles that cannot be the
+// line's last, and so tests nothing but the tick; the last one comes after it.
 ghost use mathlib.Core.Path.{_≡_};
 ghost use Prim.Native.Nat.{_≤_};
 ghost use lib.ListN.{length};
@@ -8,8 +9,10 @@ use crate::buffer::clear;
 use crate::buffer::least;
 use crate::gap::first_gap;
 use crate::gap::next_gap;
+use crate::gap::remainder_at;
 use divider::end_tick;
 use line::line::Line;
+use line::stepper::Stepper;
 use plane::point::Point;
 use plane::pulse::cycle_byte;
 use work::Work;
@@ -19,44 +22,44 @@ pub fn run_line(capacity: u64, at: Point, remainder: u64, l: Line, most: u64, ou
     ensures { λ r. ⌜ r ≡ ranOf (stripOf capacity most at remainder (Work.Line l)) ⌝ }
     ensures { λ r. ⌜ now (out .exit) ≡ written (stripOf capacity most at remainder (Work.Line l) .bytes) (now (out .entry)) ⌝ }
 {
-    let n = least(
-        most,
-        end_tick(capacity, l.feed, remainder, l.cycles - l.done),
-    );
+    let end = end_tick(capacity, l.feed, remainder, l.cycles - l.done);
+    let n = least(most, end);
+    let last = least(most, end - 1);
     clear(out, n);
     let whole = capacity / l.feed;
     let mut gap = first_gap(capacity, l.feed, remainder);
-    let mut done: u64 = 0;
-    let mut rest = remainder;
-    let mut here = at;
-    let mut line = l;
-    while gap.ticks < n - done {
-        let s = line.step(here);
-        let tick = (done + gap.ticks) as usize;
+    let mut stepper = Stepper::enter(l, at);
+    let mut cycles = l.done;
+    while gap.ticks < last {
+        let s = stepper.advance();
+        let tick = gap.ticks as usize;
         let pulses = s.pulses;
-        let next = s.line;
-        here = s.at;
-        done = done + gap.ticks + 1;
-        rest = gap.remainder;
-        if next.done == line.cycles {
-            out[tick] = cycle_byte(pulses, true);
-            return Ran {
-                ticks: done,
-                ended: true,
-                at: here,
-                remainder: rest,
-                work: Work::Nothing,
-            };
-        }
         out[tick] = cycle_byte(pulses, false);
-        line = next;
-        gap = next_gap(capacity, l.feed, whole, rest);
+        stepper = s.stepper;
+        cycles = cycles + 1;
+        gap = next_gap(capacity, l.feed, whole, gap);
     }
+    if last < n {
+        let s = stepper.advance();
+        let tick = last as usize;
+        let pulses = s.pulses;
+        let there = l.end;
+        out[tick] = cycle_byte(pulses, true);
+        return Ran {
+            ticks: n,
+            ended: true,
+            at: there,
+            remainder: gap.remainder,
+            work: Work::Nothing,
+        };
+    }
+    let mut line = l;
+    line.done = cycles;
     Ran {
         ticks: n,
         ended: false,
-        at: here,
-        remainder: rest + (n - done) * l.feed,
+        at: line.point(),
+        remainder: remainder_at(capacity, l.feed, gap, n),
         work: Work::Line(line),
     }
 }

@@ -2,7 +2,7 @@
 use mathlib.Core.Path.{_≡_, refl, sym, ap, subst, _∙_}
 use mathlib.Core.Bool.{Bool, true, false}
 use Prim.Native.Nat.{ℕ, suc, _+_, _-_, _*_, _^_, _≤_, _<_}
-use native.Mathlib.Nat.{mul-le-mul, mul-le-mul-right}
+use native.Mathlib.Nat.{mul-le-mul, mul-le-mul-left, mul-le-mul-right, lt-of-mul-lt-mul-right}
 use native.Mathlib.Omega.{arith}
 use lib.Dec.{T, eqb}
 use borrow.Author.Tests.{eqb-true, eqb-false}
@@ -18,6 +18,8 @@ use Rattle.line.specs.laws.Work.{Drawn, some-cycle}
 use Rattle.arc.specs.declared.arc.Arc.{Arc}
 use Rattle.arc.specs.Arc.{arcAfter, arcCycles, arcStepped}
 use Rattle.arc.specs.laws.Step.{Circles, cycles-bounds, last-cycle, more-cycles}
+use Rattle.divider.specs.Divider.{endTick}
+use Rattle.divider.specs.laws.End.{end-tick}
 use Rattle.work.specs.declared.Work.{Work}
 use Rattle.work.specs.Work.{isNothing, workSound, following, lineCycle, arcCycle, cycleOf, feedOf, cyclesLeft, endOf}
 use Rattle.work.specs.laws.Sound.{Feed, line-work, arc-work}
@@ -110,6 +112,16 @@ module _ {q0 : ℕ} {at : Point} {r : ℕ} {w : Work} (i : SoundIn q0 at r w) wh
   pub end-asks : (1 ≤ feedOf w) × (r ≤ cyclesLeft at w * q0) × (cyclesLeft at w * q0 + feedOf w < 2 ^ 64)
   end-asks = (in-work .feed .some, omega (arith, due-later), omega (arith, mul-le-mul (in-work .most) (i .capacity), in-work .feed .most, i .capacity))
 
-  -- and that of the first gap
+  -- the end tick is a tick, and its number small
+  pub end-range : (1 ≤ endTick q0 (feedOf w) r (cyclesLeft at w)) × (endTick q0 (feedOf w) r (cyclesLeft at w) ≤ 9600000000000)
+  end-range =
+      let k = cyclesLeft at w in
+      let some = in-work .feed .some in
+      let e = end-tick q0 (feedOf w) r k some due-later in (
+        lt-of-mul-lt-mul-right (feedOf w) {m = 0} {n = endTick q0 (feedOf w) r k} (omega (arith, due-later, e .reached)),
+        omega (arith, e .first (k * q0) (omega (arith, mul-le-mul-left (k * q0) some)), mul-le-mul (in-work .most) (i .capacity)),
+      )
+
+  -- what the code of the first gap asks
   pub gap-asks : Feed q0 (feedOf w) × (r < q0) × (q0 ≤ 1200000)
   gap-asks = (in-work .feed, i .below, i .capacity)

@@ -1,8 +1,9 @@
 -- A run from cycle to cycle: its n bytes are cleared before, and each turn writes one cycle's byte.
 use mathlib.Core.Path.{_≡_, refl, sym, ap, subst, _∙_}
-use mathlib.Core.Bool.{true, false}
+use mathlib.Core.Bool.{Bool, true, false}
 use mathlib.Core.List.{List}
 use Prim.Native.Nat.{ℕ, _+_, _-_, _*_, _≤_, _<_, min}
+use native.Mathlib.Nat.{mul-le-mul-left}
 use native.Mathlib.Omega.{arith}
 use lib.Dec.{T}
 use lib.ListN.{length, set}
@@ -11,90 +12,157 @@ use Rattle.divider.specs.Divider.{endTick}
 use Rattle.work.specs.declared.Work.{Work}
 use Rattle.work.specs.declared.Cycle.{Cycle}
 use Rattle.work.specs.laws.Sound.{Feed}
-use Rattle.work.specs.Work.{isNothing, cycleOf, feedOf, cyclesLeft, advanceOf}
+use Rattle.work.specs.Work.{isNothing, cycleOf, feedOf, cyclesLeft, endOf, advanceOf}
 use Rattle.run.specs.declared.gap.Gap.{Gap}
 use Rattle.run.specs.Run.{Strip, stripOf, SoundIn}
-use Rattle.run.specs.Gap.{gapOf, clearedOf}
+use Rattle.run.specs.Gap.{gapOf, later, nextGap, remainderAt, Ahead, clearedOf}
 use Rattle.run.specs.laws.Going.{Going, Answer, going-start, going-on, going-end, going-out}
 use Rattle.run.specs.laws.Sound.{waiting, still-sound}
 use Rattle.run.specs.laws.Gap.{Due, gap-due}
-use Rattle.run.specs.laws.Left.{Left, left-start, left-turn, left-out, left-end}
-use Rattle.run.specs.laws.Cycles.{in-work, cycle-counts, due-later, same-feed}
+use Rattle.run.specs.laws.Left.{Left, left-start, left-some, left-turn, left-out, left-end}
+use Rattle.run.specs.laws.Cycles.{in-work, cycle-counts, due-later, end-range, same-feed, same-end}
 use Rattle.run.specs.laws.Idle.{cycle-tick, cleared-length, cleared-twice, going-idle, answer-old}
 
--- `done` ticks are done, up to a cycle; g is the gap to the next; in out₀ the n bytes are cleared
-pub record Cycling (q0 f most : ℕ) (all : Strip) (out₀ out : List ℕ) (n done : ℕ) (at : Point) (r : ℕ) (w : Work) (g : Gap) : Type 0 where
-  pub going : Going q0 most all out₀ out done at r w
+-- `done` ticks are done, up to a cycle, which left the remainder `rest`; g is the gap to the next; in out₀ the n bytes are cleared
+pub record Cycling (q0 f most : ℕ) (all : Strip) (out₀ out : List ℕ) (last n : ℕ) (at : Point) (w : Work) (g : Gap) : Type 0 where
+  pub done : ℕ
+  pub rest : ℕ
+  pub going : Going q0 most all out₀ out done at rest w
   pub cleared : out₀ ≡ clearedOf n out₀
-  pub left : Left q0 f most n done (cyclesLeft at w) r
-  pub work : SoundIn q0 at r w
+  pub left : Left q0 f most last n done (cyclesLeft at w) rest
+  pub few : n ≤ 9600000000000
+  pub work : SoundIn q0 at rest w
   pub feed : feedOf w ≡ f
-  pub gap : g ≡ gapOf q0 f r
+  pub gap : g ≡ later done (gapOf q0 f rest)
 
-pub cycling-start : {q0 : ℕ} {at : Point} {r : ℕ} {w : Work} {n : ℕ} {g : Gap} (most : ℕ) (old : List ℕ) {out : List ℕ} → SoundIn q0 at r w → most ≤ length old
-    → n ≡ min most (endTick q0 (feedOf w) r (cyclesLeft at w)) → out ≡ clearedOf n old → g ≡ gapOf q0 (feedOf w) r
-    → Cycling q0 (feedOf w) most (stripOf q0 most at r w) out out n 0 at r w g
-cycling-start {q0} {at} {r} {w} {n} {g} most old {out} i room e clear gap =
-    let l : Left q0 (feedOf w) most n 0 (cyclesLeft at w) r = rw e (left-start q0 (feedOf w) most r (cyclesLeft at w) (in-work i .feed .some) (due-later i)) in
+pub cycling-start : {q0 : ℕ} {at : Point} {r : ℕ} {w : Work} {last n : ℕ} {g : Gap} (most : ℕ) (old : List ℕ) {out : List ℕ} → SoundIn q0 at r w → most ≤ length old
+    → last ≡ min most (endTick q0 (feedOf w) r (cyclesLeft at w) - 1) → n ≡ min most (endTick q0 (feedOf w) r (cyclesLeft at w))
+    → out ≡ clearedOf n old → g ≡ gapOf q0 (feedOf w) r
+    → Cycling q0 (feedOf w) most (stripOf q0 most at r w) out out last n at w g
+cycling-start {q0} {at} {r} {w} {last} {n} {g} most old {out} i room before e clear gap =
+    let l : Left q0 (feedOf w) most last n 0 (cyclesLeft at w) r = rw (before, e) (left-start q0 (feedOf w) most r (cyclesLeft at w) (in-work i .feed .some) (due-later i)) in
     record {
+      done = 0;
+      rest = r;
       going = going-start q0 most out at r w (omega (arith, ap length clear, cleared-length n old (omega (arith, l .short))));
       cleared = clear ∙ sym (cleared-twice n old) ∙ ap (clearedOf n) (sym clear);
       left = l;
+      few = omega (arith, end-range i .1);
       work = i;
       feed = refl;
-      gap = gap;
+      gap = gap ∙ ap (λ (t : ℕ). record { ticks = t; remainder = gapOf q0 (feedOf w) r .remainder }) (omega arith);
     }
 
 -- the buffer keeps its length
 pub cleared-long : (most : ℕ) (old : List ℕ) {out : List ℕ} {n : ℕ} → most ≤ length old → n ≤ most → out ≡ clearedOf n old → length out ≡ length old
 cleared-long most old room short clear = ap length clear ∙ cleared-length _ old (omega arith)
 
-module _ {q0 f most : ℕ} {all : Strip} {out₀ out : List ℕ} {n done : ℕ} {at : Point} {r : ℕ} {w : Work} {g : Gap} (s : Cycling q0 f most all out₀ out n done at r w g) where
-  due : Due q0 f r g
-  due = rw (s .gap) (gap-due q0 f r (rw (s .feed) at (in-work (s .work) .feed .some)) (s .work .below))
+some-left : (at : Point) (w : Work) → 1 ≤ cyclesLeft at w → isNothing w ≡ false
+some-left at Work.Nothing h = absurd (omega arith)
+some-left at (Work.Line l) h = refl
+some-left at (Work.Arc a) h = refl
+
+nothing-is : (w : Work) → isNothing w ≡ true → w ≡ Work.Nothing
+nothing-is Work.Nothing e = refl
+nothing-is (Work.Line l) e = absurd (subst T (sym e) tt)
+nothing-is (Work.Arc a) e = absurd (subst T (sym e) tt)
+
+module _ {q0 f most : ℕ} {all : Strip} {out₀ out : List ℕ} {last n : ℕ} {at : Point} {w : Work} {g : Gap} (s : Cycling q0 f most all out₀ out last n at w g) where
+  -- the gap, counted from the last cycle
+  abbrev ahead : Gap
+  ahead = gapOf q0 f (s .rest)
+
+  ticks-are : g .ticks ≡ s .done + ahead .ticks
+  ticks-are = ap (λ (x : Gap). x .ticks) (s .gap)
+
+  due : Due q0 f (s .rest) ahead
+  due = gap-due q0 f (s .rest) (rw (s .feed) at (in-work (s .work) .feed .some)) (s .work .below)
+
+  remainder-is : g .remainder + q0 ≡ s .rest + ahead .ticks * f + f
+  remainder-is = ap (λ (x : Gap). x .remainder + q0) (s .gap) ∙ due .remainder
 
   -- what the code of the next gap asks: the remainder after a cycle is below one feed
   pub feeds : Feed q0 f × (g .remainder < f) × (q0 ≤ 1200000)
-  feeds = (rw (s .feed) at (in-work (s .work) .feed), omega (arith, due .before, due .remainder), s .work .capacity)
+  feeds = (rw (s .feed) at (in-work (s .work) .feed), omega (arith, due .before, remainder-is), s .work .capacity)
 
-  module _ (h : done + g .ticks < n) {c : Cycle} (e : c ≡ cycleOf at w) where
-    tick : record { at = c .at; remainder = g .remainder; byte = c .byte; work = c .work } ≡ advanceOf q0 at (r + g .ticks * feedOf w) w
-    tick = cycle-tick q0 at (r + g .ticks * feedOf w) w (rw (s .feed) (due .due)) (rw (s .feed) (due .remainder)) e
+  waits : SoundIn q0 at (s .rest + ahead .ticks * feedOf w) w
+  waits = waiting (s .work) (s .rest + ahead .ticks * feedOf w) (rw (s .feed) (due .before))
 
-    before : Going q0 most all out₀ out (done + g .ticks) at (r + g .ticks * feedOf w) w
-    before = going-idle (s .cleared) (s .going) (s .work .busy) (s .left .short) (g .ticks) (omega arith) (rw (s .feed) (due .before))
+  module _ {c : Cycle} (e : c ≡ cycleOf at w) where
+    tick : record { at = c .at; remainder = ahead .remainder; byte = c .byte; work = c .work } ≡ advanceOf q0 at (s .rest + ahead .ticks * feedOf w) w
+    tick = cycle-tick q0 at (s .rest + ahead .ticks * feedOf w) w (rw (s .feed) (due .due)) (rw (s .feed) (due .remainder)) e
 
-    left : Left q0 f most n (done + g .ticks + 1) (cyclesLeft (c .at) (c .work)) (g .remainder)
-    left = rw e (left-turn due (rw (cycle-counts (s .work)) at (s .left)) h)
+    before : s .done + ahead .ticks ≤ n → Going q0 most all out₀ out (s .done + ahead .ticks) at (s .rest + ahead .ticks * feedOf w) w
+    before h = going-idle (s .cleared) (s .going) (s .work .busy) (s .left .short) (ahead .ticks) h (rw (s .feed) (due .before))
 
-    pub cycling-on : isNothing (c .work) ≡ false → {next : Gap} → next ≡ gapOf q0 f (g .remainder)
-        → Cycling q0 f most all out₀ (set out (done + g .ticks) (c .byte)) n (done + g .ticks + 1) (c .at) (g .remainder) (c .work) next
-    cycling-on more gap =
-        record {
-          going = going-on before (omega (arith, s .left .short)) tick more;
-          cleared = s .cleared;
-          left = left;
-          work = still-sound (waiting (s .work) (r + g .ticks * feedOf w) (rw (s .feed) (due .before))) tick more;
-          feed = ap (λ (k : Cycle). feedOf (k .work)) e ∙ same-feed at w (rw e at more) ∙ s .feed;
-          gap = gap;
-        }
+  -- before the tick `last` no cycle ends the block
+  pub goes-on : g .ticks < last → isNothing (cycleOf at w .work) ≡ false
+  goes-on h = some-left (cycleOf at w .at) (cycleOf at w .work) (left-some due (rw (cycle-counts (s .work)) at (s .left)) (omega (arith, ticks-are)))
 
-    pub cycling-end : isNothing (c .work) ≡ true → {old : List ℕ} → out₀ ≡ clearedOf n old
-        → Answer all old (set out (done + g .ticks) (c .byte)) (record { ticks = done + g .ticks + 1; ended = true; at = c .at; remainder = g .remainder; work = c .work })
-    cycling-end end clear = answer-old clear (going-end before (omega (arith, s .left .short)) tick end) (none (c .work) end left)
+  pub cycling-on : g .ticks < last → {c : Cycle} → c ≡ cycleOf at w → {next : Gap} → next ≡ nextGap q0 f g
+      → Cycling q0 f most all out₀ (set out (g .ticks) (c .byte)) last n (c .at) (c .work) next
+  unfolding nextGap
+  cycling-on h {c} e {next} gap =
+      let more : isNothing (c .work) ≡ false = rw e (goes-on h) in
+      let early : s .done + ahead .ticks < last = omega (arith, ticks-are) in
+      let l : Left q0 f most last n (s .done + ahead .ticks + 1) (cyclesLeft (c .at) (c .work)) (ahead .remainder) = rw e (left-turn due (rw (cycle-counts (s .work)) at (s .left)) early) in
+      record {
+        done = s .done + ahead .ticks + 1;
+        rest = ahead .remainder;
+        going = rw (s .gap) (going-on (before e (omega (arith, s .left .low))) (omega (arith, s .left .low, s .left .short)) (tick e) more);
+        cleared = s .cleared;
+        left = l;
+        few = s .few;
+        work = still-sound waits (tick e) more;
+        feed = ap (λ (k : Cycle). feedOf (k .work)) e ∙ same-feed at w (goes-on h) ∙ s .feed;
+        gap = gap ∙ ap (λ (x : Gap). later (x .ticks + 1) (gapOf q0 f (x .remainder))) (s .gap);
+      }
+
+  -- the tick that ends it, where there is one
+  module _ (m : last < n) (h : last ≤ g .ticks) where
+    last-tick : (s .done + ahead .ticks ≡ last) × (s .done + ahead .ticks + 1 ≡ n) × (cyclesLeft (cycleOf at w .at) (cycleOf at w .work) ≡ 0)
+    last-tick = left-end due (rw (cycle-counts (s .work)) at (s .left)) (feeds .0 .most) m (omega (arith, ticks-are))
+
+    pub ends-now : isNothing (cycleOf at w .work) ≡ true
+    ends-now = by (isNothing (cycleOf at w .work)) refl
       where
-        none : (v : Work) → isNothing v ≡ true → Left q0 f most n (done + g .ticks + 1) (cyclesLeft (c .at) v) (g .remainder) → done + g .ticks + 1 ≡ n
-        none Work.Nothing e l = sym (left-end l)
-        none (Work.Line l) e k = absurd (subst T (sym e) tt)
-        none (Work.Arc a) e k = absurd (subst T (sym e) tt)
+        by : (b : Bool) → isNothing (cycleOf at w .work) ≡ b → isNothing (cycleOf at w .work) ≡ true
+        by true e = e
+        by false e = absurd (omega (arith, in-work (still-sound waits (tick refl) e) .some, last-tick .2))
 
-  pub rest-below : n ≤ done + g .ticks → r + (n - done) * f < q0
-  rest-below h = left-out due (rw (cycle-counts (s .work)) at (s .left)) h .1
+    pub cycling-end : {byte : ℕ} → byte ≡ cycleOf at w .byte → {old : List ℕ} → out₀ ≡ clearedOf n old
+        → Answer all old (set out last byte) (record { ticks = n; ended = true; at = endOf at w; remainder = g .remainder; work = Work.Nothing })
+    cycling-end {byte} e clear =
+        let nothing = nothing-is (cycleOf at w .work) ends-now in
+        let there = ap (endOf (cycleOf at w .at)) (sym nothing) ∙ same-end (s .work) in
+        let c : record { at = endOf at w; byte = byte; work = Work.Nothing } ≡ cycleOf at w = λ i. record { at = sym there i; byte = e i; work = sym nothing i } in
+        let end = going-end (before c (omega (arith, last-tick .1))) (omega (arith, last-tick .1, s .left .short)) (tick c) refl in
+        rw (s .gap) (rw (last-tick .1, last-tick .0) at (answer-old clear end (last-tick .1)))
 
-  pub cycling-out : n ≤ done + g .ticks → {old : List ℕ} → out₀ ≡ clearedOf n old
-      → Answer all old out (record { ticks = n; ended = false; at = at; remainder = r + (n - done) * f; work = w })
-  cycling-out h clear =
-      let o = left-out due (rw (cycle-counts (s .work)) at (s .left)) h in
-      let all-done : done + (n - done) ≡ n = omega (arith, s .left .here) in
-      let last = going-idle (s .cleared) (s .going) (s .work .busy) (s .left .short) (n - done) (omega arith) (rw (s .feed) (o .1)) in
-      answer-old clear (rw (all-done, s .feed) at (going-out last (omega (arith, o .0)))) refl
+  -- with no cycle before n the ticks are used up there
+  module _ (m : n ≤ last) (h : last ≤ g .ticks) where
+    out-of : (n ≡ most) × (s .rest + (n - s .done) * f < q0)
+    out-of = left-out due (rw (cycle-counts (s .work)) at (s .left)) m (omega (arith, ticks-are))
+
+    -- the feeds to the next cycle
+    ticks : (g .ticks + 1 - n) * f + (n - s .done) * f ≡ ahead .ticks * f + f
+    ticks =
+        let sum : g .ticks + 1 - n + (n - s .done) ≡ ahead .ticks + 1 = omega (arith, ticks-are, s .left .here, s .left .low) in
+        omega (arith, ap (λ (x : ℕ). x * f) sum)
+
+    pub out-asks : Ahead q0 f g n
+    out-asks = record {
+      within = omega (arith, s .left .low);
+      early = omega (arith, ticks-are, s .left .here, s .left .low, s .few, s .work .capacity, due .before, mul-le-mul-left (ahead .ticks) (feeds .0 .some));
+      small = omega (arith, feeds, feeds .0 .most);
+      off = omega (arith, ticks, remainder-is);
+    }
+
+    pub cycling-out : {old : List ℕ} → out₀ ≡ clearedOf n old
+        → Answer all old out (record { ticks = n; ended = false; at = at; remainder = remainderAt q0 f g n; work = w })
+    unfolding remainderAt
+    cycling-out clear =
+        let all-done : s .done + (n - s .done) ≡ n = omega (arith, s .left .here, s .left .low) in
+        let rest : g .remainder + q0 - (g .ticks + 1 - n) * f ≡ s .rest + (n - s .done) * f = omega (arith, ticks, remainder-is) in
+        let idle = going-idle (s .cleared) (s .going) (s .work .busy) (s .left .short) (n - s .done) (omega arith) (rw (s .feed) (out-of .1)) in
+        rw rest (answer-old clear (rw (all-done, s .feed) at (going-out idle (omega (arith, out-of .0)))) refl)

@@ -1,11 +1,11 @@
 -- The gap to the next cycle: by the sums of feeds, and without a division where the remainder is below one feed.
-use mathlib.Core.Path.{_≡_, ap}
+use mathlib.Core.Path.{_≡_, ap, _∙_}
 use Prim.Native.Nat.{ℕ, suc, _+_, _-_, _*_, _/_, _≤_, _<_}
-use native.Mathlib.Nat.{lt-of-mul-lt-mul-right, le-antisymm, le-of-suc-le-suc, lt-div-mul-add, div-mul-le-self}
+use native.Mathlib.Nat.{lt-of-mul-lt-mul-right, le-antisymm, le-of-suc-le-suc, lt-div-mul-add, div-mul-le-self, mul-le-mul-left}
 use native.Mathlib.Omega.{arith}
 use Rattle.work.specs.laws.Sound.{Feed}
 use Rattle.run.specs.declared.gap.Gap.{Gap}
-use Rattle.run.specs.Gap.{gapOf}
+use Rattle.run.specs.Gap.{gapOf, later, nextGap}
 
 -- after the gap's ticks the next feed reaches the capacity, and no earlier one does
 pub record Due (q0 f r : ℕ) (g : Gap) : Type 0 where
@@ -47,15 +47,21 @@ whole-feeds {q0} {f} {whole} k e =
     let most : q0 < whole * f + f = rw e (lt-div-mul-add {a = q0} (k .some)) in
     record { some = lt-of-mul-lt-mul-right f {m = 0} {n = whole} (omega (arith, k .most)); within = least; most = most }
 
-module _ {q0 f whole r : ℕ} (k : Feed q0 f) (w : Whole q0 f whole) (below : r < f) where
-  gap-is : {g : Gap} → Due q0 f r g → g ≡ gapOf q0 f r
-  gap-is d = due-unique d (gap-due q0 f r (k .some) (omega (arith, k .most)))
+module _ {q0 f whole : ℕ} (k : Feed q0 f) (w : Whole q0 f whole) where
+  pub whole-most : whole ≤ q0
+  whole-most = omega (arith, w .within, mul-le-mul-left whole (k .some))
 
-  pub gap-less : q0 - whole * f ≤ r → record { ticks = whole - 1; remainder = r - (q0 - whole * f) } ≡ gapOf q0 f r
-  gap-less h =
-      let one : whole ≡ whole - 1 + 1 = omega (arith, w .some) in
-      let feeds = ap (λ (x : ℕ). x * f) one in
-      gap-is (record { before = omega (arith, w .within); due = omega (arith, w .within); remainder = omega (arith, w .within) })
+  module _ (g : Gap) (below : g .remainder < f) where
+    gap-is : {next : Gap} → Due q0 f (g .remainder) next → later (g .ticks + 1) next ≡ nextGap q0 f g
+    unfolding nextGap
+    gap-is d = ap (later (g .ticks + 1)) (due-unique d (gap-due q0 f (g .remainder) (k .some) (omega (arith, k .most))))
 
-  pub gap-whole : r < q0 - whole * f → record { ticks = whole; remainder = r + f - (q0 - whole * f) } ≡ gapOf q0 f r
-  gap-whole h = gap-is (record { before = omega (arith, w .within); due = omega (arith, w .most); remainder = omega (arith, w .most, w .within) })
+    pub next-less : q0 - whole * f ≤ g .remainder → record { ticks = g .ticks + whole; remainder = g .remainder - (q0 - whole * f) } ≡ nextGap q0 f g
+    next-less h =
+        let one : whole ≡ whole - 1 + 1 = omega (arith, w .some) in
+        let feeds = ap (λ (x : ℕ). x * f) one in
+        ap (λ (t : ℕ). record { ticks = t; remainder = g .remainder - (q0 - whole * f) }) (omega arith)
+        ∙ gap-is {next = record { ticks = whole - 1; remainder = g .remainder - (q0 - whole * f) }} (record { before = omega (arith, w .within); due = omega (arith, w .within); remainder = omega (arith, w .within) })
+
+    pub next-whole : g .remainder < q0 - whole * f → record { ticks = g .ticks + 1 + whole; remainder = g .remainder + f - (q0 - whole * f) } ≡ nextGap q0 f g
+    next-whole h = gap-is (record { before = omega (arith, w .within); due = omega (arith, w .most); remainder = omega (arith, w .most, w .within) })

@@ -1,49 +1,68 @@
 -- `run_line` is right because each turn goes over a gap of cleared bytes to the next cycle, and n stands where the ticks or the line end.
 use borrow.Author.Needs.{needs}
 use native.Mathlib.Omega.{arith}
-use mathlib.Core.Path.{_≡_, refl, ap, _∙_}
-use borrow.Author.Tests.{eq-eqb, ne-eqb}
-use Prim.Native.Nat.{ℕ, _+_, _-_, _^_, _<_, min}
+use mathlib.Core.Path.{_≡_, refl, ap, subst, _∙_}
+use Prim.Native.Nat.{ℕ, _-_, _<_, min}
+use mathlib.Core.List.{List}
 use lib.ListN.{length, length-set}
+use Rattle.run.specs.declared.Ran.{Ran}
+use Rattle.run.specs.declared.gap.Gap.{Gap}
+use Rattle.line.specs.Stepper.{stepperOf}
 use Rattle.work.specs.declared.Work.{Work}
-use Rattle.work.specs.Work.{cycleOf}
-use Rattle.work.specs.laws.Cycle.{line-cycle, line-codes}
-use Rattle.run.specs.Run.{stripOf}
-use Rattle.run.specs.Gap.{clearedOf}
-use Rattle.run.specs.laws.Sound.{run-ready}
-use Rattle.run.specs.laws.Cycles.{in-work, end-asks, gap-asks}
-use Rattle.run.specs.laws.Cycling.{Cycling, cycling-start, cleared-long, feeds, cycling-on, cycling-end, rest-below, cycling-out}
+use Rattle.run.specs.Gap.{nextGap, clearedOf}
 use Rattle.run.proofs.line_run.run_line.Statement.{statement}
 use Rattle.run.proofs.line_run.run_line.Tie as tie
+use Rattle.plane.specs.declared.point.Point.{Point}
+use Rattle.line.specs.laws.Work.{line-at}
+use Rattle.run.specs.Run.{Strip, stripOf, ranOf, written, SoundIn}
+use Rattle.run.specs.laws.Going.{Answer}
+use Rattle.run.specs.laws.Sound.{run-ready}
+use Rattle.run.specs.laws.Cycles.{in-work, end-asks, end-range, gap-asks}
+use Rattle.run.specs.laws.Cycling.{Cycling, cycling-start, cleared-long, feeds, out-asks, cycling-out}
+use Rattle.run.specs.laws.LineRun.{lineAfter, pointAfter, line-drawn, line-more, line-asks, line-small, line-on, line-end}
 
 abbrev Inv-loop : tie.InvT-loop
-Inv-loop capacity remainder l most out₀ n whole gap₀ done₀ rest₀ here₀ line₀ out gap done rest here line =
-    Cycling capacity (l .feed) most (stripOf capacity most here₀ rest₀ (Work.Line line₀)) out₀ out n done here rest (Work.Line line) gap
+Inv-loop capacity remainder l most out₀ end n last whole gap₀ stepper₀ cycles₀ out gap stepper cycles =
+    Cycling capacity (l .feed) most (stripOf capacity most (pointAfter l (l .done)) remainder (Work.Line l)) out₀ out last n (pointAfter l cycles) (Work.Line (lineAfter l cycles)) gap
+    × (stepper ≡ stepperOf (lineAfter l cycles))
 
 abbrev μ-loop : tie.MeasureT-loop
-μ-loop capacity remainder l most out₀ n whole gap₀ done₀ rest₀ here₀ line₀ out gap done rest here line = n - done
+μ-loop capacity remainder l most out₀ end n last whole gap₀ stepper₀ cycles₀ out gap stepper cycles =
+    last - gap .ticks
 
--- from the loop's head back: the start, and the n bytes that the run writes
+-- from the loop's head back: the start, the n bytes that the run writes, and the tick before which no cycle ends the line
 abbrev start : tie.At-loop Inv-loop μ-loop → tie.Start Inv-loop μ-loop
-start l = l .before .before .before .before .before .before .before .before .before .before .before
+start l = l .before .before .before .before .before .before .before .before .before .before .before .before .before
 
 abbrev bytes : tie.At-loop Inv-loop μ-loop → ℕ
-bytes l = l .before .before .before .before .before .before .before .least .result
+bytes l = l .before .before .before .before .before .before .before .before .before .least .result
 
-cleared : (l : tie.At-loop Inv-loop μ-loop) → l .before .before .before .before .before .clear .last .0 ≡ clearedOf (bytes l) (start l .args .out .now)
-cleared l = l .before .before .before .before .before .clear .ensures
+abbrev last-of : tie.At-loop Inv-loop μ-loop → ℕ
+last-of l = l .before .before .before .before .before .before .before .before .least2 .result
 
--- a turn's cycle comes within them
-in-time : (t : tie.Then1 Inv-loop μ-loop) → let l = t .before .before in (l .loop .done + l .loop .gap .ticks < bytes l) × (bytes l < 2 ^ 64)
-in-time t =
-    let l = t .before .before in
-    let i = l .loop .inv .left in
-    (omega (arith, i .here, t .if1 .taken), omega (arith, i .short, start l .fits .most))
+cleared : (l : tie.At-loop Inv-loop μ-loop) → l .before .before .before .before .before .before .clear .last .0 ≡ clearedOf (bytes l) (start l .args .out .now)
+cleared l = l .before .before .before .before .before .before .clear .ensures
 
 long : (l : tie.At-loop Inv-loop μ-loop) → length (l .loop .out) ≡ length (start l .args .out .now)
 long l =
-    l .loop .inv .going .long
-    ∙ cleared-long (start l .args .most) (start l .args .out .now) (start l .pre .1) (l .loop .inv .left .short) (cleared l)
+    l .loop .inv .0 .going .long
+    ∙ cleared-long (start l .args .most) (start l .args .out .now) (start l .pre .1) (l .loop .inv .0 .left .short) (cleared l)
+
+in-time : (l : tie.At-loop Inv-loop μ-loop) {t : ℕ} → t < bytes l → t < length (l .loop .out)
+in-time l h = omega (arith, long l, start l .pre .1, l .loop .inv .0 .left .short)
+
+-- the point is the one that "Lines" gives
+reached : (c : tie.Start Inv-loop μ-loop) → c .args .at ≡ pointAfter (c .args .l) (c .args .l .done)
+reached c = line-at (run-ready (c .pre .0) .0) .reached
+
+sound : (c : tie.Start Inv-loop μ-loop) → SoundIn (c .args .capacity) (pointAfter (c .args .l) (c .args .l .done)) (c .args .remainder) (Work.Line (c .args .l))
+sound c = subst (λ (p : Point). SoundIn (c .args .capacity) p (c .args .remainder) (Work.Line (c .args .l))) (reached c) (c .pre .0)
+
+abbrev strip : tie.Start Inv-loop μ-loop → Point → Strip
+strip c p = stripOf (c .args .capacity) (c .args .most) p (c .args .remainder) (Work.Line (c .args .l))
+
+answers : (all : Point → Strip) {at p : Point} {old out : List ℕ} {ran : Ran} → at ≡ p → Answer (all p) old out ran → (ran ≡ ranOf (all at)) × (out ≡ written (all at .bytes) old)
+answers all same a = rw same (a .report, a .buffer)
 
 sub-end-tick : tie.Need-sub-end-tick Inv-loop μ-loop
 sub-end-tick c = let w = in-work (c .before .before .pre .0) in omega (arith, w .some)
@@ -54,96 +73,110 @@ end-tick-requires c κs = end-asks (c .before .before .pre .0)
 least-requires : tie.Need-least-requires Inv-loop μ-loop
 least-requires c κs = search needs
 
+sub-least : tie.Need-sub-least Inv-loop μ-loop
+sub-least c = let e = end-range (c .before .before .before .before .pre .0) in omega (arith, c .before .end-tick .ensures, e .0)
+
+least-requires-2 : tie.Need-least-requires-2 Inv-loop μ-loop
+least-requires-2 c κs = search needs
+
 clear-requires : tie.Need-clear-requires Inv-loop μ-loop
-clear-requires c κs = omega (arith, c .before .least .ensures, c .before .before .before .before .before .pre .1)
+clear-requires c κs = omega (arith, c .before .before .least .ensures, c .before .before .before .before .before .before .pre .1)
 
 div-whole : tie.Need-div-whole Inv-loop μ-loop
-div-whole c = in-work (c .before .before .before .before .before .before .before .before .before .pre .0) .feed .some
+div-whole c = in-work (c .before .before .before .before .before .before .before .before .before .before .pre .0) .feed .some
 
 first-gap-requires : tie.Need-first-gap-requires Inv-loop μ-loop
-first-gap-requires c κs = gap-asks (c .before .before .before .before .before .before .before .before .before .pre .0)
+first-gap-requires c κs = gap-asks (c .before .before .before .before .before .before .before .before .before .before .pre .0)
+
+enter-requires : tie.Need-enter-requires Inv-loop μ-loop
+enter-requires c κs = run-ready (c .before .before .before .before .before .before .before .before .before .before .before .pre .0) .0
 
 loop-holds : tie.Need-loop-holds Inv-loop μ-loop
 loop-holds c =
-    let begin = c .before .before .before .before .before .before .before .before .before .before in
-    let l = c .before .before .before .before .before .before in
-    let count = l .least .ensures ∙ ap (min (begin .args .most)) (l .before .end-tick .ensures) in
-    cycling-start (begin .args .most) (begin .args .out .now) (begin .pre .0) (begin .pre .1) count (c .before .before .before .before .clear .ensures) (c .first-gap .ensures)
+    let b = c .before .before .before .before .before .before .before .before .before .before .before .before in
+    let k = c .before .before .before .before .before .before .before in
+    let e = k .before .before .end-tick .ensures in
+    let last = k .least2 .ensures ∙ ap (λ (t : ℕ). min (b .args .most) (t - 1)) e in
+    let n = k .before .least .ensures ∙ ap (min (b .args .most)) e in
+    (cycling-start (b .args .most) (b .args .out .now) (sound b) (b .pre .1) last n (c .before .before .before .before .before .clear .ensures) (c .before .first-gap .ensures), c .enter .ensures)
 
-sub-if1 : tie.Need-sub-if1 Inv-loop μ-loop
-sub-if1 c = search needs
-
-step-requires : tie.Need-step-requires Inv-loop μ-loop
-step-requires c κs = run-ready (c .before .before .loop .inv .work) .0
-
-add-tick : tie.Need-add-tick Inv-loop μ-loop
-add-tick c = let h = in-time (c .before .before) in omega arith
-
-add-done : tie.Need-add-done Inv-loop μ-loop
-add-done c = let h = in-time (c .before .before .before .before .before .before) in omega arith
-
-add-done-2 : tie.Need-add-done-2 Inv-loop μ-loop
-add-done-2 c = let h = in-time (c .before .before .before .before .before .before) in omega arith
+advance-requires : tie.Need-advance-requires Inv-loop μ-loop
+advance-requires c κs = let l = c .before .before in line-asks (start l .args .l) (l .loop .cycles) (l .loop .inv .0) (l .loop .inv .1)
 
 cycle-byte-requires : tie.Need-cycle-byte-requires Inv-loop μ-loop
-cycle-byte-requires c κs = line-codes _ (c .before .before .before .before .before .before .before .before .step .ensures)
+cycle-byte-requires c κs =
+    let l = c .before .before .before .before in
+    line-small (start l .args .l) (l .loop .cycles) (l .loop .inv .0) (l .loop .inv .1) (c .before .advance .ensures)
 
 slice-write-out : tie.Need-slice-write-out Inv-loop μ-loop
-slice-write-out c = search needs
+slice-write-out c =
+    let l = c .before .before .before .before .before in
+    in-time l (omega (arith, c .before .before .before .if1 .taken, l .loop .inv .0 .left .low))
 
-same-length : tie.Need-same-length Inv-loop μ-loop
-same-length c =
-    let l = c .before .before .before .before .before .before .before .before .before .before .before .before in
-    length-set (l .loop .out) (l .loop .done + l .loop .gap .ticks) (c .cycle-byte .result) ∙ long l
-
-returns : tie.Need-returns Inv-loop μ-loop
-unfolding cycleOf
-returns c =
-    let t = c .before .before .before .before .before .before .before .before .before .before in
-    let l = t .before .before in
-    let cycle = line-cycle (l .loop .line) (c .before .before .before .before .before .before .before .before .before .step .ensures) (eq-eqb _ _ (c .before .if2 .taken)) (c .cycle-byte .ensures) in
-    let a = cycling-end (l .loop .inv) (in-time t .0) cycle refl (cleared l) in
-    (a .report, a .buffer)
-
-cycle-byte-requires-2 : tie.Need-cycle-byte-requires-2 Inv-loop μ-loop
-cycle-byte-requires-2 c κs = line-codes _ (c .before .before .before .before .before .before .before .before .step .ensures)
-
-slice-write-out-2 : tie.Need-slice-write-out-2 Inv-loop μ-loop
-slice-write-out-2 c = search needs
+add-cycles : tie.Need-add-cycles Inv-loop μ-loop
+add-cycles c =
+    let l = c .before .before .before .before .before .before in
+    let more = line-more (start l .args .l) (l .loop .cycles) (l .loop .inv .0) in
+    omega arith
 
 next-gap-requires : tie.Need-next-gap-requires Inv-loop μ-loop
 next-gap-requires c κs =
-    let f = feeds (c .before .before .before .before .before .before .before .before .before .before .before .before .loop .inv) in
-    (f .0, refl, f .1, f .2)
+    let l = c .before .before .before .before .before .before in
+    let s = l .loop .inv .0 in
+    let f = feeds s in
+    (f .0, refl, f .1, f .2, omega (arith, c .before .before .before .before .if1 .taken, s .left .low, s .few))
 
 loop-less : tie.Need-loop-less Inv-loop μ-loop
-loop-less c = search needs
+unfolding nextGap
+loop-less c =
+    let l = c .before .before .before .before .before .before .before in
+    omega (arith, ap (λ (g : Gap). g .ticks) (c .next-gap .ensures), c .before .before .before .before .before .if1 .taken)
 
 loop-again : tie.Need-loop-again Inv-loop μ-loop
-unfolding cycleOf
 loop-again c =
-    let t = c .before .before .before .before .before .before .before .before .before .before .before in
-    let l = t .before .before in
-    let cycle = line-cycle (l .loop .line) (c .before .before .before .before .before .before .before .before .before .before .step .ensures) (ne-eqb _ _ (c .before .before .if2 .left)) (c .before .cycle-byte2 .ensures) in
-    cycling-on (l .loop .inv) (in-time t .0) cycle refl (c .next-gap .ensures)
+    let l = c .before .before .before .before .before .before .before in
+    line-on (start l .args .l) (l .loop .cycles) (l .loop .inv .0) (l .loop .inv .1) (c .before .before .before .before .advance .ensures) (c .before .before .before .before .before .if1 .taken) (c .before .before .cycle-byte .ensures) (c .next-gap .ensures)
 
-sub-t18 : tie.Need-sub-t18 Inv-loop μ-loop
-sub-t18 c = search needs
+advance-requires-2 : tie.Need-advance-requires-2 Inv-loop μ-loop
+advance-requires-2 c κs = let l = c .before .before .before in line-asks (start l .args .l) (l .loop .cycles) (l .loop .inv .0) (l .loop .inv .1)
 
-mul-t19 : tie.Need-mul-t19 Inv-loop μ-loop
-mul-t19 c = let r = rest-below (c .before .before .before .loop .inv) (omega (arith, c .before .if1 .left)) in omega (arith, feeds (c .before .before .before .loop .inv) .2)
+cycle-byte-requires-2 : tie.Need-cycle-byte-requires-2 Inv-loop μ-loop
+cycle-byte-requires-2 c κs =
+    let l = c .before .before .before .before .before .before in
+    line-small (start l .args .l) (l .loop .cycles) (l .loop .inv .0) (l .loop .inv .1) (c .before .before .advance2 .ensures)
 
-add-t30 : tie.Need-add-t30 Inv-loop μ-loop
-add-t30 c = let r = rest-below (c .before .before .before .loop .inv) (omega (arith, c .before .if1 .left)) in omega (arith, feeds (c .before .before .before .loop .inv) .2)
+slice-write-out-2 : tie.Need-slice-write-out-2 Inv-loop μ-loop
+slice-write-out-2 c =
+    let l = c .before .before .before .before .before .before .before in
+    in-time l (c .before .before .before .before .if2 .taken)
+
+same-length : tie.Need-same-length Inv-loop μ-loop
+same-length c =
+    let l = c .before .before .before .before .before .before .before in
+    length-set (l .loop .out) (last-of l) (c .cycle-byte2 .result) ∙ long l
+
+returns : tie.Need-returns Inv-loop μ-loop
+returns c =
+    let l = c .before .before .before .before .before .before .before in
+    let t = c .before .before .before .before in
+    answers (strip (start l)) (reached (start l)) (line-end (start l .args .l) (l .loop .cycles) (l .loop .inv .0) (l .loop .inv .1) (c .before .before .before .advance2 .ensures) (t .if2 .taken) (t .before .if1 .left) (c .cycle-byte2 .ensures) (cleared l))
+
+point-requires : tie.Need-point-requires Inv-loop μ-loop
+point-requires c κs = let l = c .before .before .before in line-drawn (start l .args .l) (l .loop .cycles) (l .loop .inv .0)
+
+remainder-at-requires : tie.Need-remainder-at-requires Inv-loop μ-loop
+remainder-at-requires c κs =
+    let l = c .before .before .before .before in
+    out-asks (l .loop .inv .0) (c .before .if2 .left) (c .before .before .if1 .left)
 
 same-length-2 : tie.Need-same-length-2 Inv-loop μ-loop
-same-length-2 c = search needs
+same-length-2 c = long (c .before .before .before .before .before)
 
 returns-2 : tie.Need-returns-2 Inv-loop μ-loop
 returns-2 c =
-    let l = c .before .before .before in
-    let a = cycling-out (l .loop .inv) (omega (arith, c .before .if1 .left)) (cleared l) in
-    (a .report, a .buffer)
+    let l = c .before .before .before .before .before in
+    let a = cycling-out (l .loop .inv .0) (c .before .before .if2 .left) (c .before .before .before .if1 .left) (cleared l) in
+    answers (strip (start l)) (reached (start l)) (rw (c .before .point .ensures, c .remainder-at .ensures) a)
 
 pub run-line-spec : {M : Type 1} → statement M
 run-line-spec =
@@ -154,26 +187,26 @@ run-line-spec =
     sub-end-tick
     end-tick-requires
     least-requires
+    sub-least
+    least-requires-2
     clear-requires
     div-whole
     first-gap-requires
+    enter-requires
     loop-holds
-    sub-if1
-    step-requires
-    add-tick
-    add-done
-    add-done-2
+    advance-requires
     cycle-byte-requires
     slice-write-out
-    same-length
-    returns
-    cycle-byte-requires-2
-    slice-write-out-2
+    add-cycles
     next-gap-requires
     loop-less
     loop-again
-    sub-t18
-    mul-t19
-    add-t30
+    advance-requires-2
+    cycle-byte-requires-2
+    slice-write-out-2
+    same-length
+    returns
+    point-requires
+    remainder-at-requires
     same-length-2
     returns-2)
