@@ -1,4 +1,5 @@
--- To be believed: Centre, Arc. Proved of them: laws.
+-- To be believed: Centre, Arc. Stepper computes the step. Proved of them: laws.
 pub mod Centre
 pub mod Arc
+pub mod Stepper
 pub mod laws

@@ -2,3 +2,4 @@ pub mod Centre
 pub mod Arc
 pub mod Step
 pub mod Work
+pub mod Stepper

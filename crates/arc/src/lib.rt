@@ -1,3 +1,4 @@
 // Arcs on the table: document 01's "Arcs" about a centre. The circle itself, seen from its centre, is crate `circle`; here are positions.
 pub mod arc;
 pub mod centre;
+pub mod stepper;

@@ -10,6 +10,7 @@ use Rattle.circle.specs.declared.quadrant.Place.{Place}
 use Rattle.circle.specs.declared.step.Move.{Move}
 use Rattle.circle.specs.declared.step.Move.the-variants.{Rise, Slant, Fall}
 use Rattle.circle.specs.declared.step.Stepper.{Stepper}
+use Rattle.circle.specs.declared.step.Cycled.{Cycled}
 use Rattle.circle.specs.Circle.{onCircle}
 use Rattle.circle.specs.Step.{offset, place, seen, turned, pointOf, nextQuadrant, seenPlace}
 
@@ -53,6 +54,10 @@ settled s = cond (eqb (s .along) 0) (carry (s .turn) (place (nextQuadrant (s .qu
 
 unfoldable pub advanceOf : Stepper → Stepper
 advanceOf s = settled (moved (moveOf s) s)
+
+-- one cycle, and the move that it makes
+abbrev pub cycledOf : Stepper → Cycled
+cycledOf s = record { stepper = advanceOf s; made = moveOf s }
 
 -- the pulses of one advance, -1, 0 or 1 on each axis: those of the quadrant, turned as the point is
 abbrev pub quadrantPulse : Move → Offset

@@ -5,13 +5,12 @@ use crate::plane::seen_from;
 use crate::quadrant::Place;
 use crate::quadrant::place_of;
 use crate::quadrant::point_of;
-use crate::quadrant::turned_by;
 ghost use mathlib.Core.Path.{_≡_};
 ghost use mathlib.Core.Bool.{true};
 ghost use Prim.Native.Nat.{_<_};
 ghost use Rattle.circle.specs.Circle.{onCircle};
 ghost use Rattle.circle.specs.Step.{nextQuadrant, stepOf};
-ghost use Rattle.circle.specs.Stepper.{Entered, enterOf, moveOf, moved, settled, advanceOf, leaveOf, quadrantPulse, pulseOf};
+ghost use Rattle.circle.specs.Stepper.{Entered, enterOf, moveOf, moved, settled, cycledOf, leaveOf};
 ghost use Rattle.circle.specs.Asked.{Movable};
 
 const BIAS: u64 = 2_000_000;
@@ -23,7 +22,7 @@ pub enum Move {
     Fall,
 }
 
-// A point in quadrant form with its excess, for long runs: an advance costs a few additions and comparisons, and no product.
+// A point in quadrant form with its excess, for long runs: a cycle costs a few additions and comparisons, and no product.
 pub struct Stepper {
     pub turn: Turn,
     // 0..3, for clockwise in the mirror
@@ -36,22 +35,17 @@ pub struct Stepper {
     pub excess: u64,
 }
 
-fn next_quadrant(k: u64) -> u64
+// What a cycle gives: the stepper after it, and the move that it made.
+pub struct Cycled {
+    pub stepper: Stepper,
+    pub made: Move,
+}
+
+pub fn next_quadrant(k: u64) -> u64
     requires { ⌜ k < 4 ⌝ }
     ensures { λ r. ⌜ r ≡ nextQuadrant k ⌝ }
 {
     if k == 3 { 0 } else { k + 1 }
-}
-
-// The pulses of a move in the first quadrant.
-fn quadrant_pulse(m: Move) -> Offset
-    ensures { λ r. ⌜ r ≡ quadrantPulse m ⌝ }
-{
-    match m {
-        Move::Rise => Offset { x: 0, y: 1 },
-        Move::Slant => Offset { x: -1, y: 1 },
-        Move::Fall => Offset { x: -1, y: 0 },
-    }
 }
 
 impl Stepper {
@@ -71,8 +65,8 @@ impl Stepper {
         }
     }
 
-    // What the next advance will do.
-    pub fn next_move(self) -> Move
+    // What the next cycle does.
+    fn next_move(self) -> Move
         requires { ⌜ Entered self ⌝ }
         ensures { λ r. ⌜ r ≡ moveOf self ⌝ }
     {
@@ -137,23 +131,17 @@ impl Stepper {
         self
     }
 
-    pub fn advance(self) -> Stepper
+    // One cycle onward. The move gives its pulses, without leaving quadrant form.
+    pub fn cycle(self) -> Cycled
         requires { ⌜ Entered self ⌝ }
-        ensures { λ r. ⌜ r ≡ advanceOf self ⌝ }
+        ensures { λ r. ⌜ r ≡ cycledOf self ⌝ }
     {
         let m = self.next_move();
         let s = self.moved_by(m);
-        s.settle()
-    }
-
-    // The pulses of the next advance, -1, 0 or 1 on each axis, without leaving quadrant form.
-    pub fn pulse(self) -> Offset
-        requires { ⌜ Entered self ⌝ }
-        ensures { λ r. ⌜ r ≡ pulseOf self ⌝ }
-    {
-        let turn = self.turn;
-        let m = self.next_move();
-        seen_from(turn, turned_by(self.quadrant, quadrant_pulse(m)))
+        Cycled {
+            stepper: s.settle(),
+            made: m,
+        }
     }
 
     pub fn leave(self) -> Offset
@@ -176,6 +164,7 @@ pub fn step(n: u64, turn: Turn, p: Offset) -> Offset
     ensures { λ r. ⌜ r ≡ stepOf n turn p ⌝ }
 {
     let s = Stepper::enter(n, turn, p);
-    let t = s.advance();
+    let c = s.cycle();
+    let t = c.stepper;
     t.leave()
 }

@@ -10,9 +10,9 @@ use crate::gap::first_gap;
 use crate::gap::next_gap;
 use crate::gap::remainder_at;
 use arc::arc::Arc;
+use arc::stepper::Tracer;
 use divider::end_tick;
 use plane::point::Point;
-use plane::pulse::cycle_byte;
 use work::Work;
 
 pub fn run_arc(capacity: u64, at: Point, remainder: u64, a: Arc, most: u64, out: &mut [u8]) -> Ran
@@ -26,21 +26,19 @@ pub fn run_arc(capacity: u64, at: Point, remainder: u64, a: Arc, most: u64, out:
     clear(out, n);
     let whole = capacity / a.feed;
     let mut gap = first_gap(capacity, a.feed, remainder);
-    let mut here = at;
+    let mut tracer = Tracer::enter(a, at);
     while gap.ticks < last {
-        let s = a.step(here);
+        let t = tracer.cycle();
         let tick = gap.ticks as usize;
-        let pulses = s.pulses;
-        out[tick] = cycle_byte(pulses, false);
-        here = s.at;
+        out[tick] = t.code + 16;
+        tracer = t.tracer;
         gap = next_gap(capacity, a.feed, whole, gap);
     }
     if last < n {
-        let s = a.step(here);
+        let t = tracer.cycle();
         let tick = last as usize;
-        let pulses = s.pulses;
         let there = a.end;
-        out[tick] = cycle_byte(pulses, true);
+        out[tick] = t.code + 48;
         return Ran {
             ticks: n,
             ended: true,
@@ -49,10 +47,11 @@ pub fn run_arc(capacity: u64, at: Point, remainder: u64, a: Arc, most: u64, out:
             work: Work::Nothing,
         };
     }
+    let centre = a.centre;
     Ran {
         ticks: n,
         ended: false,
-        at: here,
+        at: tracer.leave(centre),
         remainder: remainder_at(capacity, a.feed, gap, n),
         work: Work::Arc(a),
     }

@@ -240,3 +240,16 @@ pub moved-quadrant : (m : Move) (s : Stepper) → moved m s .quadrant ≡ s .qua
 moved-quadrant Rise s = refl
 moved-quadrant Slant s = refl
 moved-quadrant Fall s = refl
+
+-- an advance goes on the same way round
+pub advance-turn : (s : Stepper) → advanceOf s .turn ≡ s .turn
+unfolding advanceOf
+advance-turn s = by (moveOf s) (eqb (moved (moveOf s) s .along) 0)
+  where
+    by : (m : Move) (t : Bool) → cond t (carry (moved m s .turn) (place (nextQuadrant (moved m s .quadrant)) (moved m s .across) 0) (moved m s .excess)) (moved m s) .turn ≡ s .turn
+    by Rise true = refl
+    by Rise false = refl
+    by Slant true = refl
+    by Slant false = refl
+    by Fall true = refl
+    by Fall false = refl

@@ -1,23 +1,30 @@
--- A run along an arc: what the arc's step gives is the cycle that the run needs.
-use mathlib.Core.Path.{_≡_, refl, ap, _∙_}
+-- A run along an arc: what the arc's stepper gives is the cycle that the run needs.
+use mathlib.Core.Path.{_≡_, refl, sym, ap, subst, _∙_}
 use mathlib.Core.Bool.{Bool, true, false}
 use mathlib.Core.List.{List}
-use Prim.Native.Nat.{ℕ, _≤_, _<_}
+use Prim.Native.Nat.{ℕ, _+_, _≤_, _<_}
+use native.Mathlib.Omega.{arith}
 use lib.ListN.{set}
 use Rattle.plane.specs.declared.point.Point.{Point}
 use Rattle.plane.specs.Point.{equalPoint}
 use Rattle.plane.specs.Pulse.{cycleByte}
 use Rattle.arc.specs.declared.arc.Arc.{Arc}
-use Rattle.arc.specs.declared.arc.Stepped.{Stepped}
-use Rattle.arc.specs.Arc.{arcStepped}
+use Rattle.arc.specs.declared.stepper.Tracer.{Tracer}
+use Rattle.arc.specs.declared.stepper.Traced.{Traced}
+use Rattle.arc.specs.Centre.{Near}
+use Rattle.arc.specs.Arc.{OnArc, arcStepped}
+use Rattle.arc.specs.Stepper.{bothCodes, arcTracer, tracedOf, tracerAt, Tracing}
+use Rattle.arc.specs.laws.Step.{Circles, circles, next-circles}
+use Rattle.arc.specs.laws.Stepper.{tracing, tracer-next, tracer-at}
 use Rattle.work.specs.declared.Work.{Work}
 use Rattle.work.specs.declared.Cycle.{Cycle}
 use Rattle.work.specs.Work.{isNothing, following, arcCycle, cycleOf}
-use Rattle.work.specs.laws.Cycle.{cycleWith, arc-cycle}
+use Rattle.work.specs.laws.Cycle.{cycleWith, arc-cycle, arc-codes}
 use Rattle.run.specs.declared.gap.Gap.{Gap}
 use Rattle.run.specs.Run.{Strip}
 use Rattle.run.specs.Gap.{nextGap, clearedOf}
 use Rattle.run.specs.laws.Going.{Answer}
+use Rattle.run.specs.laws.Sound.{run-ready}
 use Rattle.run.specs.laws.Cycling.{Cycling, goes-on, ends-now, cycling-on, cycling-end}
 
 -- a cycle has reached the end where nothing is in work after it
@@ -29,18 +36,54 @@ arc-ended at a e = by (equalPoint (arcStepped a at .at) (a .end)) ∙ e
     by true = refl
     by false = refl
 
-module _ {q0 most : ℕ} {all : Strip} {out₀ out : List ℕ} {last n : ℕ} (a : Arc) {at : Point} {g : Gap}
-    (s : Cycling q0 (a .feed) most all out₀ out last n at (Work.Arc a) g) {step : Stepped} (e : step ≡ arcStepped a at) where
-  -- the cycle with the byte that the code writes
-  cycle-is : {byte : ℕ} {ended : Bool} → isNothing (cycleOf at (Work.Arc a) .work) ≡ ended → byte ≡ cycleByte (step .pulses) ended
-      → cycleWith (step .at) byte ended (Work.Arc a) ≡ cycleOf at (Work.Arc a)
-  unfolding cycleOf
-  cycle-is end byte = arc-cycle at a e (ap (λ (x : Stepped). equalPoint (x .at) (a .end)) e ∙ arc-ended at a end) byte
+-- the cycle with its byte
+cycle-is : (a : Arc) (at : Point) {byte : ℕ} {ended : Bool} → isNothing (cycleOf at (Work.Arc a) .work) ≡ ended → byte ≡ cycleByte (arcStepped a at .pulses) ended
+    → cycleWith (arcStepped a at .at) byte ended (Work.Arc a) ≡ cycleOf at (Work.Arc a)
+unfolding cycleOf
+cycle-is a at end byte = arc-cycle at a refl (arc-ended at a end) byte
 
-  pub arc-on : g .ticks < last → {byte : ℕ} → byte ≡ cycleByte (step .pulses) false → {next : Gap} → next ≡ nextGap q0 (a .feed) g
-      → Cycling q0 (a .feed) most all out₀ (set out (g .ticks) byte) last n (step .at) (Work.Arc a) next
-  arc-on h byte gap = cycling-on s h (cycle-is (goes-on s h) byte) gap
+-- the stepper stands at a point of the run where it is the arc's there
+abbrev pub StandsOn : Arc → Tracer → Type 0
+StandsOn a t = t ≡ arcTracer a (tracerAt (a .centre) t)
 
-  pub arc-end : last < n → last ≤ g .ticks → {byte : ℕ} → byte ≡ cycleByte (step .pulses) true → {old : List ℕ} → out₀ ≡ clearedOf n old
-      → Answer all old (set out last byte) (record { ticks = n; ended = true; at = a .end; remainder = g .remainder; work = Work.Nothing })
-  arc-end m h byte clear = cycling-end s m h (ap (λ (x : Cycle). x .byte) (cycle-is (ends-now s m h) byte)) clear
+module _ {q0 most : ℕ} {all : Strip} {out₀ out : List ℕ} {last n : ℕ} (a : Arc) (tracer : Tracer) {g : Gap}
+    (s : Cycling q0 (a .feed) most all out₀ out last n (tracerAt (a .centre) tracer) (Work.Arc a) g) (is : StandsOn a tracer) where
+  on : OnArc a (tracerAt (a .centre) tracer)
+  on = run-ready (s .work) .0
+
+  pub arc-asks : Near 2000000 (a .centre) × Tracing tracer
+  arc-asks = (on .centre, subst Tracing (sym is) (tracing a (tracerAt (a .centre) tracer) (circles on)))
+
+  module _ {t : Traced} (e : t ≡ tracedOf tracer) where
+    next-is : t ≡ record { tracer = arcTracer a (arcStepped a (tracerAt (a .centre) tracer) .at); code = bothCodes (arcStepped a (tracerAt (a .centre) tracer) .pulses) }
+    next-is = e ∙ ap tracedOf is ∙ tracer-next a (tracerAt (a .centre) tracer) (circles on)
+
+    code-is : t .code ≡ bothCodes (arcStepped a (tracerAt (a .centre) tracer) .pulses)
+    code-is = ap (λ (x : Traced). x .code) next-is
+
+    pub arc-small : t .code ≤ 10
+    arc-small = omega (arith, code-is, arc-codes (tracerAt (a .centre) tracer) a refl)
+
+    tracer-is : t .tracer ≡ arcTracer a (arcStepped a (tracerAt (a .centre) tracer) .at)
+    tracer-is = ap (λ (x : Traced). x .tracer) next-is
+
+    next-on : Circles a (arcStepped a (tracerAt (a .centre) tracer) .at)
+    unfolding arcStepped
+    next-on = next-circles a (tracerAt (a .centre) tracer) (circles on)
+
+    next-at : tracerAt (a .centre) (t .tracer) ≡ arcStepped a (tracerAt (a .centre) tracer) .at
+    next-at = ap (tracerAt (a .centre)) tracer-is ∙ tracer-at a (arcStepped a (tracerAt (a .centre) tracer) .at) next-on
+
+    pub arc-on : g .ticks < last → {next : Gap} → next ≡ nextGap q0 (a .feed) g
+        → Cycling q0 (a .feed) most all out₀ (set out (g .ticks) (t .code + 16)) last n (tracerAt (a .centre) (t .tracer)) (Work.Arc a) next × StandsOn a (t .tracer)
+    arc-on h {next} gap =
+        let cycle = cycle-is a (tracerAt (a .centre) tracer) {byte = t .code + 16} (goes-on s h) (omega (arith, code-is)) in (
+          subst (λ (p : Point). Cycling q0 (a .feed) most all out₀ (set out (g .ticks) (t .code + 16)) last n p (Work.Arc a) next) (sym next-at) (cycling-on s h cycle gap),
+          tracer-is ∙ ap (arcTracer a) (sym next-at),
+        )
+
+    pub arc-end : last < n → last ≤ g .ticks → {old : List ℕ} → out₀ ≡ clearedOf n old
+        → Answer all old (set out last (t .code + 48)) (record { ticks = n; ended = true; at = a .end; remainder = g .remainder; work = Work.Nothing })
+    arc-end m h clear =
+        let cycle = cycle-is a (tracerAt (a .centre) tracer) {byte = t .code + 48} (ends-now s m h) (omega (arith, code-is)) in
+        cycling-end s m h (ap (λ (x : Cycle). x .byte) cycle) clear

@@ -36,6 +36,10 @@ pub record Answer (all : Strip) (out₀ out : List ℕ) (ran : Ran) : Type 0 whe
   pub report : ran ≡ ranOf all
   pub buffer : out ≡ written (all .bytes) out₀
 
+-- the answer of a run from a point, over its contract
+pub answers : (all : Point → Strip) {at p : Point} {old out : List ℕ} {ran : Ran} → at ≡ p → Answer (all p) old out ran → (ran ≡ ranOf (all at)) × (out ≡ written (all at .bytes) old)
+answers all same a = rw same (a .report, a .buffer)
+
 -- one byte more
 taken-on : (out : List ℕ) (n b : ℕ) (ys : List ℕ) → n < length out → take n out ++ b ∷ ys ≡ take (n + 1) (set out n b) ++ ys
 taken-on out n b ys h = rw (add-one, take-suc-set out n b h) (sym (append-assoc (take n out) (b ∷ []) ys))

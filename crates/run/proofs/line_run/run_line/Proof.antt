@@ -3,9 +3,7 @@ use borrow.Author.Needs.{needs}
 use native.Mathlib.Omega.{arith}
 use mathlib.Core.Path.{_≡_, refl, ap, subst, _∙_}
 use Prim.Native.Nat.{ℕ, _-_, _<_, min}
-use mathlib.Core.List.{List}
 use lib.ListN.{length, length-set}
-use Rattle.run.specs.declared.Ran.{Ran}
 use Rattle.run.specs.declared.gap.Gap.{Gap}
 use Rattle.line.specs.Stepper.{stepperOf}
 use Rattle.work.specs.declared.Work.{Work}
@@ -14,8 +12,8 @@ use Rattle.run.proofs.line_run.run_line.Statement.{statement}
 use Rattle.run.proofs.line_run.run_line.Tie as tie
 use Rattle.plane.specs.declared.point.Point.{Point}
 use Rattle.line.specs.laws.Work.{line-at}
-use Rattle.run.specs.Run.{Strip, stripOf, ranOf, written, SoundIn}
-use Rattle.run.specs.laws.Going.{Answer}
+use Rattle.run.specs.Run.{Strip, stripOf, SoundIn}
+use Rattle.run.specs.laws.Going.{answers}
 use Rattle.run.specs.laws.Sound.{run-ready}
 use Rattle.run.specs.laws.Cycles.{in-work, end-asks, end-range, gap-asks}
 use Rattle.run.specs.laws.Cycling.{Cycling, cycling-start, cleared-long, feeds, out-asks, cycling-out}
@@ -60,9 +58,6 @@ sound c = subst (λ (p : Point). SoundIn (c .args .capacity) p (c .args .remaind
 
 abbrev strip : tie.Start Inv-loop μ-loop → Point → Strip
 strip c p = stripOf (c .args .capacity) (c .args .most) p (c .args .remainder) (Work.Line (c .args .l))
-
-answers : (all : Point → Strip) {at p : Point} {old out : List ℕ} {ran : Ran} → at ≡ p → Answer (all p) old out ran → (ran ≡ ranOf (all at)) × (out ≡ written (all at .bytes) old)
-answers all same a = rw same (a .report, a .buffer)
 
 sub-end-tick : tie.Need-sub-end-tick Inv-loop μ-loop
 sub-end-tick c = let w = in-work (c .before .before .pre .0) in omega (arith, w .some)

@@ -1,10 +1,10 @@
--- `advance` is right because it is a move, and an axis written in its own quadrant.
+-- `cycle` is right because it is a move, and an axis written in its own quadrant.
 use mathlib.Core.Path.{ap, _∙_}
 use Rattle.circle.specs.Stepper.{moved, settled, advanceOf}
 use Rattle.circle.specs.laws.Stepper.{entered-bounds, movable, moved-quadrant}
 use borrow.Author.Needs.{needs}
-use Rattle.circle.proofs.step.Stepper.advance.Statement.{statement}
-use Rattle.circle.proofs.step.Stepper.advance.Tie as tie
+use Rattle.circle.proofs.step.Stepper.cycle.Statement.{statement}
+use Rattle.circle.proofs.step.Stepper.cycle.Tie as tie
 
 next-move-requires : tie.Need-next-move-requires
 next-move-requires c κs = search needs
@@ -19,7 +19,11 @@ settle-requires c κs =
 
 returns : tie.Need-returns
 unfolding advanceOf
-returns c = c .settle .ensures ∙ ap settled (c .before .moved-by .ensures) ∙ ap (λ m. settled (moved m (c .before .before .before .args .self))) (c .before .before .next-move .ensures)
+returns c =
+    let s = c .before .before .before .args .self in
+    let m = c .before .before .next-move .ensures in
+    let next = c .settle .ensures ∙ ap settled (c .before .moved-by .ensures) ∙ ap (λ m. settled (moved m s)) m in
+    λ i. record { stepper = next i; made = m i }
 
-pub advance-spec : {M : Type 1} → statement M
-advance-spec = tie.close (tie.spec next-move-requires moved-by-requires settle-requires returns)
+pub cycle-spec : {M : Type 1} → statement M
+cycle-spec = tie.close (tie.spec next-move-requires moved-by-requires settle-requires returns)

@@ -1,0 +1,62 @@
+-- The arc's stepper: the circle's, with the codes of its moves. `laws/Stepper.antt` proves that it computes the step.
+use mathlib.Core.Path.{_≡_}
+use Prim.Native.Nat.{ℕ, _+_, _*_}
+use lib.IntN.{pos, negsuc}
+use Rattle.plane.specs.declared.point.Point.{Point}
+use Rattle.plane.specs.declared.pulse.Pulses.{Pulses}
+use Rattle.plane.specs.Pulse.{changeOf}
+use Rattle.circle.specs.declared.plane.Offset.{Offset}
+use Rattle.circle.specs.declared.plane.Turn.{Turn}
+use Rattle.circle.specs.declared.step.Move.{Move}
+use Rattle.circle.specs.declared.step.Move.the-variants.{Rise, Slant, Fall}
+use Rattle.circle.specs.declared.step.Stepper.{Stepper}
+use Rattle.circle.specs.Step.{offset, seen, turned}
+use Rattle.circle.specs.Stepper.{enterOf, leaveOf, advanceOf, quadrantPulse, pulseOf, Entered}
+use Rattle.arc.specs.declared.arc.Arc.{Arc}
+use Rattle.arc.specs.declared.stepper.Tracer.{Tracer}
+use Rattle.arc.specs.declared.stepper.Traced.{Traced}
+use Rattle.arc.specs.Centre.{seenFrom, backFrom}
+
+-- 01, Ticks and runs: "X code + 4 × Y code", of a cycle's pulses ..
+abbrev pub bothCodes : Pulses → ℕ
+bothCodes p = p .x + 4 * p .y
+
+-- .. and of a way
+unfoldable pub wayCode : Offset → ℕ
+wayCode o = changeOf (pos 0) (o .x) + 4 * changeOf (pos 0) (o .y)
+
+abbrev pub upCode : Turn → ℕ
+upCode t = wayCode (seen t (offset (pos 0) (pos 1)))
+
+abbrev pub downCode : Turn → ℕ
+downCode t = wayCode (seen t (offset (pos 0) (negsuc 0)))
+
+-- .. and of a move in a quadrant
+unfoldable pub moveCode : Turn → (quadrant : ℕ) → Move → ℕ
+moveCode t k m = wayCode (seen t (turned k (quadrantPulse m)))
+
+-- a slant is a rise and a fall
+abbrev pub pickCode : (rise fall : ℕ) → Move → ℕ
+pickCode rise fall Rise = rise
+pickCode rise fall Slant = rise + fall
+pickCode rise fall Fall = fall
+
+abbrev pub tracerOf : Stepper → Tracer
+tracerOf s = record { circle = s; rise = moveCode (s .turn) (s .quadrant) Rise; fall = moveCode (s .turn) (s .quadrant) Fall }
+
+-- the stepper of an arc at a point
+unfoldable pub arcTracer : Arc → (at : Point) → Tracer
+arcTracer a at = tracerOf (enterOf (a .square) (a .turn) (seenFrom (a .centre) at))
+
+-- one cycle
+unfoldable pub tracedOf : Tracer → Traced
+tracedOf t = record { tracer = tracerOf (advanceOf (t .circle)); code = wayCode (pulseOf (t .circle)) }
+
+-- the point that it has reached
+unfoldable pub tracerAt : (centre : Point) → Tracer → Point
+tracerAt centre t = backFrom centre (leaveOf (t .circle))
+
+-- what the code asks: a stepper on the circle, with its own codes
+pub record Tracing (t : Tracer) : Type 0 where
+  pub entered : Entered (t .circle)
+  pub is : t ≡ tracerOf (t .circle)
