@@ -1,0 +1,33 @@
+-- `make_number` is right because each answer has its own number.
+use borrow.Author.Needs.{needs}
+use Rattle.export.proofs.answer.make_number.Statement.{statement}
+use Rattle.export.proofs.answer.make_number.Tie as tie
+use Rattle.export.specs.laws.Number.{word-fits}
+use mathlib.Core.Path.{_∙_}
+use Rattle.export.specs.laws.Number.{word-fits, through}
+
+enum-told : tie.Need-enum-told
+enum-told c = search needs
+
+enum-told-2 : tie.Need-enum-told-2
+enum-told-2 c = search needs
+
+enum-known-answer : tie.Need-enum-known-answer
+enum-known-answer c = search needs
+
+word-requires : tie.Need-word-requires
+word-requires c κs = search needs
+
+returns : tie.Need-returns
+returns c = cc
+
+returns-2 : tie.Need-returns-2
+returns-2 c = cc
+
+returns-3 : tie.Need-returns-3
+returns-3 c = through (word-fits _) (c .word .ensures) ∙ simp (c .before .before .answer .given .1)
+
+pub make-number-spec : {M : Type 1} → statement M
+make-number-spec =
+    tie.close
+    (tie.spec enum-told enum-told-2 enum-known-answer word-requires returns returns-2 returns-3)

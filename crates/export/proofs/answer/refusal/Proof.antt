@@ -1,0 +1,21 @@
+-- `refusal` is right because the least word is -1, so minus it is one too.
+use borrow.Author.Needs.{needs}
+use Rattle.export.proofs.answer.refusal.Statement.{statement}
+use Rattle.export.proofs.answer.refusal.Tie as tie
+use mir.Facts.{toZ-ofZ}
+use Rattle.export.specs.Calls.{refusalOf}
+use Rattle.export.specs.laws.Number.{word-fits, refusal-fits, minus}
+
+word-requires : tie.Need-word-requires
+word-requires c κs = search needs
+
+sub-result : tie.Need-sub-result
+unfolding refusalOf
+sub-result c = let q = c .before .args .question in let f = word-fits q in rw (c .word .ensures) (rw (toZ-ofZ f, minus) (refusal-fits q))
+
+returns : tie.Need-returns
+unfolding refusalOf
+returns c = let q = c .before .args .question in let f = word-fits q in let g = refusal-fits q in rw (c .word .ensures) (rw (toZ-ofZ f, minus, toZ-ofZ g))
+
+pub refusal-spec : {M : Type 1} → statement M
+refusal-spec = tie.close (tie.spec word-requires sub-result returns)

@@ -1,0 +1,19 @@
+-- `block` is right because it reads the feed number as a count.
+use borrow.Author.Needs.{needs}
+use Rattle.export.proofs.block.Statement.{statement}
+use Rattle.export.proofs.block.Tie as tie
+use mir.Facts.{toZ-ofZ}
+
+count-requires : tie.Need-count-requires
+count-requires c κs = search needs
+
+returns : tie.Need-returns
+returns c =
+    let s = c .before in
+    let x = s .fits .x in
+    let y = s .fits .y in
+    let feed = s .fits .feed in
+    simp (toZ-ofZ, c .count .ensures)
+
+pub block-spec : {M : Type 1} → statement M
+block-spec = tie.close (tie.spec count-requires returns)

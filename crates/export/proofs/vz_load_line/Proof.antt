@@ -1,0 +1,30 @@
+-- `vz_load_line` is right because it gives the machine the line's block.
+use borrow.Author.Needs.{needs}
+use Rattle.export.proofs.vz_load_line.Statement.{statement}
+use Rattle.export.proofs.vz_load_line.Tie as tie
+use mathlib.Core.Path.{ap, _∙_}
+use denote.Ref.{now}
+use mir.Syntax.{w64}
+use mir.Val.{SFits}
+use mir.Facts.{toZ-ofZ}
+use Rattle.block.specs.declared.Block.{Block}
+use Rattle.export.specs.declared.call.Call.{Call}
+use Rattle.export.specs.Calls.{toldOf}
+
+block-requires : tie.Need-block-requires
+block-requires c κs = search needs
+
+call-record-requires : tie.Need-call-record-requires
+call-record-requires c κs = search needs
+
+returns : tie.Need-returns
+returns c =
+    let s = c .before .before .before in
+    let r : SFits w64 (c .call-record .result) = search needs in
+    let x = s .fits .x in
+    let y = s .fits .y in
+    let feed = s .fits .feed in
+    simp toZ-ofZ (c .call-record .ensures ∙ ap (λ (b : Block). toldOf (now (s .args .words)) (Call.Load b)) (simp toZ-ofZ at (c .before .block .ensures)))
+
+pub vz-load-line-spec : {M : Type 1} → statement M
+vz-load-line-spec = tie.close (tie.spec block-requires call-record-requires returns)

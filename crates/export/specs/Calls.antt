@@ -1,0 +1,125 @@
+-- What each call tells a caller in C: a number, and the words of the record after it, for any words whatever.
+use mathlib.Core.Bool.{cond}
+use mathlib.Core.List.{List}
+use Prim.Native.Nat.{ℕ}
+use lib.IntN.{ℤ, pos, negsuc, negℤ}
+use lib.ListN.{length}
+use Rattle.circle.specs.declared.plane.Turn.{Turn}
+use Rattle.block.specs.declared.Block.{Block}
+use Rattle.block.specs.declared.Path.{Path}
+use Rattle.run.specs.Run.{written}
+use Rattle.machine.specs.declared.settings.Settings.{Settings}
+use Rattle.machine.specs.declared.Machine.{Machine}
+use Rattle.machine.specs.declared.Answer.{Answer}
+use Rattle.machine.specs.declared.Answered.{Answered}
+use Rattle.machine.specs.declared.Tick.{Tick}
+use Rattle.machine.specs.declared.Ticked.{Ticked}
+use Rattle.machine.specs.declared.Report.{Report}
+use Rattle.machine.specs.Calls.{makeOf, loadOf, tickOf, holdOf, releaseOf, stopOf}
+use Rattle.machine.specs.Run.{Run, runOf}
+use Rattle.export.specs.declared.call.Call.{Call}
+use Rattle.export.specs.declared.call.Told.{Told}
+use Rattle.export.specs.declared.decode.Decoded.{Decoded}
+use Rattle.export.specs.Words.{wordOf, countOf, encodeOf, decodeOf}
+
+-- ---- answers as numbers: a refusal is minus the number of the question
+
+unfoldable pub refusalOf : (question : ℕ) → ℤ
+refusalOf n = negℤ (wordOf n)
+
+abbrev pub answerNumber : Answer → ℤ
+answerNumber Answer.Done = pos 0
+answerNumber (Answer.Width n) = wordOf n
+answerNumber (Answer.Refused n) = refusalOf n
+
+abbrev pub tickNumber : Tick → ℤ
+tickNumber (Tick.Byte b) = pos b
+tickNumber (Tick.Refused n) = refusalOf n
+
+abbrev pub reportNumber : Report → ℤ
+reportNumber Report.Idle = pos 0
+reportNumber Report.Held = pos 1
+reportNumber Report.Ended = pos 2
+reportNumber Report.Spent = pos 3
+reportNumber Report.Full = pos 4
+reportNumber (Report.Refused n) = refusalOf n
+
+-- a make has no other answer than done and a question, so its refusals are positive
+abbrev pub makeNumber : Answer → ℤ
+makeNumber Answer.Done = pos 0
+makeNumber (Answer.Width n) = pos 0
+makeNumber (Answer.Refused n) = wordOf n
+
+-- ---- a call on a record
+
+abbrev pub tells : (answer : ℤ) (words : List ℤ) → Told
+tells n ws = record { answer = n; words = ws }
+
+abbrev pub told : ℤ → Machine → Told
+told n m = tells n (encodeOf m)
+
+abbrev pub toldAnswer : Answered → Told
+toldAnswer a = told (answerNumber (a .answer)) (a .machine)
+
+abbrev pub toldTick : Ticked → Told
+toldTick t = told (tickNumber (t .tick)) (t .machine)
+
+unfoldable pub callOf : Machine → Call → Told
+callOf m (Call.Load b) = toldAnswer (loadOf m b)
+callOf m Call.Tick = toldTick (tickOf m)
+callOf m Call.Hold = toldAnswer (holdOf m)
+callOf m Call.Release = toldAnswer (releaseOf m)
+callOf m Call.Stop = toldAnswer (stopOf m)
+
+abbrev pub refused : List ℤ → Told
+refused ws = tells (negsuc 8) ws
+
+-- Words that are no record get 9 and stay as they are; so do those of a record that is not sound, by the machine's own call.
+abbrev pub toldWith : Decoded → List ℤ → Call → Told
+toldWith d ws call = cond (d .ok) (callOf (d .machine) call) (refused ws)
+
+unfoldable pub toldOf : List ℤ → Call → Told
+toldOf ws call = toldWith (decodeOf ws) ws call
+
+-- an arc by its way round and its centre seen from the start
+abbrev pub arcPath : Turn → (i j : ℤ) → Path
+arcPath turn i j = Path.Arc turn (record { x = i; y = j })
+
+-- the block of a load; a negative feed number is 0, which question 11 refuses
+abbrev pub blockOf : Path → (x y feed : ℤ) → Block
+blockOf path x y feed = record { path = path; end = record { x = x; y = y }; feed = countOf feed }
+
+-- ---- make
+
+-- a negative p or w is 0, which question 1 or 2 refuses
+abbrev pub settingsFrom : (p w xlo xhi ylo yhi : ℤ) → Settings
+settingsFrom p w xlo xhi ylo yhi =
+    record { scale = countOf p; clock = countOf w; travel = record { x = record { lower = xlo; upper = xhi }; y = record { lower = ylo; upper = yhi } } }
+
+abbrev pub toldMake : Answered → Told
+toldMake a = told (makeNumber (a .answer)) (a .machine)
+
+unfoldable pub madeOf : Settings → Told
+madeOf s = toldMake (makeOf s)
+
+-- ---- run
+
+-- the report, the number of ticks, the words of the record and the buffer after it
+pub record ToldRun : Type 0 where
+  pub answer : ℤ
+  pub ticks : ℕ
+  pub words : List ℤ
+  pub buffer : List ℕ
+
+abbrev pub tellsRun : (answer : ℤ) (ticks : ℕ) (words : List ℤ) (buffer : List ℕ) → ToldRun
+tellsRun n ticks ws out = record { answer = n; ticks = ticks; words = ws; buffer = out }
+
+-- the tick bytes go to the front of the buffer
+abbrev pub ran : Run → (out : List ℕ) → ToldRun
+ran r out = tellsRun (reportNumber (r .ran .report)) (r .ran .ticks) (encodeOf (r .ran .machine)) (written (r .bytes) out)
+
+abbrev pub runWith : Decoded → List ℤ → (budget : ℕ) (out : List ℕ) → ToldRun
+runWith d ws budget out = cond (d .ok) (ran (runOf (d .machine) budget (length out)) out) (tellsRun (negsuc 8) 0 ws out)
+
+unfoldable pub toldRunOf : List ℤ → (budget : ℕ) (out : List ℕ) → ToldRun
+toldRunOf ws budget out = runWith (decodeOf ws) ws budget out
