@@ -1,3 +1,5 @@
 pub mod Number
 pub mod Same
+pub mod Record
 pub mod Calls
+pub mod Refused
