@@ -1,0 +1,135 @@
+/* The pulse core of a two-axis cutting table for C.
+ *
+ * The core turns lines and arcs into step pulses for X and Y, one clock tick at a time, so that the path keeps to the block
+ * and the speed to the feed. It holds no memory of its own: all that it knows stands in a record of 18 words that the
+ * caller owns. Nothing is allocated, nothing is static, and two records never touch one another.
+ *
+ * Every answer below is proved for every content of the record and every argument. What the caller owes: pointers that are
+ * not null and point to as much as the type says, that don't overlap, and one call at a time on one record.
+ *
+ * Use: vz_make once; then for each block a vz_load_.. and vz_tick (from the clock's interrupt) or vz_run until the block ends.
+ *
+ * Units
+ *   length   whole pulses. A millimetre is p pulses. X points right, Y up; the machine starts at (0, 0).
+ *   time     clock ticks. A second is w ticks.
+ *   feed     pulses per minute: millimetres per minute times p. The fastest is 60 * w, a cycle on every tick.
+ *   cycle    the step from one point of the path to the next: one pulse or none on each axis. A line of a by b pulses takes
+ *            the root of a * a + b * b, rounded up, of them; an arc one for each point that it visits.
+ */
+#ifndef VERDAIZKA_H
+#define VERDAIZKA_H
+
+#include <stddef.h>
+#include <stdint.h>
+
+#ifdef __cplusplus
+extern "C" {
+#endif
+
+/* ---- the record */
+
+#define VZ_RECORD_WORDS 18
+
+/* Written by the calls alone. It may be read, copied, saved and brought back; a copy is a machine of its own. */
+typedef struct vz_record {
+    int64_t word[VZ_RECORD_WORDS];
+} vz_record;
+
+#ifdef __cplusplus
+static_assert(sizeof(vz_record) == 8 * VZ_RECORD_WORDS, "a record is 18 words of 64 bits");
+#else
+_Static_assert(sizeof(vz_record) == 8 * VZ_RECORD_WORDS, "a record is 18 words of 64 bits");
+#endif
+
+/* Which word is what. */
+enum vz_word {
+    VZ_WORD_P = 0,         /* pulses per millimetre */
+    VZ_WORD_W = 1,         /* ticks per second */
+    VZ_WORD_X_LOWER = 2,   /* travel, in pulses */
+    VZ_WORD_X_UPPER = 3,
+    VZ_WORD_Y_LOWER = 4,
+    VZ_WORD_Y_UPPER = 5,
+    VZ_WORD_X = 6,         /* where the machine stands, in pulses */
+    VZ_WORD_Y = 7,
+    VZ_WORD_HELD = 8,      /* 1 held, 0 not */
+    VZ_WORD_REMAINDER = 9, /* what the feed has left over, below 60 * w; it goes on to the next block */
+    VZ_WORD_WORK = 10,     /* what is in work: 0 nothing, 1 a line, 2 an arc clockwise, 3 an arc counterclockwise */
+    VZ_WORD_NUMBERS = 11   /* seven words. Line: start x, start y, end x, end y, feed, cycles, cycles done.
+                              Arc: centre x, centre y, square of the radius, end x, end y, feed, 0. Nothing: all 0. */
+};
+
+/* ---- refusals: what each number says, and its usual cure. A refused call changes nothing, but for vz_make. */
+
+enum vz_refusal {
+    VZ_REFUSED_P = 1,       /* p is not in 1..1,000. Take whole pulses per millimetre. */
+    VZ_REFUSED_W = 2,       /* w is not in 1,000..20,000. Set the clock to 1 to 20 kHz. */
+    VZ_REFUSED_TRAVEL = 3,  /* an axis is not -1,000,000 <= lower <= 0 <= upper <= 1,000,000. Put (0, 0) inside the travel. */
+    VZ_REFUSED_RECORD = 9,  /* the words are no sound record: never made, or written by something else than these calls.
+                               Call vz_make, find the table's zero again, and look for what wrote there. */
+    VZ_REFUSED_BUSY = 10,   /* a block is in work. Tick to its end, or vz_stop. */
+    VZ_REFUSED_FEED = 11,   /* the feed is not in 1..60 * w. Slow down, or make with a faster clock. */
+    VZ_REFUSED_END = 12,    /* the end is outside the travel. */
+    VZ_REFUSED_STILL = 13,  /* a line to where the machine stands. Leave the block out. */
+    VZ_REFUSED_CENTRE = 14, /* i or j is beyond 1,000,000 either way, or both are 0. They are the centre seen from the start. */
+    VZ_REFUSED_CIRCLE = 15, /* the end is not on the circle. Seen from the centre, keep its shorter coordinate and round the
+                               longer one to the pulse nearest to the circle. A full turn ends where it starts. */
+    VZ_REFUSED_WAY = 16     /* the arc leaves the travel on its way, though both ends are inside. */
+};
+
+/* ---- make */
+
+/* Makes the record a fresh machine with these settings: at (0, 0), nothing in work, not held. Whatever the words were before.
+ * Answers 0; or 1, 2 or 3, the first question that says no, and then the machine is one of p 50, w 5,000 and the widest travel. */
+int64_t vz_make(vz_record *record, int64_t p, int64_t w, int64_t x_lower, int64_t x_upper, int64_t y_lower, int64_t y_upper);
+
+/* ---- load: a block comes into work. It begins where the machine stands; x and y are its end, counted from (0, 0).
+ * Answers the register width, positive: the fewest bits for the longer axis of a line, or for the radius of an arc.
+ * Or minus the first refusal: -9, -10 to -12, then -13 for a line, -14 to -16 for an arc. A load moves nothing. */
+
+int64_t vz_load_line(vz_record *record, int64_t x, int64_t y, int64_t feed);
+
+/* (i, j) is the centre seen from the start. An end equal to the start is a full turn. */
+int64_t vz_load_cw(vz_record *record, int64_t x, int64_t y, int64_t feed, int64_t i, int64_t j);
+int64_t vz_load_ccw(vz_record *record, int64_t x, int64_t y, int64_t feed, int64_t i, int64_t j);
+
+/* ---- tick: one tick of the clock.
+ * Answers the tick byte, 0 to 63, or -9. While idle or held the byte is 0 and nothing changes. */
+
+int64_t vz_tick(vz_record *record);
+
+/* The tick byte: X code + 4 * Y code + 16 if a cycle was done + 32 if the block ended with it. A code is a pulse: */
+enum vz_code { VZ_NONE = 0, VZ_PLUS = 1, VZ_MINUS = 2 };
+
+#define VZ_X_CODE(byte) ((byte) & 3)
+#define VZ_Y_CODE(byte) (((byte) >> 2) & 3)
+#define VZ_CYCLE 16
+#define VZ_END 32
+
+/* ---- run: ticks at once, until the budget or the buffer is used up or the block ends.
+ * The tick bytes go to the front of out, its other bytes stay. *ticks is always written: how many ticks were done.
+ * Answers the report, or -9 with 0 ticks. length is that of out, which is not null even where length is 0. */
+
+int64_t vz_run(vz_record *record, uint64_t budget, uint8_t *out, size_t length, uint64_t *ticks);
+
+enum vz_report {
+    VZ_IDLE = 0,  /* nothing was in work: 0 ticks */
+    VZ_HELD = 1,  /* the machine was held: 0 ticks */
+    VZ_ENDED = 2, /* the block ended with the last tick */
+    VZ_SPENT = 3, /* the budget is used up */
+    VZ_FULL = 4   /* the buffer is full */
+};
+
+/* ---- hold, release, stop: 0, or -9 */
+
+/* While held, ticks send nothing and the block waits. The core knows no acceleration: the pulses stop with the next tick. */
+int64_t vz_hold(vz_record *record);
+int64_t vz_release(vz_record *record);
+
+/* Drops the block in work and sets the remainder to 0. The machine stands where it is; a hold stays. */
+int64_t vz_stop(vz_record *record);
+
+#ifdef __cplusplus
+}
+#endif
+
+#endif

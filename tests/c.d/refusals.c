@@ -1,0 +1,133 @@
+/* Every number of include/verdaizka.h once, and that words which are no sound record stay as they are, with everything else that
+ * a call could write. Ends with 1 where an answer is another. */
+#include <inttypes.h>
+#include <stdio.h>
+#include <string.h>
+
+#include "verdaizka.h"
+
+static int wrong = 0;
+
+static void is(const char *what, int64_t got, int64_t expected)
+{
+    if (got != expected) {
+        printf("%s: %" PRId64 " in place of %" PRId64 "\n", what, got, expected);
+        wrong = 1;
+    }
+}
+
+static vz_record fresh(void)
+{
+    vz_record m;
+    is("make", vz_make(&m, 50, 5000, -100, 100, -100, 100), 0);
+    return m;
+}
+
+/* Every call on words that are no sound record. */
+static void refused(const char *what, const vz_record *bad)
+{
+    uint8_t out[4] = {7, 7, 7, 7};
+    uint64_t ticks = 5;
+    for (int call = 0; call < 8; call++) {
+        vz_record m = *bad;
+        int64_t got = call == 0   ? vz_tick(&m)
+                      : call == 1 ? vz_hold(&m)
+                      : call == 2 ? vz_release(&m)
+                      : call == 3 ? vz_stop(&m)
+                      : call == 4 ? vz_load_line(&m, 1, 1, 1)
+                      : call == 5 ? vz_load_cw(&m, 0, 0, 1, 1, 0)
+                      : call == 6 ? vz_load_ccw(&m, 0, 0, 1, 1, 0)
+                                  : vz_run(&m, 4, out, sizeof out, &ticks);
+        is(what, got, -VZ_REFUSED_RECORD);
+        is("words that stay", memcmp(&m, bad, sizeof m), 0);
+    }
+    is("ticks of a refused run", (int64_t)ticks, 0);
+    is("bytes of a refused run", memcmp(out, "\7\7\7\7", 4), 0);
+}
+
+static void make(void)
+{
+    vz_record m;
+    is("p", vz_make(&m, 0, 5000, 0, 0, 0, 0), VZ_REFUSED_P);
+    is("p", vz_make(&m, -1, 5000, 0, 0, 0, 0), VZ_REFUSED_P);
+    is("w", vz_make(&m, 50, 999, 0, 0, 0, 0), VZ_REFUSED_W);
+    is("w", vz_make(&m, 50, INT64_MIN, 0, 0, 0, 0), VZ_REFUSED_W);
+    is("travel", vz_make(&m, 50, 5000, 1, 2, 0, 0), VZ_REFUSED_TRAVEL);
+    is("p of a refused make", m.word[VZ_WORD_P], 50);
+    is("travel of a refused make", m.word[VZ_WORD_X_LOWER], -1000000);
+}
+
+static void load(void)
+{
+    vz_record m = fresh();
+    is("feed", vz_load_line(&m, 1, 1, 300001), -VZ_REFUSED_FEED);
+    is("feed", vz_load_line(&m, 1, 1, -1), -VZ_REFUSED_FEED);
+    is("end", vz_load_line(&m, 101, 0, 1), -VZ_REFUSED_END);
+    is("still", vz_load_line(&m, 0, 0, 1), -VZ_REFUSED_STILL);
+    is("centre", vz_load_cw(&m, 0, 0, 1, 0, 0), -VZ_REFUSED_CENTRE);
+    is("circle", vz_load_cw(&m, 3, 0, 1, 5, 0), -VZ_REFUSED_CIRCLE);
+    is("way", vz_load_ccw(&m, 0, 0, 1, 60, 0), -VZ_REFUSED_WAY);
+    is("width", vz_load_line(&m, 3, -4, 300000), 3);
+    is("busy", vz_load_line(&m, 1, 1, 1), -VZ_REFUSED_BUSY);
+}
+
+/* The line (3, -4) at a cycle for each tick: (1, -1), (1, -2), (2, -2), (2, -3), (3, -4). */
+static void bytes(void)
+{
+    vz_record m = fresh();
+    uint8_t out[8] = {0, 0, 0, 0, 0, 0, 0, 0};
+    uint64_t ticks;
+    is("idle", vz_run(&m, 1, out, sizeof out, &ticks), VZ_IDLE);
+    is("width", vz_load_line(&m, 3, -4, 300000), 3);
+    is("hold", vz_hold(&m), 0);
+    is("held", vz_run(&m, 1, out, sizeof out, &ticks), VZ_HELD);
+    is("byte while held", vz_tick(&m), 0);
+    is("release", vz_release(&m), 0);
+    is("byte", vz_tick(&m), 1 + 4 * 2 + 16);
+    is("spent", vz_run(&m, 1, out, sizeof out, &ticks), VZ_SPENT);
+    is("full", vz_run(&m, 9, out + 1, 1, &ticks), VZ_FULL);
+    is("ended", vz_run(&m, 9, out + 2, 6, &ticks), VZ_ENDED);
+    is("ticks", (int64_t)ticks, 2);
+    is("bytes", memcmp(out, "\x18\x11\x18\x39\0\0\0\0", 8), 0);
+    is("x", m.word[VZ_WORD_X], 3);
+    is("y", m.word[VZ_WORD_Y], -4);
+    is("width of an arc", vz_load_cw(&m, 3, -4, 1, 5, 0), 3);
+    is("stop", vz_stop(&m), 0);
+    is("work after a stop", m.word[VZ_WORD_WORK], 0);
+}
+
+/* One word of a sound record changed. */
+static void changed(const char *what, vz_record m, int word, int64_t to)
+{
+    m.word[word] = to;
+    refused(what, &m);
+}
+
+int main(void)
+{
+    vz_record idle = fresh(), line = fresh(), arc = fresh(), noise;
+    uint64_t seed = 1;
+    make();
+    load();
+    bytes();
+    vz_load_line(&line, 3, 4, 1);
+    vz_load_cw(&arc, 0, 0, 1, 5, 0);
+    changed("p", idle, VZ_WORD_P, -50);
+    changed("x outside", idle, VZ_WORD_X, 101);
+    changed("held 2", idle, VZ_WORD_HELD, 2);
+    changed("remainder", idle, VZ_WORD_REMAINDER, 300000);
+    changed("kind 4", idle, VZ_WORD_WORK, 4);
+    changed("a number of nothing", idle, 17, 1);
+    changed("a line's point", line, VZ_WORD_X, 1);
+    changed("cycles done", line, 17, 5);
+    changed("an arc as a line", arc, VZ_WORD_WORK, 1);
+    changed("an arc's last word", arc, 17, 1);
+    for (int turn = 0; turn < 1000; turn++) {
+        for (int i = 0; i < VZ_RECORD_WORDS; i++) {
+            seed = seed * 6364136223846793005u + 1442695040888963407u;
+            noise.word[i] = (int64_t)seed;
+        }
+        refused("noise", &noise);
+    }
+    return wrong;
+}
