@@ -3,3 +3,5 @@ pub mod Same
 pub mod Record
 pub mod Calls
 pub mod Refused
+pub mod Keep
+pub mod Again

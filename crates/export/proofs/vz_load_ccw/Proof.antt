@@ -1,7 +1,5 @@
 -- `vz_load_ccw` is right because it gives the machine the arc's block.
 use borrow.Author.Needs.{needs}
-use Rattle.export.proofs.vz_load_ccw.Statement.{statement}
-use Rattle.export.proofs.vz_load_ccw.Tie as tie
 use mathlib.Core.Path.{ap, _∙_}
 use denote.Ref.{now}
 use mir.Syntax.{w64}
@@ -10,6 +8,8 @@ use mir.Facts.{toZ-ofZ}
 use Rattle.block.specs.declared.Block.{Block}
 use Rattle.export.specs.declared.call.Call.{Call}
 use Rattle.export.specs.Calls.{toldOf}
+use Rattle.export.proofs.vz_load_ccw.Statement.{statement}
+use Rattle.export.proofs.vz_load_ccw.Tie as tie
 
 arc-requires : tie.Need-arc-requires
 arc-requires c κs = search needs

@@ -1,11 +1,11 @@
 -- `vz_make` is right because it makes the machine of these settings and lays its words.
 use borrow.Author.Needs.{needs}
-use Rattle.export.proofs.vz_make.Statement.{statement}
-use Rattle.export.proofs.vz_make.Tie as tie
 use mir.Syntax.{w64}
 use mir.Val.{SFits}
 use mir.Facts.{toZ-ofZ}
 use Rattle.export.specs.Calls.{madeOf}
+use Rattle.export.proofs.vz_make.Statement.{statement}
+use Rattle.export.proofs.vz_make.Tie as tie
 
 settings-requires : tie.Need-settings-requires
 settings-requires c κs = search needs

@@ -1,11 +1,11 @@
 -- `vz_run` is right because it runs the machine only where the words are a record.
 use borrow.Author.Needs.{needs}
-use Rattle.export.proofs.vz_run.Statement.{statement}
-use Rattle.export.proofs.vz_run.Tie as tie
 use mir.Syntax.{w64}
 use mir.Val.{SFits}
 use mir.Facts.{toZ-ofZ}
 use Rattle.export.specs.laws.Calls.{told-run, told-no-run}
+use Rattle.export.proofs.vz_run.Statement.{statement}
+use Rattle.export.proofs.vz_run.Tie as tie
 
 decode-requires : tie.Need-decode-requires
 decode-requires c κs = search needs

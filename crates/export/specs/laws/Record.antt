@@ -6,10 +6,10 @@ use Prim.Native.Nat.{ℕ, _^_, _≤_, _<_}
 use native.Mathlib.Omega.{arith}
 use lib.Dec.{eqb}
 use lib.IntN.{ℤ, pos}
-use Rattle.circle.specs.declared.plane.Turn.{Turn}
-use Rattle.circle.specs.laws.Circle.{on-circle-to}
 use Rattle.plane.specs.declared.point.Point.{Point}
 use Rattle.plane.specs.declared.travel.Travel.{Travel}
+use Rattle.circle.specs.declared.plane.Turn.{Turn}
+use Rattle.circle.specs.laws.Circle.{on-circle-to}
 use Rattle.line.specs.declared.line.Line.{Line}
 use Rattle.line.specs.laws.Cycles.{cycles-bound}
 use Rattle.arc.specs.declared.arc.Arc.{Arc}

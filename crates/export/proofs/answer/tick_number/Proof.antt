@@ -1,12 +1,12 @@
 -- `tick_number` is right because each answer has its own number.
 use borrow.Author.Needs.{needs}
-use Rattle.export.proofs.answer.tick_number.Statement.{statement}
-use Rattle.export.proofs.answer.tick_number.Tie as tie
 use mathlib.Core.Path.{_∙_}
+use Prim.Native.Nat.{_^_, _<_}
 use mir.Syntax.{w64}
 use mir.Facts.{toZ-pos}
 use Rattle.export.specs.laws.Number.{refusal-fits, through}
-use Prim.Native.Nat.{_^_, _<_}
+use Rattle.export.proofs.answer.tick_number.Statement.{statement}
+use Rattle.export.proofs.answer.tick_number.Tie as tie
 
 enum-known-tick : tie.Need-enum-known-tick
 enum-known-tick c = search needs

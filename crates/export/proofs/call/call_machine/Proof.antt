@@ -1,9 +1,9 @@
 -- `call_machine` is right because each call is the machine's own.
 use borrow.Author.Needs.{needs}
-use Rattle.export.proofs.call.call_machine.Statement.{statement}
-use Rattle.export.proofs.call.call_machine.Tie as tie
 use mathlib.Core.Path.{_∙_}
 use Rattle.export.specs.Calls.{callOf}
+use Rattle.export.proofs.call.call_machine.Statement.{statement}
+use Rattle.export.proofs.call.call_machine.Tie as tie
 
 enum-known-call : tie.Need-enum-known-call
 enum-known-call c = search needs

@@ -1,9 +1,9 @@
 -- `call_words` is right because it calls the machine only where the words are a record.
 use borrow.Author.Needs.{needs}
-use Rattle.export.proofs.call.call_words.Statement.{statement}
-use Rattle.export.proofs.call.call_words.Tie as tie
 use mathlib.Core.Path.{_∙_}
 use Rattle.export.specs.laws.Calls.{told-call, told-refused}
+use Rattle.export.proofs.call.call_words.Statement.{statement}
+use Rattle.export.proofs.call.call_words.Tie as tie
 
 decode-requires : tie.Need-decode-requires
 decode-requires c κs = search needs

@@ -1,10 +1,10 @@
 -- `tell_tick` is right because it tells the answer's number and the machine's words.
 use borrow.Author.Needs.{needs}
-use Rattle.export.proofs.call.tell_tick.Statement.{statement}
-use Rattle.export.proofs.call.tell_tick.Tie as tie
 use mir.Syntax.{w64}
 use mir.Val.{SFits}
 use mir.Facts.{toZ-ofZ}
+use Rattle.export.proofs.call.tell_tick.Statement.{statement}
+use Rattle.export.proofs.call.tell_tick.Tie as tie
 
 encode-requires : tie.Need-encode-requires
 encode-requires c κs = search needs

@@ -1,8 +1,8 @@
 -- `decode` is right because words are a record if they are those of the machine that they tell.
 use borrow.Author.Needs.{needs}
+use Rattle.export.specs.Words.{machineIn, decodeOf}
 use Rattle.export.proofs.decode.decode.Statement.{statement}
 use Rattle.export.proofs.decode.decode.Tie as tie
-use Rattle.export.specs.Words.{machineIn, decodeOf}
 
 work-words-in-requires : tie.Need-work-words-in-requires
 work-words-in-requires c κs = search needs

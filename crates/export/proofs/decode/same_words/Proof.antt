@@ -1,11 +1,11 @@
 -- `same_words` is right because the loop leaves at the first pair that differs.
 use borrow.Author.Needs.{needs}
 use mathlib.Core.Path.{_≡_, refl, ap}
+use mathlib.Core.List.{List}
 use Prim.Native.Nat.{_-_, _≤_}
 use native.Mathlib.Omega.{arith}
 use lib.IntN.{ℤ, pos}
 use lib.ListN.{length, take, getD}
-use mathlib.Core.List.{List}
 use mir.Syntax.{w64}
 use mir.Val.{SFits, ofZ}
 use Rattle.whole.specs.laws.Order.{bits-equal}

@@ -1,13 +1,13 @@
 -- `work_of` is right because it asks the kinds in the definition's order.
 use borrow.Author.Needs.{needs}
-use Rattle.export.proofs.decode.work_of.Statement.{statement}
-use Rattle.export.proofs.decode.work_of.Tie as tie
 use mathlib.Core.Path.{_≡_, sym}
 use borrow.Author.Tests.{eq-eqb, ne-eqb}
 use mir.Syntax.{w64}
 use mir.Val.{SFits}
 use mir.Facts.{toZ-ofZ}
 use Rattle.export.specs.Words.{countOf, workOf}
+use Rattle.export.proofs.decode.work_of.Statement.{statement}
+use Rattle.export.proofs.decode.work_of.Tie as tie
 
 -- the kind that the tests ask
 kind-is : (c : tie.After-count) → countOf (c .before .before .args .w .kind) ≡ c .count .result

@@ -1,9 +1,9 @@
 -- `arc_words` is right because it writes the arc's numbers in the definition's order.
 use borrow.Author.Needs.{needs}
-use Rattle.export.proofs.encode.arc_words.Statement.{statement}
-use Rattle.export.proofs.encode.arc_words.Tie as tie
 use Rattle.export.specs.laws.Number.{word-fits, turn-fits}
 use Rattle.export.specs.laws.Number.{word-fits, turn-fits, through}
+use Rattle.export.proofs.encode.arc_words.Statement.{statement}
+use Rattle.export.proofs.encode.arc_words.Tie as tie
 
 turn-word-requires : tie.Need-turn-word-requires
 turn-word-requires c κs = search needs

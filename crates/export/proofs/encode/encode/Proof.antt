@@ -1,8 +1,8 @@
 -- `encode` is right because it lays the words of the machine.
 use borrow.Author.Needs.{needs}
+use Rattle.export.specs.Words.{encodeOf}
 use Rattle.export.proofs.encode.encode.Statement.{statement}
 use Rattle.export.proofs.encode.encode.Tie as tie
-use Rattle.export.specs.Words.{encodeOf}
 
 head-words-requires : tie.Need-head-words-requires
 head-words-requires c κs = search needs

@@ -1,8 +1,8 @@
 -- `head_words` is right because each word is that of its number.
 use borrow.Author.Needs.{needs}
+use Rattle.export.specs.laws.Number.{word-fits, mark-fits, through}
 use Rattle.export.proofs.encode.head_words.Statement.{statement}
 use Rattle.export.proofs.encode.head_words.Tie as tie
-use Rattle.export.specs.laws.Number.{word-fits, mark-fits, through}
 
 word-requires : tie.Need-word-requires
 word-requires c κs = search needs

@@ -1,9 +1,9 @@
 -- `line_words` is right because it writes the line's numbers in the definition's order.
 use borrow.Author.Needs.{needs}
-use Rattle.export.proofs.encode.line_words.Statement.{statement}
-use Rattle.export.proofs.encode.line_words.Tie as tie
 use Rattle.export.specs.laws.Number.{word-fits}
 use Rattle.export.specs.laws.Number.{word-fits, through}
+use Rattle.export.proofs.encode.line_words.Statement.{statement}
+use Rattle.export.proofs.encode.line_words.Tie as tie
 
 word-requires : tie.Need-word-requires
 word-requires c κs = search needs

@@ -1,8 +1,8 @@
 -- `work_words` is right because each case has its own words.
 use borrow.Author.Needs.{needs}
+use mathlib.Core.Path.{_∙_}
 use Rattle.export.proofs.encode.work_words.Statement.{statement}
 use Rattle.export.proofs.encode.work_words.Tie as tie
-use mathlib.Core.Path.{_∙_}
 
 enum-told : tie.Need-enum-told
 enum-told c = search needs

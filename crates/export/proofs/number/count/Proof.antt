@@ -1,9 +1,9 @@
 -- `count` is right because a number that is not negative is its magnitude.
 use borrow.Author.Needs.{needs}
-use Rattle.export.proofs.number.count.Statement.{statement}
-use Rattle.export.proofs.number.count.Tie as tie
 use mir.Facts.{toZ-ofZ}
 use Rattle.export.specs.laws.Number.{count-none, count-some}
+use Rattle.export.proofs.number.count.Statement.{statement}
+use Rattle.export.proofs.number.count.Tie as tie
 
 part-requires : tie.Need-part-requires
 part-requires c κs = search needs

@@ -1,11 +1,11 @@
 -- `word` is right because a count below 2^63 is an i64 as it stands.
 use borrow.Author.Needs.{needs}
-use Rattle.export.proofs.number.word.Statement.{statement}
-use Rattle.export.proofs.number.word.Tie as tie
 use mathlib.Core.Path.{sym, _∙_}
 use mir.Syntax.{w64}
 use mir.Facts.{toZ-pos}
 use Rattle.export.specs.laws.Number.{word-small, word-large}
+use Rattle.export.proofs.number.word.Statement.{statement}
+use Rattle.export.proofs.number.word.Tie as tie
 
 cast-result : tie.Need-cast-result
 cast-result c = search needs
