@@ -91,14 +91,10 @@ blockOf path x y feed = record { path = path; end = record { x = x; y = y }; fee
 
 -- ---- make
 
--- a negative p or w is 0, which question 1 or 2 refuses
-abbrev pub settingsFrom : (p w xlo xhi ylo yhi : ℤ) → Settings
-settingsFrom p w xlo xhi ylo yhi =
-    record { scale = countOf p; clock = countOf w; travel = record { x = record { lower = xlo; upper = xhi }; y = record { lower = ylo; upper = yhi } } }
-
 abbrev pub toldMake : Answered → Told
 toldMake a = told (makeNumber (a .answer)) (a .machine)
 
+-- a negative p or w is read as 0, which question 1 or 2 refuses
 unfoldable pub madeOf : Settings → Told
 madeOf s = toldMake (makeOf s)
 

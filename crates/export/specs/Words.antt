@@ -98,18 +98,17 @@ workOf w =
     (cond (eqb (countOf (w .kind)) 2) (Work.Arc (arcOf Turn.Clockwise w))
     (cond (eqb (countOf (w .kind)) 3) (Work.Arc (arcOf Turn.Counterclockwise w)) Work.Nothing))
 
-abbrev pub settingsOf : Head → Settings
-settingsOf h =
-    record {
-      scale = countOf (h .p);
-      clock = countOf (h .w);
-      travel = record { x = record { lower = h .xlo; upper = h .xhi }; y = record { lower = h .ylo; upper = h .yhi } };
-    }
+abbrev pub settingsOf : (p w xlo xhi ylo yhi : ℤ) → Settings
+settingsOf p w xlo xhi ylo yhi =
+    record { scale = countOf p; clock = countOf w; travel = record { x = record { lower = xlo; upper = xhi }; y = record { lower = ylo; upper = yhi } } }
+
+abbrev pub settingsIn : Head → Settings
+settingsIn h = settingsOf (h .p) (h .w) (h .xlo) (h .xhi) (h .ylo) (h .yhi)
 
 abbrev pub machineOf : Head → Work → Machine
 machineOf h work =
     record {
-      settings = settingsOf h;
+      settings = settingsIn h;
       at = record { x = h .x; y = h .y };
       held = eqb (countOf (h .mark)) 1;
       remainder = countOf (h .remainder);

@@ -1,9 +1,10 @@
 // The machine that 18 words tell, and whether they are a record at all.
 ghost use mathlib.Core.Path.{_≡_};
-ghost use Rattle.export.specs.Words.{lineOf, arcOf, workOf, headIn, workWordsIn, settingsOf, machineOf, sameWords, decodeOf};
+ghost use Rattle.export.specs.Words.{lineOf, arcOf, workOf, headIn, workWordsIn, settingsIn, machineOf, sameWords, decodeOf};
 use crate::encode::Head;
 use crate::encode::WorkWords;
 use crate::encode::encode;
+use crate::given::settings;
 use crate::number::count;
 use arc::arc::Arc;
 use circle::plane::Turn;
@@ -11,8 +12,6 @@ use line::line::Line;
 use machine::Machine;
 use machine::settings::Settings;
 use plane::point::Point;
-use plane::travel::Range;
-use plane::travel::Travel;
 use work::Work;
 
 // The machine counts only where the words are a record.
@@ -97,29 +96,16 @@ fn work_words_in(words: [i64; 18]) -> WorkWords
     }
 }
 
-fn settings_of(h: Head) -> Settings
-    ensures { λ r. ⌜ r ≡ settingsOf h ⌝ }
+fn settings_in(h: Head) -> Settings
+    ensures { λ r. ⌜ r ≡ settingsIn h ⌝ }
 {
-    let x = Range {
-        lower: h.xlo,
-        upper: h.xhi,
-    };
-    let y = Range {
-        lower: h.ylo,
-        upper: h.yhi,
-    };
-    let travel = Travel { x: x, y: y };
-    Settings {
-        scale: count(h.p),
-        clock: count(h.w),
-        travel: travel,
-    }
+    settings(h.p, h.w, h.xlo, h.xhi, h.ylo, h.yhi)
 }
 
 fn machine_of(h: Head, work: Work) -> Machine
     ensures { λ r. ⌜ r ≡ machineOf h work ⌝ }
 {
-    let settings = settings_of(h);
+    let settings = settings_in(h);
     let at = Point { x: h.x, y: h.y };
     let mark = count(h.mark);
     Machine {

@@ -3,28 +3,26 @@
 ghost use mathlib.Core.Path.{_≡_};
 ghost use Rattle.circle.specs.declared.plane.Turn.{Turn};
 ghost use Rattle.block.specs.declared.Path.{Path};
-ghost use Rattle.export.specs.Calls.{tells, arcPath, blockOf, toldOf, settingsFrom, madeOf, tellsRun, toldRunOf};
+ghost use Rattle.export.specs.Words.{settingsOf};
+ghost use Rattle.export.specs.Calls.{tells, arcPath, blockOf, toldOf, madeOf, tellsRun, toldRunOf};
 use crate::answer::make_number;
 use crate::answer::report_number;
 use crate::call::Call;
 use crate::call::call_record;
 use crate::decode::decode;
 use crate::encode::encode;
-use crate::number::count;
-use block::Block;
+use crate::given::arc;
+use crate::given::block;
+use crate::given::settings;
 use block::Path;
-use circle::plane::Offset;
 use circle::plane::Turn;
 use machine::Machine;
-use machine::settings::Settings;
-use plane::point::Point;
-use plane::travel::Range;
-use plane::travel::Travel;
 
 mod answer;
 pub mod call;
 pub mod decode;
 pub mod encode;
+mod given;
 mod number;
 
 // ---- tick, hold, release, stop
@@ -58,24 +56,6 @@ pub extern "C" fn vz_stop(words: &mut [i64; 18]) -> i64
 }
 
 // ---- load
-
-fn block(path: Path, x: i64, y: i64, feed: i64) -> Block
-    ensures { λ r. ⌜ r ≡ blockOf path x y feed ⌝ }
-{
-    let end = Point { x: x, y: y };
-    Block {
-        path: path,
-        end: end,
-        feed: count(feed),
-    }
-}
-
-fn arc(turn: Turn, i: i64, j: i64) -> Path
-    ensures { λ r. ⌜ r ≡ arcPath turn i j ⌝ }
-{
-    let centre = Offset { x: i, y: j };
-    Path::Arc(turn, centre)
-}
 
 #[no_mangle]
 pub extern "C" fn vz_load_line(words: &mut [i64; 18], x: i64, y: i64, feed: i64) -> i64
@@ -116,25 +96,6 @@ pub extern "C" fn vz_load_ccw(
 
 // ---- make
 
-fn settings(p: i64, w: i64, xlo: i64, xhi: i64, ylo: i64, yhi: i64) -> Settings
-    ensures { λ r. ⌜ r ≡ settingsFrom p w xlo xhi ylo yhi ⌝ }
-{
-    let x = Range {
-        lower: xlo,
-        upper: xhi,
-    };
-    let y = Range {
-        lower: ylo,
-        upper: yhi,
-    };
-    let travel = Travel { x: x, y: y };
-    Settings {
-        scale: count(p),
-        clock: count(w),
-        travel: travel,
-    }
-}
-
 // Whatever the words were, they are a record after it.
 #[no_mangle]
 pub extern "C" fn vz_make(
@@ -146,7 +107,7 @@ pub extern "C" fn vz_make(
     ylo: i64,
     yhi: i64,
 ) -> i64
-    ensures { λ r. ⌜ tells r (now (words .exit)) ≡ madeOf (settingsFrom p w xlo xhi ylo yhi) ⌝ }
+    ensures { λ r. ⌜ tells r (now (words .exit)) ≡ madeOf (settingsOf p w xlo xhi ylo yhi) ⌝ }
 {
     let a = Machine::make(settings(p, w, xlo, xhi, ylo, yhi));
     let answer = a.answer;

@@ -3,8 +3,8 @@ use borrow.Author.Needs.{needs}
 use Rattle.export.proofs.decode.machine_of.Statement.{statement}
 use Rattle.export.proofs.decode.machine_of.Tie as tie
 
-settings-of-requires : tie.Need-settings-of-requires
-settings-of-requires c κs = search needs
+settings-in-requires : tie.Need-settings-in-requires
+settings-in-requires c κs = search needs
 
 count-requires : tie.Need-count-requires
 count-requires c κs = search needs
@@ -13,7 +13,7 @@ count-requires-2 : tie.Need-count-requires-2
 count-requires-2 c κs = search needs
 
 returns : tie.Need-returns
-returns c = search (needs, c .before .before .before .before .before .settings-of .ensures, c .before .before .count .ensures, c .count2 .ensures)
+returns c = search (needs, c .before .before .before .before .before .settings-in .ensures, c .before .before .count .ensures, c .count2 .ensures)
 
 pub machine-of-spec : {M : Type 1} → statement M
-machine-of-spec = tie.close (tie.spec settings-of-requires count-requires count-requires-2 returns)
+machine-of-spec = tie.close (tie.spec settings-in-requires count-requires count-requires-2 returns)

@@ -1,8 +1,8 @@
 -- `settings` is right because it reads p and w as counts.
 use borrow.Author.Needs.{needs}
 use mir.Facts.{toZ-ofZ}
-use Rattle.export.proofs.settings.Statement.{statement}
-use Rattle.export.proofs.settings.Tie as tie
+use Rattle.export.proofs.given.settings.Statement.{statement}
+use Rattle.export.proofs.given.settings.Tie as tie
 
 count-requires : tie.Need-count-requires
 count-requires c κs = search needs

@@ -1,8 +1,8 @@
 -- `block` is right because it reads the feed number as a count.
 use borrow.Author.Needs.{needs}
 use mir.Facts.{toZ-ofZ}
-use Rattle.export.proofs.block.Statement.{statement}
-use Rattle.export.proofs.block.Tie as tie
+use Rattle.export.proofs.given.block.Statement.{statement}
+use Rattle.export.proofs.given.block.Tie as tie
 
 count-requires : tie.Need-count-requires
 count-requires c κs = search needs
