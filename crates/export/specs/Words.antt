@@ -66,8 +66,9 @@ wordsOf h w =
 unfoldable pub encodeOf : Machine → List ℤ
 encodeOf m = wordsOf (headOf m) (workWordsOf (m .work))
 
--- ---- and back
+-- ---- and back: what the words tell, whatever they are
 
+-- a negative word tells no count
 abbrev pub countOf : ℤ → ℕ
 countOf (pos n) = n
 countOf (negsuc n) = 0
