@@ -4,15 +4,18 @@
  * and the speed to the feed. It holds no memory of its own: all that it knows stands in a record of 18 words that the
  * caller owns. Nothing is allocated, nothing is static, and two records never touch one another.
  *
- * Every answer below is proved for every content of the record and every argument. What the caller owes: pointers that are
- * not null and point to as much as the type says, that don't overlap, and one call at a time on one record.
+ * The code behind each call is proved to answer as said here for every content of the record and every argument; the
+ * compiler and this text are not part of the proof. What the caller owes: pointers that are not null and point to as much as
+ * the type says, that don't overlap, and one call at a time on one record.
  *
  * Use: vz_make once; then for each block a vz_load_.. and vz_tick (from the clock's interrupt) or vz_run until the block ends.
+ * Link: rt staticlib export writes target/staticlib/libexport.a. examples/c/square_and_circle.c is a whole program.
  *
  * Units
  *   length   whole pulses. A millimetre is p pulses. X points right, Y up; the machine starts at (0, 0).
  *   time     clock ticks. A second is w ticks.
- *   feed     pulses per minute: millimetres per minute times p. The fastest is 60 * w, a cycle on every tick.
+ *   feed     pulses per minute: millimetres per minute times p. A working tick, with a block in work and not held, adds the feed
+ *            to the remainder; where that reaches 60 * w, 60 * w comes off and a cycle is done. So 60 * w is the fastest.
  *   cycle    the step from one point of the path to the next: one pulse or none on each axis. A line of a by b pulses takes
  *            the root of a * a + b * b, rounded up, of them; an arc one for each point that it visits.
  */
