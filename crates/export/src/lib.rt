@@ -19,9 +19,9 @@ use circle::plane::Turn;
 use machine::Machine;
 
 mod answer;
-pub mod call;
-pub mod decode;
-pub mod encode;
+mod call;
+mod decode;
+mod encode;
 mod given;
 mod number;
 
