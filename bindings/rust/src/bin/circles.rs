@@ -1,0 +1,76 @@
+//! All arcs of all small circles, cut by the core: `circles MAXN` writes a line `N POINTS ARCS CYCLES CRC` for each N, as `second circles MAXN totals` does.
+//! The circle points of N are those at which the core calls an arc in work sound.
+
+use std::io::{self, BufWriter, Write};
+use verdaizka::crc::Crc;
+use verdaizka::{Machine, Why, WORDS};
+
+const CLOCK: i64 = 1_000;
+/// A feed number at the capacity: every tick is a cycle.
+const FEED: i64 = 60 * CLOCK;
+
+type Point = (i64, i64);
+
+/// An arc in work about the origin, at `at`.
+fn arc(n: i64, kind: i64, at: Point, end: Point) -> Machine {
+    let mut words = [0; WORDS];
+    words[..6].copy_from_slice(&[50, CLOCK, -1_000_000, 1_000_000, -1_000_000, 1_000_000]);
+    (words[6], words[7]) = at;
+    words[10..].copy_from_slice(&[kind, 0, 0, n, end.0, end.1, FEED, 0]);
+    Machine::from_words(words)
+}
+
+fn points(n: i64) -> Vec<Point> {
+    let reach = (1..).find(|r| r * r > n).expect("a root");
+    let square = (-reach..=reach).flat_map(|x| (-reach..=reach).map(move |y| (x, y)));
+    square.filter(|&p| arc(n, 3, p, p).hold().is_ok()).collect()
+}
+
+fn pulse(code: u8) -> i64 {
+    match code & 3 {
+        1 => 1,
+        2 => -1,
+        _ => 0,
+    }
+}
+
+/// The cycles of an arc, and the CRC over the points that it visits, x and y in 4 bytes each, low byte first.
+fn cut(n: i64, kind: i64, start: Point, end: Point) -> (u64, u32) {
+    let mut machine = arc(n, kind, start, end);
+    let (mut at, mut cycles, mut crc) = (start, 0, Crc::new());
+    let mut out = [0; 256];
+    loop {
+        let (why, ticks) = machine.run(u64::MAX, &mut out).expect("a sound record");
+        for &byte in &out[..ticks as usize] {
+            at = (at.0 + pulse(byte), at.1 + pulse(byte >> 2));
+            crc.add(&(at.0 as i32).to_le_bytes());
+            crc.add(&(at.1 as i32).to_le_bytes());
+        }
+        cycles += ticks;
+        if why == Why::Ended {
+            assert!(at == end && machine.position() == end, "not at the end");
+            return (cycles, crc.value());
+        }
+    }
+}
+
+fn main() -> io::Result<()> {
+    let most = std::env::args().nth(1).and_then(|n| n.parse().ok()).expect("usage: circles MAXN");
+    let mut out = BufWriter::new(io::stdout().lock());
+    for n in 1..=most {
+        let all = points(n);
+        let (mut arcs, mut cycles, mut crc) = (0u64, 0u64, Crc::new());
+        for kind in [2, 3] {
+            for &start in &all {
+                for &end in &all {
+                    let (of_arc, visited) = cut(n, kind, start, end);
+                    crc.add(format!("{n} {kind} {} {} {} {} {of_arc} {visited:08x}\n", start.0, start.1, end.0, end.1).as_bytes());
+                    arcs += 1;
+                    cycles += of_arc;
+                }
+            }
+        }
+        writeln!(out, "{n} {} {arcs} {cycles} {:08x}", all.len(), crc.value())?;
+    }
+    out.flush()
+}

@@ -1,0 +1,74 @@
+//! The wrapper cuts a square and a circle: the tick bytes add up to the position, the record can be taken out and brought back, refusals carry their number.
+
+use verdaizka::{Block, Machine, Refused, Settings, Turn, Why};
+
+const SETTINGS: Settings = Settings { p: 50, w: 5_000, x: (-1_000, 1_000), y: (-1_000, 1_000) };
+const FEED: i64 = 60_000;
+
+fn pulse(code: u8) -> i64 {
+    [0, 1, -1, 0][usize::from(code & 3)]
+}
+
+/// Runs the block in work to its end in pieces and tells the pulse sums and the ticks.
+fn cut(machine: &mut Machine) -> (i64, i64, u64) {
+    let mut out = [0; 37];
+    let (mut x, mut y, mut all) = (0, 0, 0);
+    loop {
+        let (why, ticks) = machine.run(1_000, &mut out).expect("a sound record");
+        for &byte in &out[..ticks as usize] {
+            x += pulse(byte);
+            y += pulse(byte >> 2);
+        }
+        all += ticks;
+        if why == Why::Ended {
+            return (x, y, all);
+        }
+    }
+}
+
+#[test]
+fn square_and_circle() {
+    let (mut machine, made) = Machine::make(SETTINGS);
+    assert_eq!(made, Ok(()));
+    let mut at = (0, 0);
+    for (x, y) in [(500, 0), (500, 500), (0, 500), (0, 0)] {
+        assert_eq!(machine.load(Block::Line { x, y, feed: FEED }), Ok(9));
+        let (sum_x, sum_y, ticks) = cut(&mut machine);
+        at = (at.0 + sum_x, at.1 + sum_y);
+        assert_eq!((at, machine.position()), ((x, y), (x, y)));
+        assert_eq!(ticks, 500 * 5);
+    }
+    let circle = Block::Arc { turn: Turn::Counterclockwise, x: 0, y: 0, feed: FEED, i: 250, j: 0 };
+    assert_eq!(machine.load(circle), Ok(8));
+    let (x, y, ticks) = cut(&mut machine);
+    assert_eq!((x, y, ticks), (0, 0, 1_416 * 5));
+    assert_eq!((machine.position(), machine.is_busy(), machine.remainder()), ((0, 0), false, 0));
+}
+
+#[test]
+fn refusals_carry_their_number() {
+    let (fresh, made) = Machine::make(Settings { p: 0, ..SETTINGS });
+    assert_eq!(made, Err(Refused(1)));
+    assert_eq!(fresh.words()[..6], [50, 5_000, -1_000_000, 1_000_000, -1_000_000, 1_000_000]);
+    let (mut machine, _) = Machine::make(SETTINGS);
+    let before = machine.clone();
+    assert_eq!(machine.load(Block::Line { x: 1_001, y: 0, feed: FEED }), Err(Refused(12)));
+    assert_eq!(machine, before);
+    let mut garbage = Machine::from_words([7; 18]);
+    assert_eq!(garbage.tick(), Err(Refused(9)));
+    assert_eq!(garbage.words(), &[7; 18]);
+}
+
+#[test]
+fn a_record_can_be_saved() {
+    let (mut machine, _) = Machine::make(SETTINGS);
+    machine.load(Block::Line { x: 300, y: -400, feed: FEED }).expect("accepted");
+    machine.hold().expect("sound");
+    assert_eq!(machine.tick(), Ok(0));
+    machine.release().expect("sound");
+    machine.tick().expect("sound");
+    let mut saved = Machine::from_words(*machine.words());
+    assert_eq!(cut(&mut saved), cut(&mut machine));
+    machine.stop().expect("sound");
+    assert_eq!(saved, machine);
+}
