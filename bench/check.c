@@ -1,4 +1,6 @@
 /* A plain check program over stdio, for timing beside the proved one: the same questions and the same listing, for jobs of straight lines. */
+#include "plain.h"
+
 #include <stdint.h>
 #include <stdio.h>
 #include <stdlib.h>
@@ -11,15 +13,6 @@ struct word {
     int count, digits, negative;
     int64_t value;
 };
-
-static uint64_t least_root(uint64_t s)
-{
-    uint64_t r = 0;
-    for (uint64_t bit = (uint64_t)1 << 22; bit; bit >>= 1)
-        if ((r + bit) * (r + bit) < s)
-            r += bit;
-    return s ? r + 1 : 0;
-}
 
 /* The words of a line by their letters; 0, or the number of the question. */
 static int words_of(const char *s, size_t n, struct word *found)
@@ -112,7 +105,7 @@ int main(void)
         f = feed;
         if (!block)
             continue;
-        uint64_t a = (uint64_t)llabs(end[0] - x), b = (uint64_t)llabs(end[1] - y), q = least_root(a * a + b * b), number = (uint64_t)feed * P;
+        uint64_t a = (uint64_t)llabs(end[0] - x), b = (uint64_t)llabs(end[1] - y), q = plain_root(a * a + b * b), number = (uint64_t)feed * P;
         uint64_t t = (q * CAPACITY - rest + number - 1) / number;
         rest = rest + t * number - q * CAPACITY;
         blocks++;

@@ -6,7 +6,7 @@ enum { CYCLE = 16, LAST = 32 };
 
 static uint64_t magnitude(int64_t v) { return v < 0 ? (uint64_t)-v : (uint64_t)v; }
 
-static uint64_t least_root(uint64_t s)
+uint64_t plain_root(uint64_t s)
 {
     uint64_t r = 0;
     for (uint64_t bit = (uint64_t)1 << 22; bit; bit >>= 1)
@@ -17,7 +17,7 @@ static uint64_t least_root(uint64_t s)
 
 struct plain_line plain_line(int64_t dx, int64_t dy)
 {
-    uint64_t a = magnitude(dx), b = magnitude(dy), q = least_root(a * a + b * b);
+    uint64_t a = magnitude(dx), b = magnitude(dy), q = plain_root(a * a + b * b);
     return (struct plain_line){ q, a, b, q / 2, q / 2, 0, dx < 0 ? 2 : 1, dy < 0 ? 8 : 4 };
 }
 

@@ -22,6 +22,8 @@ struct plain_feed {
     uint64_t capacity, feed, remainder;
 };
 
+/* The least whole number whose square is at least s, for s below 2^46. */
+uint64_t plain_root(uint64_t s);
 struct plain_line plain_line(int64_t dx, int64_t dy);
 /* A full turn of this radius from the right end of the X axis. */
 struct plain_arc plain_turn(int64_t radius, uint64_t cycles, int clockwise);

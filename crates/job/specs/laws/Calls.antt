@@ -1,16 +1,22 @@
 -- The calls tell what the job means.
 use mathlib.Core.Path.{_≡_, refl}
 use mathlib.Core.List.{List, [], _∷_}
-use Prim.Native.Nat.{ℕ, _+_}
+use Prim.Native.Nat.{ℕ, _+_, _≤_}
+use lib.ListN.{length}
+use borrow.Author.Tests.{le-leb}
 use Rattle.machine.specs.declared.Machine.{Machine}
-use Rattle.machine.specs.Settings.{capacityOf}
-use Rattle.machine.specs.Machine.{movedOf}
+use Rattle.machine.specs.declared.settings.Settings.{Settings}
+use Rattle.machine.specs.Settings.{capacityOf, settingsNo}
+use Rattle.machine.specs.Machine.{movedOf, freshOf}
 use Rattle.finish.specs.laws.Record.{AtRest}
 use Rattle.reader.specs.declared.Reader.{Reader}
 use Rattle.reader.specs.declared.«text_line».ReadLine.{ReadLine}
-use Rattle.job.specs.Job.{Asks, Job, onward, jobFrom}
+use Rattle.listing.specs.Tally.{unknown}
+use Rattle.job.specs.Text.{linesOf}
+use Rattle.job.specs.Job.{Asks, Job, onward, jobFrom, jobOf}
 use Rattle.job.specs.Calls.{Cuts, afterRead, callsFrom, cutsOf}
 use Rattle.job.specs.laws.Ended.{endedOf, ended-rests, ended-run, ended-cycles}
+use Rattle.job.specs.laws.Listing.{fresh-rests}
 use Rattle.job.specs.laws.Asks.{Read-as, line-asks}
 
 abbrev pub told : Machine → Job → Cuts
@@ -32,3 +38,8 @@ pub calls-tell : (ls : List (List ℕ)) (n : ℕ) (m : Machine) (k : Reader) →
 unfolding callsFrom jobFrom cutsOf
 calls-tell [] n m k i = refl
 calls-tell (l ∷ ls) n m k i = by-line m n k ls i (calls-tell ls) (line-asks m k (i .sound) (i .idle) l)
+
+-- so of a whole text that question 30 lets through, from a machine made fresh
+pub job-told : (s : Settings) → settingsNo s ≡ 0 → (text : List ℕ) → length text ≤ 65536 → callsFrom 1 (freshOf s) unknown (linesOf text) ≡ told (freshOf s) (jobOf s text)
+unfolding jobOf freshOf
+job-told s passed text short = rw (le-leb (length text) 65536 short) (calls-tell (linesOf text) 1 (freshOf s) unknown (fresh-rests s passed))

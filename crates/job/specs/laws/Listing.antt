@@ -33,7 +33,7 @@ lines-few (b ∷ s) = by (eqb b 10) (linesOf s) (lines-few s)
     by false [] h = omega arith
     by false (l ∷ ls) h = omega arith
 
-fresh-rests : (s : Settings) → settingsNo s ≡ 0 → AtRest (freshOf s)
+pub fresh-rests : (s : Settings) → settingsNo s ≡ 0 → AtRest (freshOf s)
 unfolding freshOf workSound
 fresh-rests s passed =
     let r = settings-right s passed in
