@@ -42,6 +42,27 @@ pub fn check(text: &[u8], pace: Pace, out: &mut impl Write) -> io::Result<()> {
     writeln!(out, "total {} {} {}", total.blocks, total.cycles, total.ticks)
 }
 
+/// The tick bytes of the job's blocks, at most so many: every one is ticked.
+pub fn ticks(text: &[u8], most: u64, out: &mut impl Write) -> io::Result<()> {
+    if text.len() > LONGEST_TEXT {
+        return Ok(());
+    }
+    let (mut reader, mut book, mut left) = (Reader::default(), Book::make(USUAL).0, most);
+    for line in lines(text) {
+        if let Meaning::Refused(_) = reader.line(&mut book, line) {
+            return Ok(());
+        }
+        while book.block.is_some() {
+            if left == 0 {
+                return Ok(());
+            }
+            left -= 1;
+            out.write_all(&[book.tick()])?;
+        }
+    }
+    Ok(())
+}
+
 /// "A last line may lack its LF." After a last LF there is no further line.
 fn lines(text: &[u8]) -> impl Iterator<Item = &[u8]> {
     let without_last_lf = text.strip_suffix(b"\n").unwrap_or(text);

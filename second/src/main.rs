@@ -31,6 +31,7 @@ use listing::Pace;
 const USAGE: &str = "\
 second check [FILE]                  job text to its listing
 second check-slow [FILE]             the same, every tick ticked
+second ticks MOST [FILE]             the tick bytes of a job text, at most so many
 second checks [FILE]                 a stream of jobs (gen jobs) to `%job INDEX LENGTH` lines and listings
 second calls [FILE]                  call file to call file with answers
 second gen calls SEED COUNT          so many histories
@@ -79,6 +80,7 @@ fn run(arguments: &[&str], out: &mut impl Write) -> Result<(), Failure> {
     match *arguments {
         ["check", ref file @ ..] => Ok(listing::check(&all_of(file)?, Pace::AtOnce, out)?),
         ["check-slow", ref file @ ..] => Ok(listing::check(&all_of(file)?, Pace::TickByTick, out)?),
+        ["ticks", most, ref file @ ..] => Ok(listing::ticks(&all_of(file)?, number(most)?, out)?),
         ["checks", ref file @ ..] => checks(&all_of(file)?, out),
         ["calls", ref file @ ..] => Ok(calls::answer_file(&mut opened(file)?, out)?),
         ["gen", "calls", seed, count] => Ok(gen::write_calls(number(seed)?, number(count)?, out)?),

@@ -3,5 +3,4 @@ pub mod Same
 pub mod Record
 pub mod Calls
 pub mod Refused
-pub mod Keep
 pub mod Again

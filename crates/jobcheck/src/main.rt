@@ -6,31 +6,13 @@ use job::Check;
 use libc::STDIN_FILENO;
 use libc::STDOUT_FILENO;
 use machine::Machine;
-use machine::settings::Settings;
-use plane::travel::Range;
-use plane::travel::Travel;
-
-// p 50, w 5,000 and the widest travel.
-fn settings() -> Settings
-    ensures { λ r. ⌜ r ≡ standardSettings ⌝ }
-{
-    let axis = Range {
-        lower: -1_000_000,
-        upper: 1_000_000,
-    };
-    let travel = Travel { x: axis, y: axis };
-    Settings {
-        scale: 50,
-        clock: 5_000,
-        travel: travel,
-    }
-}
+use machine::settings::standard;
 
 // What the check has to hand out is the listing, whatever the text.
 fn start() -> Check
     ensures { λ r. ⌜ Lists standardSettings r ⌝ }
 {
-    let made = Machine::make(settings());
+    let made = Machine::make(standard());
     let machine = made.machine;
     Check::start(machine)
 }

@@ -1,7 +1,6 @@
 // The machine of a cutting table. It goes in by value and comes back by value from each call, beside the answer.
 // A call tests the record first, so that any record whatever gets an answer.
 ghost use mathlib.Core.Path.{_≡_};
-ghost use Rattle.machine.specs.Settings.{standardSettings};
 ghost use Rattle.machine.specs.Machine.{soundParts, freshOf, movedOf};
 ghost use lib.ListN.{length};
 ghost use Rattle.run.specs.Run.{written};
@@ -9,11 +8,10 @@ ghost use Rattle.machine.specs.Run.{reportOf, runOf};
 ghost use Rattle.machine.specs.Calls.{makeOf, loadOf, tickOf, holdOf, releaseOf, stopOf};
 use crate::settings::Settings;
 use crate::settings::settings_no;
+use crate::settings::standard;
 use block::Block;
 use block::questions::load_no;
 use plane::point::Point;
-use plane::travel::Range;
-use plane::travel::Travel;
 use plane::travel::inside;
 use run::run_work;
 use work::Work;
@@ -90,22 +88,6 @@ pub fn sound(settings: Settings, at: Point, remainder: u64, work: Work) -> bool
         return false;
     }
     work_sound(capacity, travel, at, work)
-}
-
-// What a refused make hands back: p 50, w 5,000 and the widest travel.
-fn standard() -> Settings
-    ensures { λ r. ⌜ r ≡ standardSettings ⌝ }
-{
-    let axis = Range {
-        lower: -1_000_000,
-        upper: 1_000_000,
-    };
-    let travel = Travel { x: axis, y: axis };
-    Settings {
-        scale: 50,
-        clock: 5_000,
-        travel: travel,
-    }
 }
 
 fn report_of(ended: bool, spent: bool) -> Report

@@ -1,6 +1,6 @@
 // The settings of a table, and questions 1 to 3.
 ghost use mathlib.Core.Path.{_≡_};
-ghost use Rattle.machine.specs.Settings.{inRange, axisRight, travelRight, settingsNo};
+ghost use Rattle.machine.specs.Settings.{inRange, axisRight, travelRight, settingsNo, standardSettings};
 use plane::travel::Range;
 use plane::travel::Travel;
 use plane::travel::within;
@@ -65,4 +65,20 @@ pub fn settings_no(s: Settings) -> u64
         return 3;
     }
     0
+}
+
+// p 50, w 5,000 and the widest travel: what a refused make hands back, and what the programs take.
+pub fn standard() -> Settings
+    ensures { λ r. ⌜ r ≡ standardSettings ⌝ }
+{
+    let axis = Range {
+        lower: -1_000_000,
+        upper: 1_000_000,
+    };
+    let travel = Travel { x: axis, y: axis };
+    Settings {
+        scale: 50,
+        clock: 5_000,
+        travel: travel,
+    }
 }

@@ -17,7 +17,8 @@ use Rattle.export.specs.Words.{encodeOf, decodeOf}
 use Rattle.export.specs.Calls.{callOf, toldOf, madeOf, ToldRun, toldRunOf}
 use Rattle.export.specs.laws.Record.{decode-encode}
 use Rattle.export.specs.laws.Calls.{told-call, told-run}
-use Rattle.export.specs.laws.Keep.{make-keeps, load-keeps, tick-keeps, run-keeps, hold-keeps, release-keeps, stop-keeps}
+use Rattle.keeps.specs.laws.Make.{make-keeps}
+use Rattle.keeps.specs.laws.Calls.{load-keeps, tick-keeps, run-keeps, hold-keeps, release-keeps, stop-keeps}
 
 abbrev pub recordOf : Machine → Decoded
 recordOf m = record { ok = true; machine = m }

@@ -1,31 +1,20 @@
 -- A block that load accepts, finished from its start.
-use mathlib.Core.Path.{_≡_, refl, sym}
-use mathlib.Core.Bool.{true, false}
-use Prim.Native.Nat.{ℕ}
+use mathlib.Core.Path.{_≡_, refl}
+use mathlib.Core.Bool.{false}
 use native.Mathlib.Omega.{arith}
-use Rattle.whole.specs.laws.Order.{abs-sub}
 use Rattle.plane.specs.declared.point.Point.{Point}
-use Rattle.plane.specs.declared.travel.Travel.{Travel}
-use Rattle.plane.specs.laws.Travel.{Inside, inside}
-use Rattle.line.specs.laws.Cycles.{cycles-some}
-use Rattle.line.specs.laws.Points.{point-start}
-use Rattle.arc.specs.Centre.{Wide}
-use Rattle.arc.specs.laws.Work.{travel-near}
 use Rattle.divider.specs.Divider.{endTick}
 use Rattle.block.specs.declared.Block.{Block}
 use Rattle.block.specs.declared.Path.{Path}
 use Rattle.block.specs.Block.{arcOf, cyclesAlong, blockCycles}
 use Rattle.block.specs.Questions.{loadNo}
-use Rattle.work.specs.declared.Work.{Work}
-use Rattle.work.specs.Work.{isNothing, workSound, feedOf, cyclesLeft, endOf, workAlong, begunOf}
-use Rattle.work.specs.laws.Sound.{Feed, line-sound, arc-sound}
+use Rattle.work.specs.Work.{isNothing, feedOf, cyclesLeft, endOf, workAlong, begunOf}
 use Rattle.machine.specs.declared.Machine.{Machine}
 use Rattle.machine.specs.Settings.{capacityOf}
 use Rattle.machine.specs.Machine.{movedOf}
 use Rattle.machine.specs.Calls.{loadOf}
-use Rattle.machine.specs.laws.Sound.{settings-right, sound, sound-test}
-use Rattle.book.specs.laws.Way.{PathRight}
-use Rattle.book.specs.laws.Load.{load-right}
+use Rattle.machine.specs.laws.Sound.{sound}
+use Rattle.keeps.specs.laws.Calls.{load-keeps}
 use Rattle.finish.specs.Finish.{finishedOf, finishOf}
 use Rattle.finish.specs.laws.Record.{AtWork, AtRest, finishes, finish-keeps-sound}
 
@@ -50,29 +39,6 @@ module _ (start : Point) (b : Block) where
   begun-end Path.Line = refl
   begun-end (Path.Arc turn centre) = refl
 
-  begun-sound : (q0 : ℕ) {t : Travel} → Wide t → Inside t start → Feed q0 (b .feed) → (p : Path) → PathRight t start b p
-      → workSound q0 t start (workAlong start b p) ≡ true
-  unfolding workSound arcOf
-  begun-sound q0 wide here feed Path.Line right =
-      let s = travel-near wide here in
-      let e = travel-near wide (right .end-inside) in
-      let some = cycles-some start (b .end) (right .apart) in
-      line-sound (record {
-        start = here;
-        end = right .end-inside;
-        feed = feed;
-        line = record {
-          drawing = record {
-            short-x = omega (arith, abs-sub (b .end .x) (start .x), s .x, e .x);
-            short-y = omega (arith, abs-sub (b .end .y) (start .y), s .y, e .y);
-            own = refl;
-            due = some;
-          };
-          reached = sym (point-start start (b .end) some);
-        };
-      })
-  begun-sound q0 wide here feed (Path.Arc turn centre) right = arc-sound (record { feed = feed; arc = right .at })
-
 -- ---- loaded into a record at rest
 
 module _ (m : Machine) (rest : AtRest m) (b : Block)
@@ -84,20 +50,7 @@ module _ (m : Machine) (rest : AtRest m) (b : Block)
   pub loaded-at-work : AtWork (loadOf m b .machine)
   unfolding movedOf
   loaded-at-work =
-      let s = sound (rest .sound) in
-      let wide = settings-right _ (s .settings) .wide in
-      let right = load-right (capacityOf (m .settings)) (m .settings .travel) wide (isNothing (m .work)) (m .at) b (inside (s .in-travel)) accepted in
-      rw loads
-      (record {
-        sound = sound-test (record {
-          settings = s .settings;
-          in-travel = s .in-travel;
-          below = s .below;
-          work = begun-sound (m .at) b (capacityOf (m .settings)) wide (inside (s .in-travel)) (record { some = right .some; most = right .short }) (b .path) (right .path);
-        });
-        free = rest .free;
-        busy = begun-busy (m .at) b (b .path);
-      })
+      record { sound = load-keeps m (rest .sound) b; free = rw loads (rest .free); busy = rw loads (begun-busy (m .at) b (b .path)) }
 
   -- its cycles, its ticks and its end are the block's
   pub finish-loaded : (let k = blockCycles (m .at) b in

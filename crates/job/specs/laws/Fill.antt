@@ -45,18 +45,17 @@ module _ {c : Check} {text old new : List ℕ} {check : Check} {len : ℕ} (f : 
 
 -- ---- for programs that fill a buffer until all is handed out
 
+-- some bytes handed out leave less to come, and so does the end
+pub less-to-come : {rest : List ℕ} (len : ℕ) (new next : List ℕ) (over : Bool) → take len new ++ next ≡ rest → len ≤ length new → (over ≡ false → 1 ≤ len)
+    → cond over 0 (suc (length next)) < suc (length rest)
+less-to-come len new next true e room onward = omega arith
+less-to-come len new next false e room onward =
+    omega (arith, onward refl, length-take-le len new room, length-append (take len new) next, ap length e)
+
 abbrev pub toCome : Check → (text : List ℕ) → ℕ
 toCome c text = cond (isOver c) 0 (suc (length (restOf c text)))
 
 pub fill-less : {c : Check} {text old new : List ℕ} {f : Filled} → Fills c text old f new → 160 ≤ length old → length new ≡ length old → isOver c ≡ false
     → toCome (f .check) text < toCome c text
-fill-less {c} {text} {old} {new} {f} fill room long going = rw going (by (isOver (f .check)) refl)
-  where
-    handed : f .len + length (restOf (f .check) text) ≡ length (restOf c text)
-    handed =
-        let n : length (take (f .len) new) ≡ f .len = length-take-le (f .len) new (omega (arith, fill .room)) in
-        sym (ap (λ (k : ℕ). k + length (restOf (f .check) text)) n) ∙ sym (length-append (take (f .len) new) (restOf (f .check) text)) ∙ ap length (fill .bytes)
-
-    by : (over : Bool) → isOver (f .check) ≡ over → cond over 0 (suc (length (restOf (f .check) text))) < suc (length (restOf c text))
-    by true e = omega arith
-    by false e = omega (arith, handed, fill .onward room e)
+fill-less {text = text} {new = new} {f = f} fill room long going =
+    rw going (less-to-come (f .len) new (restOf (f .check) text) (isOver (f .check)) (fill .bytes) (omega (arith, fill .room)) (fill .onward room))

@@ -7,14 +7,12 @@ use native.Mathlib.Omega.{arith}
 use lib.Dec.{eqb, leb}
 use lib.ListN.{length}
 use borrow.Author.Tests.{leb-true}
-use Rattle.plane.specs.laws.Travel.{inside-test}
-use Rattle.work.specs.Work.{workSound}
 use Rattle.row.specs.Lines.{headerLine, refusedLine}
 use Rattle.machine.specs.declared.settings.Settings.{Settings}
 use Rattle.machine.specs.Settings.{capacityOf, settingsNo}
 use Rattle.finish.specs.laws.Record.{AtRest}
 use Rattle.machine.specs.Machine.{freshOf}
-use Rattle.machine.specs.laws.Sound.{settings-right, sound-test}
+use Rattle.keeps.specs.laws.Make.{fresh-sound}
 use lib.IntN.{pos}
 use Rattle.listing.specs.Tally.{unknown, startOf as tallyStart}
 use Rattle.job.specs.Text.{lineOr, linesOf}
@@ -34,10 +32,8 @@ lines-few (b ∷ s) = by (eqb b 10) (linesOf s) (lines-few s)
     by false (l ∷ ls) h = omega arith
 
 pub fresh-rests : (s : Settings) → settingsNo s ≡ 0 → AtRest (freshOf s)
-unfolding freshOf workSound
-fresh-rests s passed =
-    let r = settings-right s passed in
-    record { sound = sound-test (record { settings = passed; in-travel = inside-test (r .origin); below = omega (arith, r .clock-some); work = refl }); idle = refl; free = refl }
+unfolding freshOf
+fresh-rests s passed = record { sound = fresh-sound s passed; idle = refl; free = refl }
 
 last-is : (q0 : ℕ) (ms : List Made) (end : End) → lastAfter 0 0 0 q0 0 ms end ≡ lastLine q0 ms end
 last-is q0 ms End.complete = total-same (omega arith) (omega arith) (omega arith)

@@ -5,8 +5,8 @@ use Rattle.jobcheck.proofs.start.Tie as tie
 use Rattle.jobcheck.proofs.start.Reads as reads
 use Rattle.jobcheck.proofs.start.Lts as lts
 use Rattle.job.proofs.Check.start.Reads as start-reads
-use Rattle.jobcheck.proofs.settings.Reads as settings-reads
 use Rattle.machine.proofs.Machine.make.Reads as make-reads
+use Rattle.machine.proofs.settings.standard.Reads as standard-reads
 use Rattle.job.specs.declared.Check.{Check}
 use Rattle.job.specs.Check.{restOf, startOf}
 use mathlib.Core.Path.{_≡_, ap, _∙_}
@@ -16,8 +16,8 @@ use Rattle.machine.specs.Calls.{makeOf}
 use Rattle.machine.specs.laws.Sound.{standard-passes}
 use Rattle.job.specs.laws.Listing.{listing-is}
 
-settings-requires : tie.Need-settings-requires
-settings-requires c κs = search needs
+standard-requires : tie.Need-standard-requires
+standard-requires c κs = search needs
 
 make-requires : tie.Need-make-requires
 make-requires c κs = search needs
@@ -27,11 +27,11 @@ start-requires c κs = search needs
 
 fresh : (c : tie.After-start) → c .start .result ≡ startOf (freshOf standardSettings)
 unfolding makeOf
-fresh c = rw (c .start .ensures, c .before .before .make .ensures, c .before .before .before .settings .ensures, standard-passes)
+fresh c = rw (c .start .ensures, c .before .before .make .ensures, c .before .before .before .standard .ensures, standard-passes)
 
 returns : tie.Need-returns
 returns c text =
     ap (λ (k : Check). restOf k text) (fresh c) ∙ listing-is standardSettings standard-passes text
 
 pub start-spec : {M : Type 1} → statement M
-start-spec = tie.close (tie.spec settings-requires make-requires start-requires returns)
+start-spec = tie.close (tie.spec standard-requires make-requires start-requires returns)

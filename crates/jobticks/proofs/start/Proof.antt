@@ -1,0 +1,37 @@
+-- `start` is right because a fresh machine's tape has the text's tick bytes to hand out.
+use borrow.Author.Needs.{needs}
+use Rattle.jobticks.proofs.start.Statement.{statement}
+use Rattle.jobticks.proofs.start.Tie as tie
+use Rattle.jobticks.proofs.start.Reads as reads
+use Rattle.jobticks.proofs.start.Lts as lts
+use Rattle.tape.proofs.Tape.start.Reads as start-reads
+use Rattle.machine.proofs.Machine.make.Reads as make-reads
+use Rattle.machine.proofs.settings.standard.Reads as standard-reads
+use Rattle.tape.specs.declared.Tape.{Tape}
+use Rattle.tape.specs.Tape.{restOf, startOf}
+use mathlib.Core.Path.{_≡_, ap, _∙_}
+use Rattle.machine.specs.Settings.{standardSettings}
+use Rattle.machine.specs.Machine.{freshOf}
+use Rattle.machine.specs.Calls.{makeOf}
+use Rattle.machine.specs.laws.Sound.{standard-passes}
+use Rattle.tape.specs.laws.Told.{tape-tells}
+
+standard-requires : tie.Need-standard-requires
+standard-requires c κs = search needs
+
+make-requires : tie.Need-make-requires
+make-requires c κs = search needs
+
+start-requires : tie.Need-start-requires
+start-requires c κs = search needs
+
+fresh : (c : tie.After-start) → c .start .result ≡ startOf (freshOf standardSettings)
+unfolding makeOf
+fresh c = rw (c .start .ensures, c .before .before .make .ensures, c .before .before .before .standard .ensures, standard-passes)
+
+returns : tie.Need-returns
+returns c text =
+    ap (λ (t : Tape). restOf t text) (fresh c) ∙ tape-tells standardSettings text
+
+pub start-spec : {M : Type 1} → statement M
+start-spec = tie.close (tie.spec standard-requires make-requires start-requires returns)

@@ -1,0 +1,36 @@
+// Reads a job on standard input and writes the tick bytes of its blocks, one after the other; at a refused line it ends.
+ghost use mathlib.Core.Path.{_≡_};
+ghost use Rattle.machine.specs.Settings.{standardSettings};
+ghost use Rattle.tape.specs.Tape.{Tells};
+use libc::STDIN_FILENO;
+use libc::STDOUT_FILENO;
+use machine::Machine;
+use machine::settings::standard;
+use tape::Tape;
+
+// What the tape has to hand out are the tick bytes, whatever the text.
+fn start() -> Tape
+    ensures { λ r. ⌜ Tells standardSettings r ⌝ }
+{
+    let made = Machine::make(standard());
+    let machine = made.machine;
+    Tape::start(machine)
+}
+
+// Writes them in large pieces. What fill promises makes the pieces the tick bytes, each in its turn.
+fn main() {
+    // One byte more than a text may have, so that a longer one is seen to be longer.
+    let mut text = [0u8; 65537];
+    let len = io::read_full(STDIN_FILENO, &mut text);
+    let mut out = io::large_buffer();
+    let mut tape = start();
+    while !tape.over {
+        let filled = tape.fill(&text[..len], &mut out);
+        let piece = filled.len;
+        // Nobody reads any more.
+        if !io::write_all(STDOUT_FILENO, &out[..piece]) {
+            return;
+        }
+        tape = filled.tape;
+    }
+}

@@ -1,0 +1,4 @@
+pub mod Make
+pub mod Load
+pub mod Run
+pub mod Calls

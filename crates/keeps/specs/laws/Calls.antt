@@ -1,0 +1,96 @@
+-- Each call on a sound record leaves a sound one.
+use mathlib.Core.Path.{_≡_, refl}
+use mathlib.Core.Bool.{Bool, true, false, cond, _||_}
+use Prim.Native.Nat.{ℕ, zero, suc, min}
+use native.Mathlib.Omega.{arith}
+use borrow.Author.Tests.{leb-true}
+use Rattle.whole.specs.laws.Test.{both}
+use Rattle.plane.specs.declared.point.Point.{Point}
+use Rattle.plane.specs.declared.travel.Travel.{Travel}
+use Rattle.plane.specs.laws.Travel.{inside, inside-test}
+use Rattle.block.specs.declared.Block.{Block}
+use Rattle.block.specs.Questions.{feedRight, loadNo}
+use Rattle.block.specs.laws.Asked.{answered}
+use Rattle.work.specs.declared.Work.{Work}
+use Rattle.work.specs.Work.{isNothing, workSound, advanceOf, begunOf}
+use Rattle.work.specs.laws.Keep.{SoundAt, keeps-sound}
+use Rattle.run.specs.Run.{Strip, stripOf}
+use Rattle.machine.specs.declared.Machine.{Machine}
+use Rattle.machine.specs.Settings.{capacityOf}
+use Rattle.machine.specs.Machine.{soundOf, movedOf}
+use Rattle.machine.specs.Calls.{loadWith, loadOf, ticks, working, tickOf, holdOf, releaseOf, stopOf}
+use Rattle.machine.specs.Run.{ranOver, noTick, runOf}
+use Rattle.machine.specs.declared.Report.{Report}
+use Rattle.machine.specs.declared.Tick.{Tick}
+use Rattle.machine.specs.laws.Sound.{Right, settings-right, Sound, sound, sound-test, loadable}
+use Rattle.keeps.specs.laws.Load.{begun-sound}
+use Rattle.keeps.specs.laws.Run.{strip-keeps}
+
+module _ (m : Machine) (e : soundOf m ≡ true) where
+  abbrev q0 : ℕ
+  q0 = capacityOf (m .settings)
+
+  abbrev t : Travel
+  t = m .settings .travel
+
+  parts : Sound (m .settings) (m .at) (m .remainder) (m .work)
+  parts = sound e
+
+  right : Right (m .settings)
+  right = settings-right (m .settings) (parts .settings)
+
+  here : SoundAt q0 t (m .at) (m .remainder) (m .work)
+  here = record { inside = inside (parts .in-travel); below = parts .below; sound = parts .work }
+
+  moved : {at : Point} {r : ℕ} {w : Work} → SoundAt q0 t at r w → soundOf (movedOf m at r w) ≡ true
+  unfolding movedOf
+  moved s = sound-test (record { settings = parts .settings; in-travel = inside-test (s .inside); below = s .below; work = s .sound })
+
+  pub hold-keeps : soundOf (holdOf m .machine) ≡ true
+  unfolding holdOf
+  hold-keeps = rw e e
+
+  pub release-keeps : soundOf (releaseOf m .machine) ≡ true
+  unfolding releaseOf
+  release-keeps = rw e e
+
+  pub stop-keeps : soundOf (stopOf m .machine) ≡ true
+  unfolding stopOf workSound
+  stop-keeps = rw e (moved (record { inside = inside (parts .in-travel); below = omega (arith, right .clock-some); sound = refl }))
+
+  pub load-keeps : (b : Block) → soundOf (loadOf m b .machine) ≡ true
+  unfolding loadOf loadNo begunOf
+  load-keeps b = rw e (by (loadNo q0 t (isNothing (m .work)) (m .at) b) refl)
+    where
+      loaded : loadNo q0 t (isNothing (m .work)) (m .at) b ≡ 0 → workSound q0 t (m .at) (begunOf (m .at) b .work) ≡ true
+      loaded none =
+          let feed = answered {yes = feedRight q0 (b .feed)} 10 (answered {yes = isNothing (m .work)} 9 none .1) in
+          let end = answered 11 (feed .1) in
+          let f = both (feed .0) in
+          begun-sound (m .at) b (right .wide) (parts .in-travel) (record { some = leb-true 1 (b .feed) (f .0); most = leb-true (b .feed) q0 (f .1) }) (end .0) (b .path)
+          (loadable (m .at) (right .wide) (parts .in-travel) b q0 (isNothing (m .work)) none)
+          (end .1)
+
+      by : (n : ℕ) → loadNo q0 t (isNothing (m .work)) (m .at) b ≡ n → soundOf (loadWith m b n .machine) ≡ true
+      by zero none = moved (record { inside = inside (parts .in-travel); below = parts .below; sound = loaded none })
+      by (suc n) some = e
+
+  pub tick-keeps : soundOf (tickOf m .machine) ≡ true
+  unfolding tickOf
+  tick-keeps = rw e (by (m .held || isNothing (m .work)))
+    where
+      by : (still : Bool) → soundOf (cond still (ticks (Tick.Byte 0) m) (working m (advanceOf q0 (m .at) (m .remainder) (m .work))) .machine) ≡ true
+      by true = e
+      by false = moved (keeps-sound q0 t (m .work) here)
+
+  pub run-keeps : (budget buffer : ℕ) → soundOf (runOf m budget buffer .ran .machine) ≡ true
+  unfolding runOf
+  run-keeps budget buffer = rw e (by (isNothing (m .work)) (m .held))
+    where
+      strip : Strip
+      strip = stripOf q0 (min budget buffer) (m .at) (m .remainder) (m .work)
+
+      by : (idle held : Bool) → soundOf (cond idle (noTick m Report.Idle) (cond held (noTick m Report.Held) (ranOver m budget strip)) .ran .machine) ≡ true
+      by true held = e
+      by false true = e
+      by false false = moved (strip-keeps q0 t (min budget buffer) (m .at) (m .remainder) (m .work) here)

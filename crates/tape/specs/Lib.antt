@@ -1,0 +1,3 @@
+-- To be believed: Tape. Proved of it: laws.
+pub mod Tape
+pub mod laws

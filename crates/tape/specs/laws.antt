@@ -1,0 +1,5 @@
+pub mod Split
+pub mod Pieces
+pub mod Line
+pub mod Fill
+pub mod Told

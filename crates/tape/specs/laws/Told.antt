@@ -1,0 +1,95 @@
+-- A tape that has just begun has the text's tick bytes to hand out; there are as many, and they mark as many cycles, as the listing's last line says.
+use mathlib.Core.Path.{_≡_, refl, sym, ap, _∙_}
+use mathlib.Core.Bool.{Bool, true, false, cond}
+use mathlib.Core.List.{List, [], _∷_, _++_}
+use Prim.Native.Nat.{ℕ, _+_}
+use native.Mathlib.Omega.{arith}
+use lib.Dec.{leb}
+use lib.IntN.{pos}
+use lib.ListN.{length, drop, length-append}
+use Rattle.block.specs.declared.Block.{Block}
+use Rattle.book.specs.Sums.{cyclesMarked}
+use Rattle.machine.specs.declared.Machine.{Machine}
+use Rattle.machine.specs.declared.Ran.{Ran}
+use Rattle.machine.specs.declared.settings.Settings.{Settings}
+use Rattle.machine.specs.Settings.{capacityOf, settingsNo}
+use Rattle.machine.specs.Machine.{movedOf, freshOf}
+use Rattle.machine.specs.Calls.{loadOf}
+use Rattle.machine.specs.Run.{runOf}
+use Rattle.machine.specs.laws.Run.{ticks-are}
+use Rattle.finish.specs.laws.Record.{AtRest}
+use Rattle.reader.specs.declared.Reader.{Reader}
+use Rattle.reader.specs.declared.«text_line».ReadLine.{ReadLine}
+use Rattle.listing.specs.Tally.{unknown}
+use Rattle.job.specs.Text.{linesOf}
+use Rattle.job.specs.Job.{Made, End, Asks, onward, jobFrom, jobOf}
+use Rattle.job.specs.Calls.{enough}
+use Rattle.job.specs.Check.{unless}
+use Rattle.job.specs.Listing.{allCycles, allTicks}
+use Rattle.job.specs.laws.Ended.{Accepted, endedOf, ended-rests, ended-run, ended-cycles}
+use Rattle.job.specs.laws.Listing.{fresh-rests}
+use Rattle.job.specs.laws.Asks.{Read-as, line-asks}
+use Rattle.tape.specs.Tape.{runThen, isRefused, bytesFrom, linesBytes, tickBytesOf, startOf, restOf, Tells}
+use Rattle.tape.specs.laws.Pieces.{still-idle, nothing-left}
+
+pub tape-tells : (s : Settings) → Tells s (startOf (freshOf s))
+unfolding restOf startOf tickBytesOf freshOf
+tape-tells s text = nothing-left (freshOf s) (λ (m : Machine). linesBytes m unknown 0 text) (still-idle (freshOf s) refl)
+
+-- ---- ticks and cycles
+
+pub marked-both : (a b : List ℕ) → cyclesMarked (a ++ b) ≡ cyclesMarked a + cyclesMarked b
+marked-both [] b = omega arith
+marked-both (x ∷ a) b = omega (arith, marked-both a b)
+
+pub record Counts (q0 r : ℕ) (ms : List Made) (bytes : List ℕ) : Type 0 where
+  pub ticks : length bytes ≡ allTicks q0 r ms
+  pub cycles : cyclesMarked bytes ≡ allCycles ms
+
+none : (q0 r : ℕ) → Counts q0 r [] []
+unfolding allTicks allCycles
+none q0 r = record { ticks = refl; cycles = refl }
+
+-- the bytes of a block in front
+module _ (m : Machine) (n : ℕ) (b : Block) (i : AtRest m) (ok : Accepted m b) (rest : Machine → List ℕ) where
+  counts-block : {ms : List Made} → Counts (capacityOf (m .settings)) (endedOf m b .machine .remainder) ms (rest (endedOf m b .machine))
+      → Counts (capacityOf (m .settings)) (m .remainder) (record { textLine = n; start = m .at; block = b } ∷ ms) (runThen (loadOf m b .machine) rest)
+  unfolding allTicks allCycles movedOf
+  counts-block {ms} c =
+      let x = runOf (loadOf m b .machine) enough enough in
+      let ran = ended-run m i b ok in
+      let many : length (x .bytes) ≡ endedOf m b .ticks = sym (ticks-are (loadOf m b .machine) enough enough) ∙ ap (λ (r : Ran). r .ticks) ran in
+      let left : x .ran .machine ≡ endedOf m b .machine = ap (λ (r : Ran). r .machine) ran in
+      rw left
+      (record {
+        ticks = omega (arith, length-append (x .bytes) (rest (endedOf m b .machine)), many, c .ticks);
+        cycles = omega (arith, marked-both (x .bytes) (rest (endedOf m b .machine)), ended-cycles m i b ok, c .cycles);
+      })
+
+abbrev pub Told : List (List ℕ) → Type 0
+Told ls = (n : ℕ) (m : Machine) (k : Reader) → AtRest m → Counts (capacityOf (m .settings)) (m .remainder) (jobFrom (m .settings) n (m .at) k ls .blocks) (bytesFrom m k ls)
+
+by-line : (m : Machine) (n : ℕ) (k : Reader) (ls : List (List ℕ)) → AtRest m → Told ls → {a : Asks} {r : ReadLine} → Read-as m k a r
+    → Counts (capacityOf (m .settings)) (m .remainder) (onward n (m .at) a (λ at k′. jobFrom (m .settings) (n + 1) at k′ ls) .blocks)
+    (unless (isRefused (r .answer)) (runThen (r .machine) (λ m′. bytesFrom m′ (r .reader) ls)))
+unfolding movedOf
+by-line m n k ls i rest (Read-as.nothing known) =
+    rw (nothing-left m (λ (m′ : Machine). bytesFrom m′ known ls) (still-idle m (i .idle))) (rest (n + 1) m known i)
+by-line m n k ls i rest (Read-as.makes known b ok) = counts-block m n b i ok (λ m′. bytesFrom m′ known ls) (rest (n + 1) (endedOf m b .machine) known (ended-rests m i b ok))
+by-line m n k ls i rest (Read-as.refuses number) = none (capacityOf (m .settings)) (m .remainder)
+
+lines-told : (ls : List (List ℕ)) → Told ls
+unfolding bytesFrom jobFrom
+lines-told [] n m k i = none (capacityOf (m .settings)) (m .remainder)
+lines-told (l ∷ ls) n m k i = by-line m n k ls i (lines-told ls) (line-asks m k (i .sound) (i .idle) l)
+
+-- of a whole text, from a machine made fresh
+pub bytes-told : (s : Settings) → settingsNo s ≡ 0 → (text : List ℕ) → Counts (capacityOf s) 0 (jobOf s text .blocks) (tickBytesOf s text)
+unfolding tickBytesOf jobOf freshOf
+bytes-told s passed text = by (leb (length text) 65536)
+  where
+    by : (short : Bool)
+        → Counts (capacityOf s) 0 (cond short (jobFrom s 1 (record { x = pos 0; y = pos 0 }) unknown (linesOf text)) (record { blocks = []; end = End.refused 1 30 }) .blocks)
+        (cond short (bytesFrom (freshOf s) unknown (linesOf (drop 0 text))) [])
+    by true = lines-told (linesOf text) 1 (freshOf s) unknown (fresh-rests s passed)
+    by false = none (capacityOf s) 0

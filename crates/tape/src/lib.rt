@@ -1,0 +1,131 @@
+// The tick bytes of a job text, handed out piece by piece into a lent buffer. How far it has come goes in by value and comes back by value.
+ghost use mathlib.Core.Path.{_≡_};
+ghost use mathlib.Core.Bool.{false};
+ghost use Rattle.tape.specs.Tape.{NextLine, Fills, isRefused, startOf, endedOf, atMachine};
+use job::text::line_end;
+use machine::Machine;
+use reader::Feed;
+use reader::Motion;
+use reader::Reader;
+use reader::text_line::Read;
+use reader::text_line::read_line;
+
+// A budget that no block exceeds, so that a run goes to the block's end or fills its buffer.
+const ENOUGH: u64 = 9_600_000_000_000;
+
+pub struct Tape {
+    // All is handed out.
+    pub over: bool,
+    // Where the next line begins in the text.
+    pub at: usize,
+    pub reader: Reader,
+    // The block in work, if there is one, has bytes to come before the next line is read.
+    pub machine: Machine,
+}
+
+// What a buffer got: its first `len` bytes, and how far the tape has come with them.
+pub struct Filled {
+    pub len: usize,
+    pub tape: Tape,
+}
+
+fn is_refused(answer: Read) -> bool
+    ensures { λ r. ⌜ r ≡ isRefused answer ⌝ }
+{
+    match answer {
+        Read::Nothing => false,
+        Read::Loaded(_) => false,
+        Read::Refused(_) => true,
+    }
+}
+
+impl Tape {
+    // The tick bytes of a job that begins at this machine.
+    pub fn start(machine: Machine) -> Tape
+        ensures { λ r. ⌜ r ≡ startOf machine ⌝ }
+    {
+        let reader = Reader {
+            motion: Motion::Unknown,
+            feed: Feed::Unknown,
+        };
+        Tape {
+            over: false,
+            at: 0,
+            reader: reader,
+            machine: machine,
+        }
+    }
+
+    fn ended(self) -> Tape
+        ensures { λ r. ⌜ r ≡ endedOf self ⌝ }
+    {
+        let mut next = self;
+        next.over = true;
+        next
+    }
+
+    fn at_machine(self, machine: Machine) -> Tape
+        ensures { λ r. ⌜ r ≡ atMachine self machine ⌝ }
+    {
+        let reader = self.reader;
+        Tape {
+            over: self.over,
+            at: self.at,
+            reader: reader,
+            machine: machine,
+        }
+    }
+
+    // Reads the next line, where nothing is left in work.
+    fn next_line(self, text: &[u8]) -> Tape
+        requires { ⌜ self .over ≡ false ⌝ }
+        ensures { λ r. ⌜ NextLine self (now (text .entry)) r ⌝ }
+    {
+        if 65_536 < text.len() {
+            return self.ended();
+        }
+        let at = self.at;
+        if text.len() <= at {
+            return self.ended();
+        }
+        let end = line_end(text, at);
+        let reader = self.reader;
+        let machine = self.machine;
+        let r = read_line(reader, machine, &text[at..end]);
+        let answer = r.answer;
+        if is_refused(answer) {
+            return self.ended();
+        }
+        let known = r.reader;
+        let loaded = r.machine;
+        Tape {
+            over: false,
+            at: end + 1,
+            reader: known,
+            machine: loaded,
+        }
+    }
+
+    // Writes the next tick bytes to the front of the buffer: of one block, as many as it has or as the buffer holds.
+    pub fn fill(self, text: &[u8], out: &mut [u8]) -> Filled
+        ensures { λ r. ⌜ Fills self (now (text .entry)) (now (out .entry)) r (now (out .exit)) ⌝ }
+    {
+        if out.len() == 0 {
+            return Filled { len: 0, tape: self };
+        }
+        let mut tape = self;
+        while !tape.over {
+            let machine = tape.machine;
+            let ran = machine.run(ENOUGH, out);
+            if 0 < ran.ticks {
+                let after = ran.machine;
+                return Filled {
+                    len: ran.ticks as usize,
+                    tape: tape.at_machine(after),
+                };
+            }
+            tape = tape.next_line(text);
+        }
+        Filled { len: 0, tape: tape }
+    }
+}
