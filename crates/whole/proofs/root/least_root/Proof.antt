@@ -9,6 +9,7 @@ use Rattle.whole.specs.laws.Squares.{square-le}
 use Rattle.whole.specs.laws.Root.{least-root-is, least-root-between}
 use Rattle.whole.proofs.root.least_root.Statement.{statement}
 use Rattle.whole.proofs.root.least_root.Tie as tie
+use Rattle.whole.proofs.root.reach.Reads as reach-reads
 
 record Inv (s below gap : ℕ) : Type 0 where
   some : 1 ≤ gap
@@ -36,8 +37,13 @@ module _ (s below gap : ℕ) (i : Inv s below gap) (wide : 1 < gap) where
 returns : tie.Need-returns Inv-loop μ-loop
 returns c = rw (c .if1 .taken) (least-root-is (record { above = omega arith; least = λ k h. omega arith }))
 
+reach-requires : tie.Need-reach-requires Inv-loop μ-loop
+reach-requires c κs = tt
+
 loop-holds : tie.Need-loop-holds Inv-loop μ-loop
-loop-holds c = record { some = omega arith; room = omega arith; low = pos-of-ne-zero (c .if1 .left); high = omega arith }
+loop-holds c =
+    let e = c .reach .ensures in
+    record { some = e .1 .0; room = omega (arith, e .1 .1); low = pos-of-ne-zero (c .before .if1 .left); high = omega (arith, e .0) }
 
 add-middle : tie.Need-add-middle Inv-loop μ-loop
 add-middle c = omega arith
@@ -77,6 +83,7 @@ least-root-spec =
     Inv-loop
     μ-loop
     returns
+    reach-requires
     loop-holds
     add-middle
     mul-if2
