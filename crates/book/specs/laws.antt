@@ -2,7 +2,6 @@ pub mod Settings
 pub mod Way
 pub mod Load
 pub mod Byte
-pub mod EndTick
 pub mod Sound
 pub mod Here
 pub mod Stretch

@@ -16,7 +16,7 @@ use Rattle.machine.specs.Settings.{capacityOf}
 use Rattle.reader.specs.declared.Reader.{Reader}
 use Rattle.reader.specs.Reader.{readerAfter, moving, lineNo, blockOf}
 use Rattle.reader.specs.TextLine.{still}
-use Rattle.listing.specs.Tally.{unknown}
+use Rattle.reader.specs.Reader.{unknown}
 use Rattle.job.specs.Text.{linesOf}
 
 -- ---- one line

@@ -12,18 +12,14 @@ use Rattle.row.specs.Lines.{blockLine, refusedLine}
 use Rattle.work.specs.declared.Work.{Work}
 use Rattle.machine.specs.declared.Machine.{Machine}
 use Rattle.finish.specs.Finish.{finishOf}
-use Rattle.reader.specs.declared.Motion.{Motion}
-use Rattle.reader.specs.declared.Feed.{Feed}
 use Rattle.reader.specs.declared.Reader.{Reader}
 use Rattle.reader.specs.declared.«text_line».Read.{Read}
+use Rattle.reader.specs.Reader.{unknown}
 use Rattle.reader.specs.TextLine.{readLineOf}
 use Rattle.listing.specs.declared.Tally.{Tally}
 use Rattle.listing.specs.declared.Listed.{Listed}
 
 -- nothing known, nothing read
-abbrev pub unknown : Reader
-unknown = record { motion = Motion.Unknown; feed = Feed.Unknown }
-
 unfoldable pub startOf : Machine → Tally
 startOf m = record { reader = unknown; machine = m; lines = 0; blocks = 0; cycles = 0; ticks = 0 }
 

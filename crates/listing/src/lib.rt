@@ -10,8 +10,6 @@ ghost use Rattle.row.specs.Buffer.{hasRoom, bufferAfter, placeAfter};
 ghost use Rattle.listing.specs.Tally.{Gives, countsRight, kindOf, nextPlace, startOf, blockListed, readOf};
 use finish::finish;
 use machine::Machine;
-use reader::Feed;
-use reader::Motion;
 use reader::Reader;
 use reader::text_line::Read;
 use reader::text_line::read_line;
@@ -73,10 +71,7 @@ impl Tally {
     pub fn start(machine: Machine) -> Tally
         ensures { λ r. ⌜ r ≡ startOf machine ⌝ }
     {
-        let reader = Reader {
-            motion: Motion::Unknown,
-            feed: Feed::Unknown,
-        };
+        let reader = Reader::start();
         Tally {
             reader: reader,
             machine: machine,

@@ -18,6 +18,10 @@ use Rattle.reader.specs.declared.Reader.{Reader}
 
 -- ---- "G and F count from their own line until changed"
 
+-- before the first line none is known
+abbrev pub unknown : Reader
+unknown = record { motion = Motion.Unknown; feed = Feed.Unknown }
+
 -- G 1 is a straight line, 2 an arc clockwise, 3 one counterclockwise
 abbrev pub motionOf : ℕ → Motion
 motionOf g = cond (eqb g 1) Motion.Line (cond (eqb g 2) (Motion.Arc Turn.Clockwise) (cond (eqb g 3) (Motion.Arc Turn.Counterclockwise) Motion.Unknown))

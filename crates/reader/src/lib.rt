@@ -1,4 +1,7 @@
 // The reader of a job text: what one line asks of the machine.
+ghost use mathlib.Core.Path.{_≡_};
+ghost use Rattle.reader.specs.Reader.{unknown};
+
 mod command;
 mod questions;
 pub mod text_line;
@@ -21,4 +24,16 @@ pub enum Feed {
 pub struct Reader {
     pub motion: Motion,
     pub feed: Feed,
+}
+
+impl Reader {
+    // Before the first line of a job: no G and no F is known.
+    pub fn start() -> Reader
+        ensures { λ r. ⌜ r ≡ unknown ⌝ }
+    {
+        Reader {
+            motion: Motion::Unknown,
+            feed: Feed::Unknown,
+        }
+    }
 }

@@ -12,7 +12,7 @@ use Rattle.machine.specs.Run.{runOf}
 use Rattle.reader.specs.declared.Reader.{Reader}
 use Rattle.reader.specs.declared.«text_line».Read.{Read}
 use Rattle.reader.specs.TextLine.{readLineOf}
-use Rattle.listing.specs.Tally.{unknown}
+use Rattle.reader.specs.Reader.{unknown}
 use Rattle.job.specs.Text.{linesOf}
 use Rattle.job.specs.Calls.{enough}
 use Rattle.job.specs.Check.{unless}

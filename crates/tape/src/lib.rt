@@ -4,8 +4,6 @@ ghost use mathlib.Core.Bool.{false};
 ghost use Rattle.tape.specs.Tape.{NextLine, Fills, isRefused, startOf, endedOf, atMachine};
 use job::text::line_end;
 use machine::Machine;
-use reader::Feed;
-use reader::Motion;
 use reader::Reader;
 use reader::text_line::Read;
 use reader::text_line::read_line;
@@ -44,10 +42,7 @@ impl Tape {
     pub fn start(machine: Machine) -> Tape
         ensures { λ r. ⌜ r ≡ startOf machine ⌝ }
     {
-        let reader = Reader {
-            motion: Motion::Unknown,
-            feed: Feed::Unknown,
-        };
+        let reader = Reader::start();
         Tape {
             over: false,
             at: 0,

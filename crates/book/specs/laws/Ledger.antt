@@ -13,7 +13,7 @@ use Rattle.block.specs.Questions.{loadNo}
 use Rattle.book.specs.Book.{Job, InWork, Book, Call, freshBook, isNothing, loaded, loadEntry, entry, closing}
 use Rattle.book.specs.Sums.{cyclesMarked}
 use Rattle.book.specs.Ledger.{Fate, Account, opened, whileInWork, newest, worked, fateAt, accountsAfter, ledger, ticksGiven, RightFate, Right, Every}
-use Rattle.book.specs.laws.EndTick.{fewer, exactly}
+use Rattle.divider.specs.laws.AddUp.{fewer, exactly}
 use Rattle.book.specs.laws.Load.{load-right}
 use Rattle.book.specs.laws.Settings.{SettingsRight}
 use Rattle.book.specs.laws.Sound.{JobSound, WorkSound, Sound, fresh-sound}

@@ -15,7 +15,7 @@ use Rattle.block.specs.Block.{blockCycles}
 use Rattle.book.specs.Book.{Job, InWork, Book, Call, Report, Reply, Strip, isNothing, bookTick, inFront, strip, reportOf, runEntry, replies, closing}
 use Rattle.book.specs.Sums.{tickBytes, cyclesMarked}
 use Rattle.book.specs.Ledger.{Account, ticksGiven}
-use Rattle.book.specs.laws.EndTick.{fewer, exactly, rest}
+use Rattle.divider.specs.laws.AddUp.{fewer, exactly, rest}
 use Rattle.book.specs.laws.Sound.{bookOf, JobSound, WorkSound, Sound}
 use Rattle.book.specs.laws.Stretch.{Left, Stripped, strip-stretch}
 use Rattle.book.specs.laws.Ledger.{Open}

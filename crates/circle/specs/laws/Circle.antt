@@ -10,7 +10,7 @@ use lib.Signed.{_<ℤ_}
 use lib.Dec.{ltb→lt, lt→ltb}
 use borrow.Author.Tests.{leb-true, ltb-true, le-leb, lt-ltb}
 use Rattle.whole.specs.Root.{nearestRoot}
-use Rattle.whole.specs.laws.Difference.{Difference, natural, negated, added, crossed}
+use Rattle.whole.specs.laws.Difference.{Difference, natural, negated, added}
 use Rattle.whole.specs.laws.Order.{_≼_, _≺_, from-≤ℤ, to-≤ℤ, abs-neg}
 use Rattle.circle.specs.declared.plane.Offset.{Offset}
 use Rattle.circle.specs.declared.plane.Turn.{Turn}
@@ -18,7 +18,7 @@ use Rattle.circle.specs.declared.plane.Turn.the-variants.{Clockwise, Cou
 use Rattle.circle.specs.Circle.{largestN, square, excess, larger, Circle, circleTest, onCircle}
 use Rattle.circle.specs.Step.{offset, mirror, seen, quarterTurn}
 use Rattle.circle.specs.laws.Test.{both-true, both-of}
-use Rattle.circle.specs.laws.Octant.{Quadrant, swapped, some-n, exact-octant, under-axis, below, nearest-axis, axis-is, within-axis}
+use Rattle.circle.specs.laws.Octant.{Quadrant, swapped, some-n, under-axis, below, nearest-axis, axis-is, within-axis}
 
 -- the quarter turn back
 abbrev pub unturn : Offset → Offset
@@ -103,17 +103,6 @@ circle-some {n} {p} c = by (circle-quadrant c)
     by : Quadrant n (natAbs (p .x)) (natAbs (p .y)) → 1 ≤ n
     by (inl h) = some-n h
     by (inr h) = some-n h
-
--- a start, which has N = x² + y²
-pub exact-circle : (n : ℕ) (p : Offset) → 1 ≤ n → excess n p ≡ pos 0 → Circle n p
-exact-circle n p s e = quadrant-circle p (by (decLe (natAbs (p .y)) (natAbs (p .x))))
-  where
-    is : natAbs (p .x) * natAbs (p .x) + natAbs (p .y) * natAbs (p .y) ≡ n
-    is = omega (arith, crossed (excess-parts n p) (natural 0) e)
-
-    by : Dec (natAbs (p .y) ≤ natAbs (p .x)) → Quadrant n (natAbs (p .x)) (natAbs (p .y))
-    by (yes g) = inl (exact-octant s g is)
-    by (no f) = inr (exact-octant s (omega arith) (omega (arith, is)))
 
 -- no coordinate passes the radius
 pub under-radius : {n : ℕ} (p : Offset) → Circle n p → (natAbs (p .x) ≤ nearestRoot n) × (natAbs (p .y) ≤ nearestRoot n)

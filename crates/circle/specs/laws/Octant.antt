@@ -119,11 +119,6 @@ pub under-axis : {n a b r : ℕ} → Quadrant n a b → Axis n r → (a ≤ r) �
 under-axis (inl h) k = omega (arith, falls k h (omega arith))
 under-axis (inr h) k = omega (arith, falls k h (omega arith))
 
--- a point with F = 0
-pub exact-octant : {n x y : ℕ} → 1 ≤ n → y ≤ x → x * x + y * y ≡ n → Octant n x y
-exact-octant {x = zero} s l e = absurd (omega (arith, mul-le-mul l l))
-exact-octant {x = suc x} s l e = omega arith
-
 -- ---- the nearest root
 
 pub axis-of : {n r : ℕ} → NearestRoot n r → Axis n r

@@ -11,7 +11,7 @@ use Rattle.machine.specs.Machine.{movedOf, freshOf}
 use Rattle.finish.specs.laws.Record.{AtRest}
 use Rattle.reader.specs.declared.Reader.{Reader}
 use Rattle.reader.specs.declared.«text_line».ReadLine.{ReadLine}
-use Rattle.listing.specs.Tally.{unknown}
+use Rattle.reader.specs.Reader.{unknown}
 use Rattle.job.specs.Text.{linesOf}
 use Rattle.job.specs.Job.{Asks, Job, onward, jobFrom, jobOf}
 use Rattle.job.specs.Calls.{Cuts, afterRead, callsFrom, cutsOf}

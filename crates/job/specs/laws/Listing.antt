@@ -14,7 +14,8 @@ use Rattle.finish.specs.laws.Record.{AtRest}
 use Rattle.machine.specs.Machine.{freshOf}
 use Rattle.keeps.specs.laws.Make.{fresh-sound}
 use lib.IntN.{pos}
-use Rattle.listing.specs.Tally.{unknown, startOf as tallyStart}
+use Rattle.reader.specs.Reader.{unknown}
+use Rattle.listing.specs.Tally.{startOf as tallyStart}
 use Rattle.job.specs.Text.{lineOr, linesOf}
 use Rattle.job.specs.Job.{Made, End, jobFrom, jobOf}
 use Rattle.job.specs.Listing.{rows, lastLine, listingOf}

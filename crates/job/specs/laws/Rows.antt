@@ -9,10 +9,7 @@ use Rattle.block.specs.declared.Block.{Block}
 use Rattle.block.specs.declared.Path.{Path}
 use Rattle.block.specs.Block.{blockWidth}
 use Rattle.row.specs.Lines.{totalLine, refusedLine}
-use Rattle.work.specs.declared.Work.{Work}
 use Rattle.work.specs.Work.{workAlong, begunOf}
-use Rattle.machine.specs.declared.Machine.{Machine}
-use Rattle.machine.specs.declared.settings.Settings.{Settings}
 use Rattle.machine.specs.Settings.{capacityOf}
 use Rattle.machine.specs.Machine.{movedOf}
 use Rattle.machine.specs.Calls.{loadOf}

@@ -20,7 +20,7 @@ use Rattle.machine.specs.laws.Run.{ticks-are}
 use Rattle.finish.specs.laws.Record.{AtRest}
 use Rattle.reader.specs.declared.Reader.{Reader}
 use Rattle.reader.specs.declared.«text_line».ReadLine.{ReadLine}
-use Rattle.listing.specs.Tally.{unknown}
+use Rattle.reader.specs.Reader.{unknown}
 use Rattle.job.specs.Text.{linesOf}
 use Rattle.job.specs.Job.{Made, End, Asks, onward, jobFrom, jobOf}
 use Rattle.job.specs.Calls.{enough}
