@@ -11,7 +11,7 @@ use Rattle.circle.specs.declared.plane.Turn.{Turn}
 use Rattle.line.specs.declared.line.Line.{Line}
 use Rattle.arc.specs.declared.arc.Arc.{Arc}
 use Rattle.work.specs.declared.Work.{Work}
-use Rattle.machine.specs.declared.settings.Settings.{Settings}
+use Rattle.settings.specs.declared.Settings.{Settings}
 use Rattle.machine.specs.declared.Machine.{Machine}
 use Rattle.export.specs.declared.encode.Head.{Head}
 use Rattle.export.specs.declared.encode.WorkWords.{WorkWords}

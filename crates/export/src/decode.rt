@@ -10,7 +10,7 @@ use arc::arc::Arc;
 use circle::plane::Turn;
 use line::line::Line;
 use machine::Machine;
-use machine::settings::Settings;
+use settings::Settings;
 use plane::point::Point;
 use work::Work;
 

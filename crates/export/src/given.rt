@@ -7,7 +7,7 @@ use block::Block;
 use block::Path;
 use circle::plane::Offset;
 use circle::plane::Turn;
-use machine::settings::Settings;
+use settings::Settings;
 use plane::point::Point;
 use plane::travel::Range;
 use plane::travel::Travel;

@@ -8,7 +8,7 @@ use Rattle.divider.specs.Divider.{endTick}
 use Rattle.work.specs.declared.Work.{Work}
 use Rattle.work.specs.Work.{isNothing, feedOf, cyclesLeft, endOf}
 use Rattle.machine.specs.declared.Machine.{Machine}
-use Rattle.machine.specs.Settings.{capacityOf}
+use Rattle.settings.specs.Settings.{capacityOf}
 use Rattle.machine.specs.Machine.{soundOf, movedOf}
 use Rattle.finish.specs.declared.Left.{Left}
 use Rattle.finish.specs.declared.Finished.{Finished}

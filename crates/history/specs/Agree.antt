@@ -3,7 +3,7 @@ use Rattle.line.specs.Line.{cyclesOf}
 use Rattle.block.specs.declared.Path.{Path}
 use Rattle.block.specs.Block.{arcOf}
 use Rattle.work.specs.declared.Work.{Work}
-use Rattle.machine.specs.declared.settings.Settings.{Settings}
+use Rattle.settings.specs.declared.Settings.{Settings}
 use Rattle.machine.specs.declared.Machine.{Machine}
 use Rattle.book.specs.Book.{Job, InWork, Book}
 

@@ -4,7 +4,7 @@ use Prim.Native.Nat.{ℕ}
 use denote.Ref.{RefT}
 use contract.Lifetimes.{Lfts}
 use Rattle.block.specs.declared.Block.{Block}
-use Rattle.machine.specs.declared.settings.Settings.{Settings}
+use Rattle.settings.specs.declared.Settings.{Settings}
 use Rattle.machine.specs.declared.Machine.{Machine}
 use Rattle.machine.specs.declared.Answered.{Answered}
 use Rattle.machine.specs.declared.Ticked.{Ticked}

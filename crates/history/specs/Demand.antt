@@ -3,10 +3,10 @@
 use mathlib.Core.Path.{_≡_}
 use mathlib.Core.List.{List, []}
 use Prim.Native.Nat.{_+_, _*_}
-use Rattle.machine.specs.declared.settings.Settings.{Settings}
+use Rattle.settings.specs.declared.Settings.{Settings}
 use Rattle.machine.specs.declared.Machine.{Machine}
 use Rattle.machine.specs.declared.Answered.{Answered}
-use Rattle.machine.specs.Settings.{capacityOf}
+use Rattle.settings.specs.Settings.{capacityOf}
 use Rattle.book.specs.Book.{Book, Call, Reply, freshBook, replies, closing}
 use Rattle.book.specs.Bounds.{OnWork}
 use Rattle.book.specs.Ledger.{Right, Every, ledger}

@@ -8,7 +8,7 @@ use lib.ListN.{length, take, drop}
 use Rattle.row.specs.Buffer.{placed}
 use Rattle.row.specs.Lines.{headerLine, totalLine, refusedLine}
 use Rattle.machine.specs.declared.Machine.{Machine}
-use Rattle.machine.specs.declared.settings.Settings.{Settings}
+use Rattle.settings.specs.declared.Settings.{Settings}
 use Rattle.listing.specs.declared.Tally.{Tally}
 use Rattle.listing.specs.Tally.{listedOf}
 use Rattle.listing.specs.Tally.{startOf as tallyStart}

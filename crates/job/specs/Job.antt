@@ -11,8 +11,8 @@ use Rattle.block.specs.declared.Block.{Block}
 use Rattle.block.specs.Questions.{loadNo}
 use Rattle.letters.specs.declared.word.Words.{Words}
 use Rattle.words.specs.laws.Scan.{lineOf}
-use Rattle.machine.specs.declared.settings.Settings.{Settings}
-use Rattle.machine.specs.Settings.{capacityOf}
+use Rattle.settings.specs.declared.Settings.{Settings}
+use Rattle.settings.specs.Settings.{capacityOf}
 use Rattle.reader.specs.declared.Reader.{Reader}
 use Rattle.reader.specs.Reader.{readerAfter, moving, lineNo, blockOf}
 use Rattle.reader.specs.TextLine.{still}

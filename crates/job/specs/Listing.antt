@@ -7,8 +7,8 @@ use Rattle.block.specs.declared.Path.{Path}
 use Rattle.block.specs.Block.{blockCycles, blockWidth}
 use Rattle.row.specs.declared.lines.Kind.{Kind}
 use Rattle.row.specs.Lines.{headerLine, blockLine, totalLine, refusedLine}
-use Rattle.machine.specs.declared.settings.Settings.{Settings}
-use Rattle.machine.specs.Settings.{capacityOf}
+use Rattle.settings.specs.declared.Settings.{Settings}
+use Rattle.settings.specs.Settings.{capacityOf}
 use Rattle.job.specs.Job.{Made, End, Job, jobOf}
 
 -- "L or A"

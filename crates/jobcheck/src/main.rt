@@ -1,12 +1,12 @@
 // The check program: reads a job on standard input and writes its listing (document 01, "The check program").
 ghost use mathlib.Core.Path.{_≡_};
-ghost use Rattle.machine.specs.Settings.{standardSettings};
+ghost use Rattle.settings.specs.Settings.{standardSettings};
 ghost use Rattle.job.specs.Check.{Lists};
 use job::Check;
 use libc::STDIN_FILENO;
 use libc::STDOUT_FILENO;
 use machine::Machine;
-use machine::settings::standard;
+use settings::standard;
 
 // What the check has to hand out is the listing, whatever the text.
 fn start() -> Check

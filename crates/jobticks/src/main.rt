@@ -1,11 +1,11 @@
 // Reads a job on standard input and writes the tick bytes of its blocks, one after the other; at a refused line it ends.
 ghost use mathlib.Core.Path.{_≡_};
-ghost use Rattle.machine.specs.Settings.{standardSettings};
+ghost use Rattle.settings.specs.Settings.{standardSettings};
 ghost use Rattle.tape.specs.Tape.{Tells};
 use libc::STDIN_FILENO;
 use libc::STDOUT_FILENO;
 use machine::Machine;
-use machine::settings::standard;
+use settings::standard;
 use tape::Tape;
 
 // What the tape has to hand out are the tick bytes, whatever the text.

@@ -7,13 +7,13 @@ use Rattle.work.specs.declared.Work.{Work}
 use Rattle.work.specs.declared.Advance.{Advance}
 use Rattle.work.specs.declared.Begun.{Begun}
 use Rattle.work.specs.Work.{isNothing, advanceOf, begunOf}
-use Rattle.machine.specs.declared.settings.Settings.{Settings}
+use Rattle.settings.specs.declared.Settings.{Settings}
 use Rattle.machine.specs.declared.Machine.{Machine}
 use Rattle.machine.specs.declared.Answer.{Answer}
 use Rattle.machine.specs.declared.Answered.{Answered}
 use Rattle.machine.specs.declared.Tick.{Tick}
 use Rattle.machine.specs.declared.Ticked.{Ticked}
-use Rattle.machine.specs.Settings.{capacityOf, settingsNo, standardSettings}
+use Rattle.settings.specs.Settings.{capacityOf, settingsNo, standardSettings}
 use Rattle.machine.specs.Machine.{soundOf, freshOf, movedOf}
 
 abbrev pub answers : Answer → Machine → Answered

@@ -1,5 +1,4 @@
--- To be believed: Settings, Machine, Calls, Run. Proved of them: laws.
-pub mod Settings
+-- To be believed: Machine, Calls, Run. Proved of them: laws.
 pub mod Machine
 pub mod Calls
 pub mod Run

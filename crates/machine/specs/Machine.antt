@@ -7,9 +7,9 @@ use Rattle.plane.specs.declared.point.Point.{Point}
 use Rattle.plane.specs.Travel.{insideOf}
 use Rattle.work.specs.declared.Work.{Work}
 use Rattle.work.specs.Work.{workSound}
-use Rattle.machine.specs.declared.settings.Settings.{Settings}
+use Rattle.settings.specs.declared.Settings.{Settings}
 use Rattle.machine.specs.declared.Machine.{Machine}
-use Rattle.machine.specs.Settings.{capacityOf, settingsNo}
+use Rattle.settings.specs.Settings.{capacityOf, settingsNo}
 
 -- "A record is sound if settings pass questions 1 to 3; the point is in travel; the remainder is below q0;" and what is in work is sound
 unfoldable pub soundParts : Settings → (at : Point) (remainder : ℕ) → Work → Bool

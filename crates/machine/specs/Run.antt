@@ -9,7 +9,7 @@ use Rattle.run.specs.Run.{Strip, stripOf}
 use Rattle.machine.specs.declared.Machine.{Machine}
 use Rattle.machine.specs.declared.Report.{Report}
 use Rattle.machine.specs.declared.Ran.{Ran}
-use Rattle.machine.specs.Settings.{capacityOf}
+use Rattle.settings.specs.Settings.{capacityOf}
 use Rattle.machine.specs.Machine.{soundOf, movedOf}
 
 -- what a run answers, and its tick bytes

@@ -6,21 +6,19 @@ ghost use lib.ListN.{length};
 ghost use Rattle.run.specs.Run.{written};
 ghost use Rattle.machine.specs.Run.{reportOf, runOf};
 ghost use Rattle.machine.specs.Calls.{makeOf, loadOf, tickOf, holdOf, releaseOf, stopOf};
-use crate::settings::Settings;
-use crate::settings::settings_no;
-use crate::settings::standard;
 use block::Block;
 use block::questions::load_no;
 use plane::point::Point;
 use plane::travel::inside;
 use run::run_work;
+use settings::Settings;
+use settings::settings_no;
+use settings::standard;
 use work::Work;
 use work::begin;
 use work::is_nothing;
 use work::work_sound;
 use work::work_tick;
-
-pub mod settings;
 
 pub struct Machine {
     pub settings: Settings,

@@ -18,7 +18,8 @@ use Rattle.work.specs.Work.{workSound}
 use Rattle.work.specs.laws.Sound.{line-work, arc-work}
 use Rattle.machine.specs.declared.Machine.{Machine}
 use Rattle.machine.specs.Machine.{soundOf}
-use Rattle.machine.specs.laws.Sound.{settings-right, sound}
+use Rattle.settings.specs.laws.Right.{settings-right}
+use Rattle.machine.specs.laws.Sound.{sound}
 use Rattle.export.specs.Words.{wordOf, countOf, markWord, turnWord, workWords, workWordsOf, workOf, encodeOf, machineIn, decodeOf}
 use Rattle.export.specs.laws.Number.{word-small}
 use Rattle.export.specs.laws.Same.{same-true, same-self}

@@ -4,8 +4,9 @@ use mathlib.Core.Path.{sym, _∙_}
 use Prim.Native.Nat.{_+_, _*_, _^_, _≤_, _<_}
 use native.Mathlib.Omega.{arith}
 use borrow.Author.Tests.{not-true, not-false}
-use Rattle.machine.specs.Settings.{capacityOf}
-use Rattle.machine.specs.laws.Sound.{settings-right, sound, ready}
+use Rattle.settings.specs.Settings.{capacityOf}
+use Rattle.settings.specs.laws.Right.{settings-right}
+use Rattle.machine.specs.laws.Sound.{sound, ready}
 use Rattle.finish.specs.Finish.{finishOf}
 use Rattle.finish.specs.laws.Bounds.{tick-asks, sums}
 use Rattle.finish.specs.laws.Record.{AtWork, at-work, works, countable, finishes}

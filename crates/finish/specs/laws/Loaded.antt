@@ -10,7 +10,7 @@ use Rattle.block.specs.Block.{arcOf, cyclesAlong, blockCycles}
 use Rattle.block.specs.Questions.{loadNo}
 use Rattle.work.specs.Work.{isNothing, feedOf, cyclesLeft, endOf, workAlong, begunOf}
 use Rattle.machine.specs.declared.Machine.{Machine}
-use Rattle.machine.specs.Settings.{capacityOf}
+use Rattle.settings.specs.Settings.{capacityOf}
 use Rattle.machine.specs.Machine.{movedOf}
 use Rattle.machine.specs.Calls.{loadOf}
 use Rattle.machine.specs.laws.Sound.{sound}

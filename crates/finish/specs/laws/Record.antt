@@ -17,7 +17,7 @@ use Rattle.work.specs.laws.Sound.{line-work, arc-work}
 use Rattle.run.specs.Run.{SoundIn}
 use Rattle.run.specs.laws.Cycles.{in-work}
 use Rattle.machine.specs.declared.Machine.{Machine}
-use Rattle.machine.specs.Settings.{capacityOf}
+use Rattle.settings.specs.Settings.{capacityOf}
 use Rattle.machine.specs.Machine.{soundOf, movedOf}
 use Rattle.machine.specs.laws.Sound.{sound, sound-test, running}
 use Rattle.finish.specs.declared.Finished.{Finished}

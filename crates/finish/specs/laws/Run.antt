@@ -6,7 +6,7 @@ use Rattle.work.specs.Work.{feedOf, cyclesLeft}
 use Rattle.run.specs.Run.{Strip, stripOf}
 use Rattle.machine.specs.declared.Machine.{Machine}
 use Rattle.machine.specs.declared.Report.{Report}
-use Rattle.machine.specs.Settings.{capacityOf}
+use Rattle.settings.specs.Settings.{capacityOf}
 use Rattle.machine.specs.Run.{ranOver, runOf}
 use Rattle.book.specs.Sums.{cyclesMarked}
 use Rattle.finish.specs.declared.Finished.{Finished}

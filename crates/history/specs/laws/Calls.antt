@@ -8,9 +8,9 @@ use Rattle.block.specs.declared.Block.{Block}
 use Rattle.block.specs.declared.Path.{Path}
 use Rattle.block.specs.Questions.{loadNo}
 use Rattle.work.specs.Work.{isNothing, begunOf, workAlong as begunAlong}
-use Rattle.machine.specs.declared.settings.Settings.{Settings}
+use Rattle.settings.specs.declared.Settings.{Settings}
 use Rattle.machine.specs.declared.Answered.{Answered}
-use Rattle.machine.specs.Settings.{capacityOf, settingsNo}
+use Rattle.settings.specs.Settings.{capacityOf, settingsNo}
 use Rattle.machine.specs.Machine.{soundOf, movedOf}
 use Rattle.run.specs.Run.{written}
 use Rattle.machine.specs.Run.{runOf}

@@ -4,12 +4,12 @@ use mathlib.Core.List.{List, _∷_}
 use Prim.Native.Nat.{ℕ, zero, suc}
 use lib.ListN.{length}
 use denote.Ref.{now}
-use Rattle.machine.specs.declared.settings.Settings.{Settings}
+use Rattle.settings.specs.declared.Settings.{Settings}
 use Rattle.machine.specs.declared.Machine.{Machine}
-use Rattle.machine.specs.Settings.{capacityOf, settingsNo}
+use Rattle.settings.specs.Settings.{capacityOf, settingsNo}
 use Rattle.machine.specs.Machine.{freshOf}
 use Rattle.machine.specs.Calls.{makeWith, makeOf}
-use Rattle.machine.specs.laws.Sound.{standard-passes}
+use Rattle.settings.specs.laws.Right.{standard-passes}
 use Rattle.book.specs.Book.{Book, Call, Reply, freshBook, entry, replies, closing}
 use Rattle.book.specs.laws.Sound.{Sound, fresh-sound}
 use Rattle.book.specs.laws.Call.{call-kept}

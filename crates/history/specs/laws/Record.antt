@@ -13,10 +13,11 @@ use Rattle.block.specs.declared.Path.{Path}
 use Rattle.block.specs.Block.{arcOf}
 use Rattle.work.specs.Work.{isNothing, workSound}
 use Rattle.work.specs.laws.Sound.{Feed, line-sound, arc-sound}
-use Rattle.machine.specs.declared.settings.Settings.{Settings}
-use Rattle.machine.specs.Settings.{capacityOf, settingsNo}
+use Rattle.settings.specs.declared.Settings.{Settings}
+use Rattle.settings.specs.Settings.{capacityOf, settingsNo}
 use Rattle.machine.specs.Machine.{soundOf}
-use Rattle.machine.specs.laws.Sound.{settings-right, sound-test}
+use Rattle.settings.specs.laws.Right.{settings-right}
+use Rattle.machine.specs.laws.Sound.{sound-test}
 use Rattle.machine.specs.declared.Machine.{Machine}
 use Rattle.book.specs.Book.{Job, InWork, Book, Reply, Entry}
 use Rattle.book.specs.laws.Settings.{SettingsRight}

@@ -11,8 +11,8 @@ use Rattle.book.specs.Book.{Job, InWork, Book, Call, Ticked, Strip as BookStrip
 use lib.Dec.{leb}
 use lib.ListN.{length, take, drop}
 use lib.Seq.{take-append-seam}
-use Rattle.machine.specs.declared.settings.Settings.{Settings}
-use Rattle.machine.specs.Settings.{capacityOf, settingsNo}
+use Rattle.settings.specs.declared.Settings.{Settings}
+use Rattle.settings.specs.Settings.{capacityOf, settingsNo}
 use Rattle.machine.specs.Machine.{movedOf}
 use Rattle.machine.specs.Run.{reportOf, runOf}
 use Rattle.book.specs.laws.Settings.{SettingsRight}

@@ -24,10 +24,10 @@ use Rattle.work.specs.declared.Work.{Work}
 use Rattle.work.specs.declared.Cycle.{Cycle}
 use Rattle.work.specs.declared.Advance.{Advance}
 use Rattle.work.specs.Work.{following, lineCycle, arcCycle, cycleOf, feedOf, advanceBy, advanceOf}
-use Rattle.machine.specs.declared.settings.Settings.{Settings}
+use Rattle.settings.specs.declared.Settings.{Settings}
 use Rattle.machine.specs.declared.Tick.{Tick}
 use Rattle.machine.specs.declared.Ticked.{Ticked as MachineTicked}
-use Rattle.machine.specs.Settings.{capacityOf, settingsNo}
+use Rattle.settings.specs.Settings.{capacityOf, settingsNo}
 use Rattle.machine.specs.Machine.{movedOf}
 use Rattle.machine.specs.Calls.{ticks, working, tickOf}
 use Rattle.book.specs.Book.{Job, InWork, Book, Ticked, cycleTick, fedTick, bookTick}

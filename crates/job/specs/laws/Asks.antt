@@ -12,7 +12,7 @@ use Rattle.words.specs.laws.Scan.{lineOf}
 use Rattle.work.specs.Work.{isNothing, begunOf}
 use Rattle.machine.specs.declared.Machine.{Machine}
 use Rattle.machine.specs.declared.Answered.{Answered}
-use Rattle.machine.specs.Settings.{capacityOf}
+use Rattle.settings.specs.Settings.{capacityOf}
 use Rattle.machine.specs.Machine.{soundOf}
 use Rattle.machine.specs.Calls.{taking, loadWith, loadOf}
 use Rattle.reader.specs.declared.Reader.{Reader}

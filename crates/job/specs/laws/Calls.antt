@@ -5,8 +5,8 @@ use Prim.Native.Nat.{ℕ, _+_, _≤_}
 use lib.ListN.{length}
 use borrow.Author.Tests.{le-leb}
 use Rattle.machine.specs.declared.Machine.{Machine}
-use Rattle.machine.specs.declared.settings.Settings.{Settings}
-use Rattle.machine.specs.Settings.{capacityOf, settingsNo}
+use Rattle.settings.specs.declared.Settings.{Settings}
+use Rattle.settings.specs.Settings.{capacityOf, settingsNo}
 use Rattle.machine.specs.Machine.{movedOf, freshOf}
 use Rattle.finish.specs.laws.Record.{AtRest}
 use Rattle.reader.specs.declared.Reader.{Reader}

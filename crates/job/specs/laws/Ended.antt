@@ -9,7 +9,7 @@ use Rattle.book.specs.Sums.{cyclesMarked}
 use Rattle.work.specs.Work.{isNothing}
 use Rattle.machine.specs.declared.Machine.{Machine}
 use Rattle.machine.specs.declared.Report.{Report}
-use Rattle.machine.specs.Settings.{capacityOf}
+use Rattle.settings.specs.Settings.{capacityOf}
 use Rattle.machine.specs.Calls.{loadOf}
 use Rattle.machine.specs.Run.{runOf}
 use Rattle.finish.specs.declared.Finished.{Finished}

@@ -8,8 +8,8 @@ use lib.Dec.{eqb, leb}
 use lib.ListN.{length}
 use borrow.Author.Tests.{leb-true}
 use Rattle.row.specs.Lines.{headerLine, refusedLine}
-use Rattle.machine.specs.declared.settings.Settings.{Settings}
-use Rattle.machine.specs.Settings.{capacityOf, settingsNo}
+use Rattle.settings.specs.declared.Settings.{Settings}
+use Rattle.settings.specs.Settings.{capacityOf, settingsNo}
 use Rattle.finish.specs.laws.Record.{AtRest}
 use Rattle.machine.specs.Machine.{freshOf}
 use Rattle.keeps.specs.laws.Make.{fresh-sound}

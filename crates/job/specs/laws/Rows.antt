@@ -10,7 +10,7 @@ use Rattle.block.specs.declared.Path.{Path}
 use Rattle.block.specs.Block.{blockWidth}
 use Rattle.row.specs.Lines.{totalLine, refusedLine}
 use Rattle.work.specs.Work.{workAlong, begunOf}
-use Rattle.machine.specs.Settings.{capacityOf}
+use Rattle.settings.specs.Settings.{capacityOf}
 use Rattle.machine.specs.Machine.{movedOf}
 use Rattle.machine.specs.Calls.{loadOf}
 use Rattle.finish.specs.laws.Record.{AtRest, cycles-most, ticks-most}

@@ -16,13 +16,14 @@ use Rattle.work.specs.Work.{isNothing, workSound, advanceOf, begunOf}
 use Rattle.work.specs.laws.Keep.{SoundAt, keeps-sound}
 use Rattle.run.specs.Run.{Strip, stripOf}
 use Rattle.machine.specs.declared.Machine.{Machine}
-use Rattle.machine.specs.Settings.{capacityOf}
+use Rattle.settings.specs.Settings.{capacityOf}
 use Rattle.machine.specs.Machine.{soundOf, movedOf}
 use Rattle.machine.specs.Calls.{loadWith, loadOf, ticks, working, tickOf, holdOf, releaseOf, stopOf}
 use Rattle.machine.specs.Run.{ranOver, noTick, runOf}
 use Rattle.machine.specs.declared.Report.{Report}
 use Rattle.machine.specs.declared.Tick.{Tick}
-use Rattle.machine.specs.laws.Sound.{Right, settings-right, Sound, sound, sound-test, loadable}
+use Rattle.settings.specs.laws.Right.{Right, settings-right}
+use Rattle.machine.specs.laws.Sound.{Sound, sound, sound-test, loadable}
 use Rattle.keeps.specs.laws.Load.{begun-sound}
 use Rattle.keeps.specs.laws.Run.{strip-keeps}
 

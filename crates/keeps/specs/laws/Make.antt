@@ -5,11 +5,12 @@ use Prim.Native.Nat.{ℕ, zero, suc}
 use native.Mathlib.Omega.{arith}
 use Rattle.plane.specs.laws.Travel.{inside-test}
 use Rattle.work.specs.Work.{workSound}
-use Rattle.machine.specs.declared.settings.Settings.{Settings}
-use Rattle.machine.specs.Settings.{settingsNo, standardSettings}
+use Rattle.settings.specs.declared.Settings.{Settings}
+use Rattle.settings.specs.Settings.{settingsNo, standardSettings}
 use Rattle.machine.specs.Machine.{soundOf, freshOf}
 use Rattle.machine.specs.Calls.{makeWith, makeOf}
-use Rattle.machine.specs.laws.Sound.{settings-right, standard-passes, sound-test}
+use Rattle.settings.specs.laws.Right.{settings-right, standard-passes}
+use Rattle.machine.specs.laws.Sound.{sound-test}
 
 pub fresh-sound : (s : Settings) → settingsNo s ≡ 0 → soundOf (freshOf s) ≡ true
 unfolding freshOf workSound

@@ -6,8 +6,9 @@ use native.Mathlib.Omega.{arith}
 use borrow.Author.Tests.{not-true, not-false}
 use Rattle.whole.specs.laws.Test.{refuted, same-test}
 use Rattle.plane.specs.Travel.{insideOf}
-use Rattle.machine.specs.Settings.{settingsNo}
-use Rattle.machine.specs.laws.Sound.{settings-right, sound, sound-test}
+use Rattle.settings.specs.Settings.{settingsNo}
+use Rattle.settings.specs.laws.Right.{settings-right}
+use Rattle.machine.specs.laws.Sound.{sound, sound-test}
 use Rattle.machine.proofs.sound.Statement.{statement}
 use Rattle.machine.proofs.sound.Tie as tie
 

@@ -2,10 +2,10 @@
 use mathlib.Core.Path.{_≡_, refl, ap, _∙_}
 use Prim.Native.Nat.{ℕ, zero, suc}
 use Rattle.block.specs.declared.Block.{Block}
-use Rattle.machine.specs.declared.settings.Settings.{Settings}
+use Rattle.settings.specs.declared.Settings.{Settings}
 use Rattle.machine.specs.declared.Machine.{Machine}
 use Rattle.machine.specs.declared.Answer.{Answer}
-use Rattle.machine.specs.Settings.{settingsNo, standardSettings}
+use Rattle.settings.specs.Settings.{settingsNo, standardSettings}
 use Rattle.machine.specs.Machine.{freshOf}
 use Rattle.machine.specs.Calls.{answers, makeWith, makeOf, loadWith}
 

@@ -1,20 +1,18 @@
 -- What a sound record says of its numbers, and what the code of a call needs of them.
-use mathlib.Core.Path.{_≡_, refl}
+use mathlib.Core.Path.{_≡_}
 use mathlib.Core.Bool.{Bool, true, false}
-use Prim.Native.Nat.{ℕ, zero, _≤_, _<_}
+use Prim.Native.Nat.{ℕ, _≤_, _<_}
 use native.Mathlib.Omega.{arith}
-use borrow.Author.Tests.{leb-true, ltb-true, lt-ltb, eqb-true, eq-eqb, le-leb}
-use lib.Dec.{leb}
-use lib.IntN.{pos, negsuc, natAbs}
+use borrow.Author.Tests.{ltb-true, lt-ltb, eqb-true, eq-eqb, le-leb}
+use lib.IntN.{natAbs}
 use Rattle.whole.specs.laws.Order.{abs-sub}
 use Rattle.whole.specs.laws.Test.{both, joined}
 use Rattle.plane.specs.declared.point.Point.{Point}
-use Rattle.plane.specs.declared.travel.Range.{Range}
 use Rattle.plane.specs.declared.travel.Travel.{Travel}
-use Rattle.plane.specs.Travel.{withinOf, insideOf}
-use Rattle.plane.specs.laws.Travel.{Within, Inside, within, inside}
+use Rattle.plane.specs.Travel.{insideOf}
+use Rattle.plane.specs.laws.Travel.{inside}
 use Rattle.arc.specs.Centre.{Near, Wide}
-use Rattle.arc.specs.laws.Work.{axis-near, travel-near}
+use Rattle.arc.specs.laws.Work.{travel-near}
 use Rattle.block.specs.declared.Block.{Block}
 use Rattle.block.specs.declared.Path.{Path}
 use Rattle.block.specs.Questions.{feedRight, pathNo, loadNo}
@@ -24,57 +22,10 @@ use Rattle.work.specs.declared.Work.{Work}
 use Rattle.work.specs.Work.{Ready, Loadable, isNothing, workSound}
 use Rattle.work.specs.laws.Keep.{ready as work-ready}
 use Rattle.run.specs.Run.{SoundIn}
-use Rattle.machine.specs.declared.settings.Settings.{Settings}
-use Rattle.machine.specs.Settings.{capacityOf, inRange, axisRight, travelRight, settingsNo, standardSettings}
+use Rattle.settings.specs.declared.Settings.{Settings}
+use Rattle.settings.specs.Settings.{capacityOf, settingsNo}
+use Rattle.settings.specs.laws.Right.{settings-right}
 use Rattle.machine.specs.Machine.{soundParts}
-
--- ---- settings
-
-pub record Right (s : Settings) : Type 0 where
-  pub scale-most : s .scale ≤ 1000
-  pub clock-some : 1000 ≤ s .clock
-  pub clock-most : s .clock ≤ 20000
-  pub wide : Wide (s .travel)
-  pub origin : Inside (s .travel) (record { x = pos 0; y = pos 0 })
-
-record AxisRight (r : Range) : Type 0 where
-  lower : natAbs (r .lower) ≤ 1000000
-  upper : natAbs (r .upper) ≤ 1000000
-  zero : Within r (pos 0)
-
-axis-right : {r : Range} → axisRight r ≡ true → AxisRight r
-unfolding axisRight
-axis-right {r} e =
-    let b = both e in
-    let low = within (b .0) in
-    let high = within (b .1) in
-    record {
-      lower = axis-near (negsuc 999999) (pos 0) (r .lower) (omega arith) (omega arith) (low .above) (low .below);
-      upper = axis-near (pos 0) (pos 1000000) (r .upper) (omega arith) (omega arith) (high .above) (high .below);
-      zero = record { above = low .below; below = high .above };
-    }
-
-pub settings-right : (s : Settings) → settingsNo s ≡ 0 → Right s
-unfolding settingsNo travelRight
-settings-right s e =
-    let scale = answered {yes = inRange 1 1000 (s .scale)} 0 e in
-    let clock = answered 1 (scale .1) in
-    let range = both (clock .0) in
-    let travel = both (answered {next = 0} 2 (clock .1) .0) in
-    let x = axis-right (travel .0) in
-    let y = axis-right (travel .1) in
-    record {
-      scale-most = leb-true (s .scale) 1000 (both {a = leb 1 (s .scale)} (scale .0) .1);
-      clock-some = leb-true 1000 (s .clock) (range .0);
-      clock-most = leb-true (s .clock) 20000 (range .1);
-      wide = record { x-lower = x .lower; x-upper = x .upper; y-lower = y .lower; y-upper = y .upper };
-      origin = record { x = x .zero; y = y .zero };
-    }
-
--- the settings of a refused make pass
-pub standard-passes : settingsNo standardSettings ≡ 0
-unfolding settingsNo travelRight axisRight standardSettings withinOf
-standard-passes = refl
 
 -- ---- a sound record
 

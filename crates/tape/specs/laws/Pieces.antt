@@ -12,7 +12,7 @@ use Rattle.run.specs.Run.{Strip, stripOf}
 use Rattle.run.specs.laws.Going.{after}
 use Rattle.machine.specs.declared.Machine.{Machine}
 use Rattle.machine.specs.declared.Report.{Report}
-use Rattle.machine.specs.Settings.{capacityOf}
+use Rattle.settings.specs.Settings.{capacityOf}
 use Rattle.machine.specs.Machine.{soundOf, movedOf}
 use Rattle.machine.specs.Run.{Run, ranOver, noTick, runOf}
 use Rattle.machine.specs.laws.Run.{ticks-are}

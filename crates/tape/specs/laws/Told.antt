@@ -11,8 +11,8 @@ use Rattle.block.specs.declared.Block.{Block}
 use Rattle.book.specs.Sums.{cyclesMarked}
 use Rattle.machine.specs.declared.Machine.{Machine}
 use Rattle.machine.specs.declared.Ran.{Ran}
-use Rattle.machine.specs.declared.settings.Settings.{Settings}
-use Rattle.machine.specs.Settings.{capacityOf, settingsNo}
+use Rattle.settings.specs.declared.Settings.{Settings}
+use Rattle.settings.specs.Settings.{capacityOf, settingsNo}
 use Rattle.machine.specs.Machine.{movedOf, freshOf}
 use Rattle.machine.specs.Calls.{loadOf}
 use Rattle.machine.specs.Run.{runOf}

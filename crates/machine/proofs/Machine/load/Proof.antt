@@ -6,10 +6,11 @@ use native.Mathlib.Omega.{arith}
 use borrow.Author.Tests.{not-true, not-false}
 use Rattle.block.specs.Questions.{loadNo}
 use Rattle.work.specs.Work.{isNothing}
-use Rattle.machine.specs.Settings.{capacityOf}
+use Rattle.settings.specs.Settings.{capacityOf}
 use Rattle.machine.specs.Machine.{soundOf}
 use Rattle.machine.specs.Calls.{loadOf}
-use Rattle.machine.specs.laws.Sound.{settings-right, sound, loadable}
+use Rattle.settings.specs.laws.Right.{settings-right}
+use Rattle.machine.specs.laws.Sound.{sound, loadable}
 use Rattle.machine.specs.laws.Calls.{load-refused}
 use Rattle.machine.proofs.Machine.load.Statement.{statement}
 use Rattle.machine.proofs.Machine.load.Tie as tie

@@ -6,7 +6,8 @@ use native.Mathlib.Omega.{arith}
 use borrow.Author.Tests.{not-true, not-false}
 use Rattle.work.specs.Work.{isNothing}
 use Rattle.machine.specs.Machine.{soundOf}
-use Rattle.machine.specs.laws.Sound.{settings-right, sound, running}
+use Rattle.settings.specs.laws.Right.{settings-right}
+use Rattle.machine.specs.laws.Sound.{sound, running}
 use Rattle.machine.specs.laws.Run.{run-refused, run-idle, run-held, run-works}
 use denote.Ref.{now}
 use Rattle.machine.proofs.Machine.run.Statement.{statement}

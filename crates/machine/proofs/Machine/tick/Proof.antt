@@ -6,7 +6,8 @@ use native.Mathlib.Omega.{arith}
 use borrow.Author.Tests.{not-true, not-false}
 use Rattle.machine.specs.Machine.{soundOf}
 use Rattle.machine.specs.Calls.{tickOf}
-use Rattle.machine.specs.laws.Sound.{settings-right, sound, ready}
+use Rattle.settings.specs.laws.Right.{settings-right}
+use Rattle.machine.specs.laws.Sound.{sound, ready}
 use Rattle.machine.proofs.Machine.tick.Statement.{statement}
 use Rattle.machine.proofs.Machine.tick.Tie as tie
 

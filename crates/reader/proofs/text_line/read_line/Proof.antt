@@ -7,7 +7,8 @@ use denote.Ref.{now}
 use borrow.Author.Tests.{not-true, not-false}
 use Rattle.words.specs.laws.Scan.{lineOf}
 use Rattle.machine.specs.Machine.{soundOf}
-use Rattle.machine.specs.laws.Sound.{settings-right, sound}
+use Rattle.settings.specs.laws.Right.{settings-right}
+use Rattle.machine.specs.laws.Sound.{sound}
 use Rattle.reader.specs.Reader.{readerAfter, moving, lineNo}
 use Rattle.reader.specs.TextLine.{readLineOf}
 use Rattle.reader.specs.laws.Small.{small-words, feed-small}

@@ -1,6 +1,6 @@
 // The settings of a table, and questions 1 to 3.
 ghost use mathlib.Core.Path.{_≡_};
-ghost use Rattle.machine.specs.Settings.{inRange, axisRight, travelRight, settingsNo, standardSettings};
+ghost use Rattle.settings.specs.Settings.{inRange, axisRight, travelRight, settingsNo, standardSettings};
 use plane::travel::Range;
 use plane::travel::Travel;
 use plane::travel::within;

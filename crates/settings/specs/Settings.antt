@@ -7,7 +7,7 @@ use Rattle.plane.specs.declared.travel.Range.{Range}
 use Rattle.plane.specs.declared.travel.Travel.{Travel}
 use Rattle.plane.specs.Travel.{withinOf}
 use Rattle.block.specs.Questions.{ask}
-use Rattle.machine.specs.declared.settings.Settings.{Settings}
+use Rattle.settings.specs.declared.Settings.{Settings}
 
 -- 01, Feed divider: "Capacity q0 = 60 × w."
 abbrev pub capacityOf : Settings → ℕ

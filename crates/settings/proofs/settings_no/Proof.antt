@@ -3,9 +3,9 @@ use borrow.Author.Needs.{needs}
 use mathlib.Core.Path.{_≡_, sym, _∙_}
 use mathlib.Core.Bool.{true}
 use borrow.Author.Tests.{not-true, not-false}
-use Rattle.machine.specs.Settings.{inRange, settingsNo}
-use Rattle.machine.proofs.settings.settings_no.Statement.{statement}
-use Rattle.machine.proofs.settings.settings_no.Tie as tie
+use Rattle.settings.specs.Settings.{inRange, settingsNo}
+use Rattle.settings.proofs.settings_no.Statement.{statement}
+use Rattle.settings.proofs.settings_no.Tie as tie
 
 -- the answers of the questions before
 scale : (c : tie.Else1) → inRange 1 1000 (c .before .before .args .s .scale) ≡ true

@@ -2,9 +2,9 @@
 use borrow.Author.Needs.{needs}
 use mathlib.Core.Path.{sym, _∙_}
 use borrow.Author.Tests.{not-true, not-false}
-use Rattle.machine.specs.Settings.{travelRight}
-use Rattle.machine.proofs.settings.travel_right.Statement.{statement}
-use Rattle.machine.proofs.settings.travel_right.Tie as tie
+use Rattle.settings.specs.Settings.{travelRight}
+use Rattle.settings.proofs.travel_right.Statement.{statement}
+use Rattle.settings.proofs.travel_right.Tie as tie
 
 axis-right-requires : tie.Need-axis-right-requires
 axis-right-requires c κs = search needs

@@ -1,7 +1,7 @@
 -- `in_range` is right because it asks the definition's two tests.
 use borrow.Author.Tests.{lt-leb, le-leb}
-use Rattle.machine.proofs.settings.in_range.Statement.{statement}
-use Rattle.machine.proofs.settings.in_range.Tie as tie
+use Rattle.settings.proofs.in_range.Statement.{statement}
+use Rattle.settings.proofs.in_range.Tie as tie
 
 returns : tie.Need-returns
 returns c = simp (lt-leb _ _ (c .if1 .taken))

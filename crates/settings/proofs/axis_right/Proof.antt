@@ -2,14 +2,14 @@
 use borrow.Author.Needs.{needs}
 use mathlib.Core.Path.{_≡_, sym, _∙_}
 use borrow.Author.Tests.{not-true, not-false}
-use Rattle.machine.specs.Settings.{axisRight}
+use Rattle.settings.specs.Settings.{axisRight}
 use mir.Syntax.{w64}
 use mir.Val.{SFits}
 use mir.Facts.{toZ-ofZ}
 use lib.IntN.{pos, negsuc}
 use Rattle.plane.specs.Travel.{withinOf}
-use Rattle.machine.proofs.settings.axis_right.Statement.{statement}
-use Rattle.machine.proofs.settings.axis_right.Tie as tie
+use Rattle.settings.proofs.axis_right.Statement.{statement}
+use Rattle.settings.proofs.axis_right.Tie as tie
 
 -- what the first call says, over the field itself
 lower-is : (c : tie.After-within) → c .within .result ≡ withinOf (record { lower = negsuc 999999; upper = pos 0 }) (c .before .before .args .axis .lower)

@@ -1,0 +1,3 @@
+-- To be believed: Settings. Proved of it: laws.
+pub mod Settings
+pub mod laws
