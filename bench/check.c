@@ -14,6 +14,13 @@ struct word {
     int64_t value;
 };
 
+enum letter { N, G, F, X, Y, I, J, LETTERS };
+
+struct job {
+    int64_t x, y, motion, feed; /* motion 0 and feed -1: not known yet */
+    uint64_t line, blocks, cycles, ticks, rest;
+};
+
 /* The words of a line by their letters; 0, or the number of the question. */
 static int words_of(const char *s, size_t n, struct word *found)
 {
@@ -27,11 +34,11 @@ static int words_of(const char *s, size_t n, struct word *found)
             i++;
             continue;
         }
-        const char *at = memchr(letters, s[i], 7);
+        const char *at = memchr(letters, s[i], LETTERS);
         if (!at)
             return 32;
         struct word w = { 1, 0, 0, 0 };
-        int fine = at - letters > 2, decimals = 0;
+        int fine = at - letters >= X, decimals = 0;
         i++;
         if (fine && i < n && (s[i] == '+' || s[i] == '-'))
             w.negative = s[i++] == '-';
@@ -54,12 +61,77 @@ static int words_of(const char *s, size_t n, struct word *found)
     return twice ? 33 : 0;
 }
 
+/* Questions 34 to 37 about the words of a line. */
+static int words_no(const struct word *w, int64_t motion, int64_t feed)
+{
+    const int moves = w[X].count || w[Y].count || w[I].count || w[J].count;
+    if (w[G].count && (motion < 1 || motion > 3))
+        return 34;
+    for (int k = X; k <= J; k++)
+        if (w[k].value * P % 1000)
+            return 35;
+    if (moves && (motion == 0 || feed < 0))
+        return 36;
+    if (motion == 1 && (w[I].count || w[J].count))
+        return 37;
+    if (moves && motion != 1)
+        abort(); /* an arc: not in the jobs that are timed */
+    return 0;
+}
+
+static int64_t end_of(const struct word *w, int64_t from)
+{
+    if (!w->count)
+        return from;
+    return (w->negative ? -w->value : w->value) * P / 1000;
+}
+
+/* A straight line: its row, or the number of the question. */
+static int block(struct job *j, int64_t x, int64_t y, uint64_t feed)
+{
+    if (feed < 1 || feed > CAPACITY)
+        return 11;
+    if (llabs(x) > TRAVEL || llabs(y) > TRAVEL)
+        return 12;
+    uint64_t a = (uint64_t)llabs(x - j->x), b = (uint64_t)llabs(y - j->y), q = c_root(a * a + b * b);
+    uint64_t ticks = (q * CAPACITY - j->rest + feed - 1) / feed;
+    j->rest = j->rest + ticks * feed - q * CAPACITY;
+    j->blocks++;
+    j->cycles += q;
+    j->ticks += ticks;
+    j->x = x;
+    j->y = y;
+    printf("%llu %llu L %llu %lld %lld %d\n", (unsigned long long)j->blocks, (unsigned long long)j->line, (unsigned long long)q, (long long)x, (long long)y,
+           64 - __builtin_clzll(a > b ? a : b));
+    return 0;
+}
+
+/* One text line; 0, or the number of the question. */
+static int text_line(struct job *j, const char *s, size_t n)
+{
+    struct word w[LETTERS] = { 0 };
+    int no = words_of(s, n, w);
+    if (no)
+        return no;
+    const int64_t motion = w[G].count ? w[G].value : j->motion, feed = w[F].count ? w[F].value : j->feed;
+    no = words_no(w, motion, feed);
+    if (no)
+        return no;
+    const int64_t x = end_of(&w[X], j->x), y = end_of(&w[Y], j->y);
+    if (x != j->x || y != j->y)
+        no = block(j, x, y, (uint64_t)feed * P);
+    if (no)
+        return no;
+    j->motion = motion;
+    j->feed = feed;
+    return 0;
+}
+
 int main(void)
 {
     static char text[65537];
     size_t size = fread(text, 1, sizeof text, stdin), at = 0;
-    int64_t x = 0, y = 0, g = 0, f = -1;
-    uint64_t line = 0, blocks = 0, cycles = 0, ticks = 0, rest = 0;
+    struct job j = { .feed = -1 };
     puts("block line kind cycles x y bits");
     if (size > 65536) {
         puts("line 1 refused 30");
@@ -68,54 +140,14 @@ int main(void)
     while (at < size) {
         const char *lf = memchr(text + at, '\n', size - at);
         size_t n = lf ? (size_t)(lf - text) - at : size - at;
-        struct word w[7] = { 0 };
-        int no = words_of(text + at, n, w);
-        line++;
-        at += n + 1;
-        int64_t motion = w[1].count ? w[1].value : g, feed = w[2].count ? w[2].value : f, end[2] = { x, y };
-        if (!no && w[1].count && (motion < 1 || motion > 3))
-            no = 34;
-        for (int k = 3; !no && k < 7; k++)
-            if (w[k].value * P % 1000)
-                no = 35;
-        int moves = w[3].count || w[4].count || w[5].count || w[6].count;
-        if (!no && moves && (motion == 0 || feed < 0))
-            no = 36;
-        if (!no && motion == 1 && (w[5].count || w[6].count))
-            no = 37;
-        if (!no && moves && motion != 1)
-            abort(); /* an arc: not in the jobs that are timed */
-        if (!no)
-            for (int k = 0; k < 2; k++)
-                if (w[3 + k].count)
-                    end[k] = (w[3 + k].negative ? -w[3 + k].value : w[3 + k].value) * P / 1000;
-        int block = !no && moves && (end[0] != x || end[1] != y);
-        if (block) {
-            uint64_t number = (uint64_t)feed * P;
-            if (number < 1 || number > CAPACITY)
-                no = 11;
-            else if (llabs(end[0]) > TRAVEL || llabs(end[1]) > TRAVEL)
-                no = 12;
-        }
+        j.line++;
+        int no = text_line(&j, text + at, n);
         if (no) {
-            printf("line %llu refused %d\n", (unsigned long long)line, no);
+            printf("line %llu refused %d\n", (unsigned long long)j.line, no);
             return 0;
         }
-        g = motion;
-        f = feed;
-        if (!block)
-            continue;
-        uint64_t a = (uint64_t)llabs(end[0] - x), b = (uint64_t)llabs(end[1] - y), q = plain_root(a * a + b * b), number = (uint64_t)feed * P;
-        uint64_t t = (q * CAPACITY - rest + number - 1) / number;
-        rest = rest + t * number - q * CAPACITY;
-        blocks++;
-        cycles += q;
-        ticks += t;
-        x = end[0];
-        y = end[1];
-        printf("%llu %llu L %llu %lld %lld %d\n", (unsigned long long)blocks, (unsigned long long)line, (unsigned long long)q, (long long)x, (long long)y,
-               64 - __builtin_clzll(a > b ? a : b));
+        at += n + 1;
     }
-    printf("total %llu %llu %llu\n", (unsigned long long)blocks, (unsigned long long)cycles, (unsigned long long)ticks);
+    printf("total %llu %llu %llu\n", (unsigned long long)j.blocks, (unsigned long long)j.cycles, (unsigned long long)j.ticks);
     return 0;
 }

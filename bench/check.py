@@ -1,47 +1,57 @@
-"""The check program beside plain C over stdio, on one job: the median of the times in turns, and instruction counts where valgrind is there."""
-import shutil
+"""The check program beside plain C over stdio and plain Rust over BufWriter, on one job: the medians of the times in turns, and instructions where valgrind is there."""
+import os
 import statistics
 import subprocess
 import sys
-import tempfile
 import time
 
-job = sys.argv[1]
-programs = {"core": "target/bin/jobcheck", "C": "target/bench/check"}
+import counted
+
+GOAL = 0.6
+PROGRAMS = {"core": "target/bin/jobcheck", "C over stdio": "target/bench/check-c", "Rust over BufWriter": "target/bench/check-rust"}
 
 
-def listing(program):
+def listing(program, job):
     with open(job, "rb") as text:
         return subprocess.run([program], stdin=text, stdout=subprocess.PIPE, check=True).stdout
 
 
-def seconds(program):
+def milliseconds(program, job):
     with open(job, "rb") as text:
         start = time.perf_counter()
         subprocess.run([program], stdin=text, stdout=subprocess.DEVNULL, check=True)
-        return time.perf_counter() - start
+        return 1e3 * (time.perf_counter() - start)
 
 
-def instructions(program):
-    with open(job, "rb") as text, tempfile.NamedTemporaryFile() as counts:
-        command = ["valgrind", "--tool=callgrind", f"--callgrind-out-file={counts.name}", program]
-        said = subprocess.run(command, stdin=text, stdout=subprocess.DEVNULL, stderr=subprocess.PIPE, check=True).stderr.decode()
-    return int(said.rsplit("Collected : ", 1)[1].split()[0])
+def row(name, values, shown):
+    first, *others = values
+    return f"| {name} | {shown(first)} | " + " | ".join(f"{shown(v)} ({first / v:.2f})" for v in others)
 
 
 def main():
-    if listing(programs["core"]) != listing(programs["C"]):
-        sys.exit("bench: the two listings differ")
-    times = {name: [] for name in programs}
-    for _ in range(31):
-        for name, program in programs.items():
-            times[name].append(seconds(program))
-    empty = statistics.median(seconds("/bin/true") for _ in range(31))
-    core, plain = (statistics.median(times[name]) - empty for name in programs)
-    print(f"\ncheck of {job}, without the {1e3 * empty:.2f} ms of an empty process: core {1e3 * core:.2f} ms, C over stdio {1e3 * plain:.2f} ms, ratio {core / plain:.2f}")
-    if shutil.which("valgrind"):
-        counts = {name: instructions(program) for name, program in programs.items()}
-        print(f"instructions: core {counts['core']:,}, C {counts['C']:,}, ratio {counts['core'] / counts['C']:.2f}")
+    job = sys.argv[1]
+    rounds = int(os.environ.get("BENCH_ROUNDS", "51"))
+    with open(job.removesuffix(".job") + ".listing", "rb") as stored:
+        wanted = stored.read()
+    for name, program in PROGRAMS.items():
+        if listing(program, job) != wanted:
+            sys.exit(f"bench: the listing of {name} is not the stored one")
+    if sys.argv[2:] == ["agree"]:
+        return
+    turns = [[milliseconds(program, job) for program in ["/bin/true", *PROGRAMS.values()]] for _ in range(rounds)]
+    empty, *times = (statistics.median(column) for column in zip(*turns))
+    own = [t - empty for t in times]
+    print(f"| check of {job} | " + " | ".join(PROGRAMS) + " | goal | met |\n|---|" + "---|" * (len(PROGRAMS) + 2))
+    met = "yes" if own[0] / own[1] <= GOAL else "**no**"
+    print(row(f"ms, without the {empty:.2f} of an empty process", own, "{:.2f}".format) + f" | C over stdio at most {GOAL} | {met} |")
+    if counted.there:
+        with open(job, "rb") as text:
+            counts = []
+            for program in PROGRAMS.values():
+                text.seek(0)
+                counts.append(counted.instructions([program], text))
+        print(row("instructions", counts, "{:,}".format) + " | | |")
+    print()
 
 
 main()

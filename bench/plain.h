@@ -1,8 +1,11 @@
-/* Plain C of the same semantics as the core, as a firmware engineer would write it, for timing beside it: no proof, no test of the record. */
+/* Plain programs of the core's semantics, as a firmware engineer would write them, for timing beside it: one in C (plain.c, machine.c, words.c) and one in
+ * Rust (plain.rs, path.rs, machine.rs, words.rs). Both offer the same functions, c_.. and rust_... */
 #ifndef PLAIN_H
 #define PLAIN_H
 
 #include <stdint.h>
+
+/* ---- runs: no test of the record */
 
 /* A line from where it stands: both registers are kept (01, "Lines"). */
 struct plain_line {
@@ -13,27 +16,58 @@ struct plain_line {
 /* An arc about its centre in quadrant form: `along` falls and `across` grows; excess is along² + across² - N. */
 struct plain_arc {
     int64_t along, across, excess;
-    uint64_t left;
-    unsigned quadrant;
-    int clockwise;
+    uint64_t left, quadrant, clockwise;
 };
 
 struct plain_feed {
     uint64_t capacity, feed, remainder;
 };
 
-/* The least whole number whose square is at least s, for s below 2^46. */
-uint64_t plain_root(uint64_t s);
-struct plain_line plain_line(int64_t dx, int64_t dy);
-/* A full turn of this radius from the right end of the X axis. */
-struct plain_arc plain_turn(int64_t radius, uint64_t cycles, int clockwise);
+/* ---- single calls on the header's record, which is tested */
 
-/* So many ticks into out, one by one; returns the ticks done, fewer where the block ended. */
-uint64_t plain_line_ticks(struct plain_line *line, struct plain_feed *feed, uint64_t most, uint8_t *out);
-uint64_t plain_arc_ticks(struct plain_arc *arc, struct plain_feed *feed, uint64_t most, uint8_t *out);
+/* A block as a load is given it; its kind is as in the record: 1 a line, 2 an arc clockwise, 3 counterclockwise. */
+struct plain_block {
+    int64_t kind, x, y, feed, i, j;
+};
 
-/* The same, but the bytes are cleared first and only the cycles are visited. */
-uint64_t plain_line_cycles(struct plain_line *line, struct plain_feed *feed, uint64_t most, uint8_t *out);
-uint64_t plain_arc_cycles(struct plain_arc *arc, struct plain_feed *feed, uint64_t most, uint8_t *out);
+/* Where many loads are timed no two in a row are alike. */
+static inline struct plain_block plain_nth(struct plain_block b, uint64_t n)
+{
+    b.feed = 1 + (int64_t)(n & 65535);
+    if (b.kind == 1)
+        b.x -= (int64_t)(n & 65535);
+    return b;
+}
+
+/* Many answers as one number, to compare them. */
+static inline uint64_t plain_mix(uint64_t sum, int64_t answer) { return 31 * sum + (uint64_t)answer; }
+
+typedef uint64_t plain_run_line(struct plain_line *line, struct plain_feed *feed, uint64_t most, uint8_t *out);
+typedef uint64_t plain_run_arc(struct plain_arc *arc, struct plain_feed *feed, uint64_t most, uint8_t *out);
+typedef int64_t plain_call(int64_t *words);
+typedef int64_t plain_load(int64_t *words, const struct plain_block *block);
+typedef uint64_t plain_ticks(int64_t *words, uint64_t n);
+typedef uint64_t plain_loads(int64_t *words, const struct plain_block *block, uint64_t n);
+
+/* Of one side:
+ * .._ticks     so many ticks into out, one by one; returns the ticks done, fewer where the block ended
+ * .._cycles    the same, but the bytes are cleared first and only the cycles are visited
+ * root         the least whole number whose square is at least s, for s below 2^46
+ * words_..     a call on the record's 18 words: decode, test, do, encode
+ * value_..     the words are decoded once; then n calls, or loads each with a stop, on a struct that goes in and comes back by value; the answers, mixed */
+#define PLAIN_SIDE(SIDE)                                                  \
+    plain_run_line SIDE##_line_ticks, SIDE##_line_cycles;                 \
+    plain_run_arc SIDE##_arc_ticks, SIDE##_arc_cycles;                    \
+    uint64_t SIDE##_root(uint64_t s);                                     \
+    plain_call SIDE##_words_tick, SIDE##_words_stop;                      \
+    plain_load SIDE##_words_load;                                         \
+    plain_ticks SIDE##_value_ticks;                                       \
+    plain_loads SIDE##_value_loads;
+
+PLAIN_SIDE(c)
+PLAIN_SIDE(rust)
+
+/* Another root, by Newton's rule. */
+uint64_t c_root_newton(uint64_t s);
 
 #endif

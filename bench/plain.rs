@@ -1,0 +1,190 @@
+//! The core's semantics in plain Rust, for timing beside it; plain.h says what each function does. Here are runs and the root.
+#![allow(clippy::missing_safety_doc)]
+
+mod machine;
+mod path;
+mod words;
+
+const CYCLE: u8 = 16;
+const LAST: u8 = 32;
+
+pub trait Block {
+    /// One cycle onward: its byte.
+    fn cycle(&mut self) -> u8;
+    fn left(&self) -> u64;
+}
+
+#[repr(C)]
+#[derive(Clone, Copy)]
+pub struct Line {
+    pub q: u64,
+    pub a: u64,
+    pub b: u64,
+    pub register_x: u64,
+    pub register_y: u64,
+    pub done: u64,
+    pub code_x: u8,
+    pub code_y: u8,
+}
+
+impl Block for Line {
+    #[inline]
+    fn cycle(&mut self) -> u8 {
+        let mut byte = CYCLE;
+        self.register_x += self.a;
+        if self.register_x >= self.q {
+            self.register_x -= self.q;
+            byte |= self.code_x;
+        }
+        self.register_y += self.b;
+        if self.register_y >= self.q {
+            self.register_y -= self.q;
+            byte |= self.code_y;
+        }
+        self.done += 1;
+        if self.done == self.q {
+            byte |= LAST;
+        }
+        byte
+    }
+
+    fn left(&self) -> u64 {
+        self.q - self.done
+    }
+}
+
+#[repr(C)]
+#[derive(Clone, Copy)]
+pub struct Arc {
+    pub along: i64,
+    pub across: i64,
+    pub excess: i64,
+    pub left: u64,
+    pub quadrant: u64,
+    pub clockwise: u64,
+}
+
+/// The codes of a rise and of a fall in each quadrant, counterclockwise and then clockwise.
+const RISES: [[u8; 4]; 2] = [[4, 2, 8, 1], [8, 2, 4, 1]];
+const FALLS: [[u8; 4]; 2] = [[2, 8, 1, 4], [2, 4, 1, 8]];
+
+impl Arc {
+    #[inline]
+    fn step(&mut self) -> u8 {
+        let (way, quadrant) = ((self.clockwise & 1) as usize, (self.quadrant & 3) as usize);
+        let (rise, fall) = (RISES[way][quadrant], FALLS[way][quadrant]);
+        if self.across < self.along {
+            let risen = self.excess + 2 * self.across + 1;
+            self.across += 1;
+            if risen < self.along {
+                self.excess = risen;
+                return rise;
+            }
+            self.excess = risen + 1 - 2 * self.along;
+            self.along -= 1;
+        } else {
+            let fallen = self.excess + 1 - 2 * self.along;
+            self.along -= 1;
+            if fallen + self.across >= 0 {
+                self.excess = fallen;
+                return fall;
+            }
+            self.excess = fallen + 2 * self.across + 1;
+            self.across += 1;
+        }
+        rise | fall
+    }
+}
+
+impl Block for Arc {
+    #[inline]
+    fn cycle(&mut self) -> u8 {
+        let mut byte = CYCLE | self.step();
+        if self.along == 0 {
+            self.along = self.across;
+            self.across = 0;
+            self.quadrant = (self.quadrant + 1) & 3;
+        }
+        self.left = self.left.wrapping_sub(1);
+        if self.left == 0 {
+            byte |= LAST;
+        }
+        byte
+    }
+
+    fn left(&self) -> u64 {
+        self.left
+    }
+}
+
+#[repr(C)]
+pub struct Feed {
+    capacity: u64,
+    feed: u64,
+    remainder: u64,
+}
+
+fn ticks<B: Block + Copy>(block: &mut B, feed: &mut Feed, out: &mut [u8]) -> u64 {
+    let (mut b, mut r, mut done) = (*block, feed.remainder, out.len());
+    for (i, byte) in out.iter_mut().enumerate() {
+        r += feed.feed;
+        *byte = 0;
+        if r >= feed.capacity {
+            r -= feed.capacity;
+            *byte = b.cycle();
+            if *byte & LAST != 0 {
+                done = i + 1;
+                break;
+            }
+        }
+    }
+    *block = b;
+    feed.remainder = r;
+    done as u64
+}
+
+/// After a cycle the remainder is below the feed, so the next comes after one of two numbers of ticks.
+fn cycles<B: Block + Copy>(block: &mut B, feed: &mut Feed, out: &mut [u8]) -> u64 {
+    let (mut b, f, capacity) = (*block, feed.feed, feed.capacity);
+    let (whole, over) = (capacity / f, capacity % f);
+    let end = (b.left() * capacity - feed.remainder).div_ceil(f);
+    let n = end.min(out.len() as u64);
+    let out = &mut out[..n as usize];
+    out.fill(0);
+    let mut at = (capacity - feed.remainder).div_ceil(f);
+    let mut r = feed.remainder + at * f - capacity;
+    while let Some(byte) = out.get_mut(at as usize - 1) {
+        *byte = b.cycle();
+        if r >= over {
+            r -= over;
+            at += whole;
+        } else {
+            r += f - over;
+            at += whole + 1;
+        }
+    }
+    feed.remainder = r + capacity - (at - n) * f;
+    *block = b;
+    n
+}
+
+macro_rules! run {
+    ($name:ident, $block:ty, $run:ident) => {
+        #[no_mangle]
+        pub unsafe extern "C" fn $name(block: &mut $block, feed: &mut Feed, most: u64, out: *mut u8) -> u64 {
+            $run(block, feed, unsafe { std::slice::from_raw_parts_mut(out, most as usize) })
+        }
+    };
+}
+
+run!(rust_line_ticks, Line, ticks);
+run!(rust_arc_ticks, Arc, ticks);
+run!(rust_line_cycles, Line, cycles);
+run!(rust_arc_cycles, Arc, cycles);
+
+/// The standard library's root, rounded up.
+#[no_mangle]
+pub extern "C" fn rust_root(s: u64) -> u64 {
+    let r = s.isqrt();
+    r + u64::from(r * r < s)
+}

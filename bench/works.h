@@ -1,0 +1,70 @@
+/* What is timed: tables of works, each done by the core and by the plain programs. */
+#ifndef WORKS_H
+#define WORKS_H
+
+#include "plain.h"
+
+#include <stddef.h>
+
+enum { BUFFER = 65536, MOST_WAYS = 6, MOST_WORKS = 6 };
+static const uint64_t CAPACITY = 300000;
+
+/* A ratio of the core to a way that is not to be passed; of way 0, the core itself, a time in ns. No limit: 0. */
+struct goal {
+    int way;
+    double limit;
+};
+
+struct work {
+    const char *name;
+    int arc;
+    uint64_t part;   /* the feed is the capacity divided by this */
+    uint64_t square; /* whose root is taken */
+    int waits;       /* each root waits for the one before it */
+    uint64_t times;  /* how often the work is done between two looks at the clock */
+    struct goal goals[3];
+};
+
+struct way {
+    const char *name;
+    void (*go)(const struct work *, uint64_t times);
+};
+
+struct table {
+    const char *name, *unit;
+    double units;     /* in one time */
+    uint64_t counted; /* how often the work is done where instructions are counted */
+    int ways, works;
+    const struct way *way; /* the first is the core */
+    const struct work *work;
+};
+
+extern const struct table tables[];
+extern const int table_count;
+
+/* The core's calls in the shape of plain.h. */
+plain_call core_tick, core_stop;
+plain_load core_load;
+
+/* The core's own root, which the archive does not export: bench/run makes it visible. Null where the compiler has left no such function. */
+extern uint64_t core_root(uint64_t s) __attribute__((weak));
+int is_there(const struct table *t);
+
+/* A fresh machine of the widest travel, and one with the timed block in work. */
+void fresh(int64_t *words);
+void loaded(int64_t *words, const struct work *w);
+
+/* A block from its first tick, for the plain runs. */
+struct plain_run {
+    int arc;
+    struct plain_line line;
+    struct plain_arc turn;
+    struct plain_feed feed;
+};
+struct plain_run plain_begun(const struct work *w);
+uint64_t plain_run_on(struct plain_run *r, plain_run_line *line, plain_run_arc *arc, uint64_t most, uint8_t *out);
+
+/* Stops the program unless all sides give the same bytes, answers and records. */
+void agree(void);
+
+#endif
