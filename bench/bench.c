@@ -13,10 +13,11 @@
 
 enum { MOST_ROUNDS = 999 };
 
+/* Processor time in ns: what other programs take of the machine does not count. */
 static double now(void)
 {
     struct timespec t;
-    clock_gettime(CLOCK_MONOTONIC, &t);
+    clock_gettime(CLOCK_PROCESS_CPUTIME_ID, &t);
     return 1e9 * (double)t.tv_sec + (double)t.tv_nsec;
 }
 
@@ -35,17 +36,26 @@ static double median(double *v, int n)
 /* ns a unit of each side of each work, and the core's part of it. */
 static double times[MOST_WORKS][MOST_WAYS][MOST_ROUNDS], ratios[MOST_WORKS][MOST_WAYS][MOST_ROUNDS];
 
-/* Each round does every work by every side once, so that what else the machine does falls on all of them. */
+static double timed(const struct way *side, const struct work *w)
+{
+    double start = now();
+    side->go(w, w->times);
+    return (now() - start) / (double)(w->times * w->units);
+}
+
+/* Each round does every work by every side once, so that what else the machine does falls on all of them. Each round begins with another side: in a fixed order
+ * something that comes again and again can fall on the same side every time. */
 static void measure(const struct table *t, int rounds)
 {
     for (int r = 0; r < rounds; r++)
-        for (int w = 0; w < t->works; w++)
-            for (int s = 0; s < t->ways; s++) {
-                double start = now();
-                t->way[s].go(&t->work[w], t->work[w].times);
-                times[w][s][r] = (now() - start) / ((double)t->work[w].times * t->units);
-                ratios[w][s][r] = times[w][0][r] / times[w][s][r];
+        for (int w = 0; w < t->works; w++) {
+            for (int k = 0; k < t->ways; k++) {
+                int s = (k + r) % t->ways;
+                times[w][s][r] = timed(&t->way[s], &t->work[w]);
             }
+            for (int s = 0; s < t->ways; s++)
+                ratios[w][s][r] = times[w][0][r] / times[w][s][r];
+        }
 }
 
 static void print_goals(const struct table *t, const struct work *w, const double *ns, const double *ratio)
@@ -100,8 +110,8 @@ static void list(void)
     for (int t = 0; t < table_count; t++)
         for (int w = 0; is_there(&tables[t]) && w < tables[t].works; w++)
             for (int s = 0; s < tables[t].ways; s++)
-                printf("%d\t%d\t%d\t%llu\t%g\t%s\t%s\t%s\t%s\n", t, w, s, (unsigned long long)tables[t].counted, tables[t].units, tables[t].name, tables[t].unit,
-                       tables[t].work[w].name, tables[t].way[s].name);
+                printf("%d\t%d\t%d\t%llu\t%llu\t%s\t%s\t%s\t%s\n", t, w, s, (unsigned long long)tables[t].counted, (unsigned long long)tables[t].work[w].units,
+                       tables[t].name, tables[t].unit, tables[t].work[w].name, tables[t].way[s].name);
 }
 
 int main(int count, char **given)

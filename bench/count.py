@@ -9,7 +9,7 @@ BENCH = "target/bench/bench"
 
 def per_unit(table, work, side, times, units):
     once, twice = (counted.instructions([BENCH, "do", table, work, side, str(n)]) for n in (int(times), 2 * int(times)))
-    return (twice - once) / (int(times) * float(units))
+    return (twice - once) / (int(times) * int(units))
 
 
 def row(name, sides):

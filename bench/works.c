@@ -42,7 +42,7 @@ void loaded(int64_t *words, const struct work *w)
         abort();
 }
 
-/* ---- runs, `times` buffers full */
+/* ---- runs: the first of a block, each of `units` bytes */
 
 struct plain_run plain_begun(const struct work *w)
 {
@@ -65,7 +65,7 @@ static void plain_runs(const struct work *w, uint64_t times, plain_run_line *lin
 {
     struct plain_run r = plain_begun(w);
     for (uint64_t i = 0; i < times; i++)
-        kept = plain_run_on(&r, line, arc, BUFFER, out[1]);
+        kept = plain_run_on(&r, line, arc, w->units, out[1]);
 }
 
 static void runs_core(const struct work *w, uint64_t times)
@@ -74,7 +74,7 @@ static void runs_core(const struct work *w, uint64_t times)
     uint64_t ticks;
     loaded(words, w);
     for (uint64_t i = 0; i < times; i++) {
-        vz_run((vz_record *)words, UINT64_MAX, out[0], BUFFER, &ticks);
+        vz_run((vz_record *)words, UINT64_MAX, out[0], w->units, &ticks);
         kept = ticks;
     }
 }
@@ -82,7 +82,7 @@ static void runs_core(const struct work *w, uint64_t times)
 static void runs_memset(const struct work *w, uint64_t times)
 {
     for (uint64_t i = 0; i < times; i++) {
-        memset(out[i & 1], (int)w->part, BUFFER);
+        memset(out[i & 1], (int)w->part, w->units);
         __asm__ volatile("" ::: "memory");
     }
 }
@@ -176,37 +176,41 @@ static void roots_rust(const struct work *w, uint64_t times) { roots(w, times, r
 static const struct way run_ways[] = { { "core", runs_core },           { "C tick loop", runs_c_loop },       { "C cycle to cycle", runs_c_cycles },
                                        { "Rust tick loop", runs_rust_loop }, { "Rust cycle to cycle", runs_rust_cycles }, { "memset", runs_memset } };
 static const struct work run_works[] = {
-    { "line, q0", 0, 1, 0, 0, 12, { { 1, 1.5 } } },
-    { "line, q0/10", 0, 10, 0, 0, 40, { { 1, 0.4 }, { 2, 1.25 } } },
-    { "line, q0/1000", 0, 1000, 0, 0, 40, { { 1, 0.4 }, { 2, 1.25 }, { 5, 2 } } },
-    { "arc, q0", 1, 1, 0, 0, 12, { { 1, 1.2 } } },
-    { "arc, q0/10", 1, 10, 0, 0, 40, { { 1, 0.4 }, { 2, 1.25 } } },
-    { "arc, q0/1000", 1, 1000, 0, 0, 40, { { 1, 0.4 }, { 2, 1.25 }, { 5, 2 } } },
+    { "line, q0", 0, 1, 0, 0, 12, BUFFER, { { 1, 1.5 } } },
+    { "line, q0/10", 0, 10, 0, 0, 40, BUFFER, { { 1, 0.4 }, { 2, 1.25 } } },
+    { "line, q0/1000", 0, 1000, 0, 0, 40, BUFFER, { { 1, 0.4 }, { 2, 1.25 }, { 5, 2 } } },
+    { "line, q0/1000, 4 KiB", 0, 1000, 0, 0, 640, 4096, { { 1, 0.4 }, { 2, 1.25 }, { 5, 2 } } },
+    { "arc, q0", 1, 1, 0, 0, 12, BUFFER, { { 1, 1.2 } } },
+    { "arc, q0/10", 1, 10, 0, 0, 40, BUFFER, { { 1, 0.4 }, { 2, 1.25 } } },
+    { "arc, q0/1000", 1, 1000, 0, 0, 40, BUFFER, { { 1, 0.4 }, { 2, 1.25 }, { 5, 2 } } },
+    { "arc, q0/1000, 4 KiB", 1, 1000, 0, 0, 640, 4096, { { 1, 0.4 }, { 2, 1.25 }, { 5, 2 } } },
 };
 static const struct way tick_ways[] = { { "core, words", ticks_core }, { "C by value", ticks_c }, { "C, words", ticks_c_words }, { "Rust by value", ticks_rust }, { "Rust, words", ticks_rust_words } };
 static const struct work tick_works[] = {
-    { "tick, line, q0", 0, 1, 0, 0, 100000, { { 1, 1.5 } } },
-    { "tick, line, q0/1000", 0, 1000, 0, 0, 100000, { { 1, 1.5 } } },
-    { "tick, arc, q0", 1, 1, 0, 0, 100000, { { 1, 1.5 } } },
-    { "tick, arc, q0/1000", 1, 1000, 0, 0, 100000, { { 1, 1.5 } } },
+    { "tick, line, q0", 0, 1, 0, 0, 20000, 1, { { 1, 1.5 } } },
+    { "tick, line, q0/1000", 0, 1000, 0, 0, 20000, 1, { { 1, 1.5 } } },
+    { "tick, arc, q0", 1, 1, 0, 0, 20000, 1, { { 1, 1.5 } } },
+    { "tick, arc, q0/1000", 1, 1000, 0, 0, 20000, 1, { { 1, 1.5 } } },
 };
 static const struct way load_ways[] = { { "core, words", loads_core }, { "C by value", loads_c }, { "C, words", loads_c_words }, { "Rust by value", loads_rust }, { "Rust, words", loads_rust_words } };
 static const struct work load_works[] = {
-    { "load and stop, line", 0, 1, 0, 0, 20000, { { 0, 0 } } },
-    { "load and stop, arc", 1, 1, 0, 0, 20000, { { 0, 0 } } },
+    { "load and stop, line", 0, 1, 0, 0, 5000, 1, { { 0, 0 } } },
+    { "load and stop, arc", 1, 1, 0, 0, 5000, 1, { { 0, 0 } } },
 };
 static const struct way root_ways[] = { { "core", roots_core }, { "C bit by bit", roots_c }, { "C Newton", roots_newton }, { "Rust isqrt", roots_rust } };
 static const struct work root_works[] = {
-    { "root of 100", 0, 0, 100, 0, 20000, { { 0, 50 } } },
-    { "root of 2^20", 0, 0, (uint64_t)1 << 20, 0, 20000, { { 0, 50 } } },
-    { "root of 2^43", 0, 0, (uint64_t)1 << 43, 0, 20000, { { 0, 50 } } },
-    { "root of 2^43, waiting for the one before", 0, 0, (uint64_t)1 << 43, 1, 20000, { { 0, 50 } } },
+    { "root of 100", 0, 0, 100, 0, 5000, 1, { { 0, 50 } } },
+    { "root of 2^20", 0, 0, (uint64_t)1 << 20, 0, 5000, 1, { { 0, 50 } } },
+    { "root of 2^43", 0, 0, (uint64_t)1 << 43, 0, 5000, 1, { { 0, 50 } } },
+    { "root of 100, waiting", 0, 0, 100, 1, 5000, 1, { { 0, 50 } } },
+    { "root of 2^20, waiting", 0, 0, (uint64_t)1 << 20, 1, 5000, 1, { { 0, 50 } } },
+    { "root of 2^43, waiting", 0, 0, (uint64_t)1 << 43, 1, 5000, 1, { { 0, 50 } } },
 };
 
-#define TABLE(NAME, UNIT, UNITS, COUNTED, KIND) \
-    { NAME, UNIT, UNITS, COUNTED, sizeof KIND##_ways / sizeof *KIND##_ways, sizeof KIND##_works / sizeof *KIND##_works, KIND##_ways, KIND##_works }
-const struct table tables[] = { TABLE("run", "tick", BUFFER, 2, run), TABLE("single tick", "call", 1, 2000, tick), TABLE("load", "pair of calls", 1, 1000, load),
-                                TABLE("least root", "call", 1, 1000, root) };
+#define TABLE(NAME, UNIT, COUNTED, KIND) \
+    { NAME, UNIT, COUNTED, sizeof KIND##_ways / sizeof *KIND##_ways, sizeof KIND##_works / sizeof *KIND##_works, KIND##_ways, KIND##_works }
+const struct table tables[] = { TABLE("run", "tick", 4, run), TABLE("single tick", "call", 2000, tick), TABLE("load", "pair of calls", 1000, load),
+                                TABLE("least root", "call", 1000, root) };
 const int table_count = sizeof tables / sizeof *tables;
 
 int is_there(const struct table *t) { return t->way != root_ways || core_root; }

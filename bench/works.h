@@ -6,7 +6,7 @@
 
 #include <stddef.h>
 
-enum { BUFFER = 65536, MOST_WAYS = 6, MOST_WORKS = 6 };
+enum { BUFFER = 65536, MOST_WAYS = 6, MOST_WORKS = 8 };
 static const uint64_t CAPACITY = 300000;
 
 /* A ratio of the core to a way that is not to be passed; of way 0, the core itself, a time in ns. No limit: 0. */
@@ -22,6 +22,7 @@ struct work {
     uint64_t square; /* whose root is taken */
     int waits;       /* each root waits for the one before it */
     uint64_t times;  /* how often the work is done between two looks at the clock */
+    uint64_t units;  /* in one time: the bytes that a run fills, or 1 */
     struct goal goals[3];
 };
 
@@ -32,7 +33,6 @@ struct way {
 
 struct table {
     const char *name, *unit;
-    double units;     /* in one time */
     uint64_t counted; /* how often the work is done where instructions are counted */
     int ways, works;
     const struct way *way; /* the first is the core */
