@@ -2,13 +2,16 @@
 use mathlib.Core.Path.{_≡_}
 use mathlib.Core.Bool.{Bool, true, false, cond}
 use mathlib.Core.List.{List, [], _∷_, _++_}
-use Prim.Native.Nat.{ℕ, _+_, _-_, _≤_, _<_}
+use Prim.Native.Nat.{ℕ, _+_, _-_, _*_, _^_, _≤_, _<_}
 use lib.Dec.{leb}
 use lib.ListN.{length, take, drop}
 use Rattle.row.specs.Buffer.{placed}
 use Rattle.row.specs.Lines.{headerLine, totalLine, refusedLine}
+use Rattle.work.specs.Work.{isNothing}
 use Rattle.machine.specs.declared.Machine.{Machine}
+use Rattle.machine.specs.Machine.{soundOf}
 use Rattle.settings.specs.declared.Settings.{Settings}
+use Rattle.reader.specs.declared.Feed.{Feed}
 use Rattle.listing.specs.declared.Tally.{Tally}
 use Rattle.listing.specs.Tally.{listedOf}
 use Rattle.listing.specs.Tally.{startOf as tallyStart}
@@ -57,6 +60,27 @@ restOf c text = restAt (c .stage) c text
 abbrev pub Lists : Settings → Check → Type 0
 Lists s c = (text : List ℕ) → restOf c text ≡ listingOf s text
 
+-- ---- what every check keeps that a start reaches, whatever the texts: so its numbers fit in 63 bits
+
+abbrev pub FeedSmall : Feed → Type 0
+FeedSmall Feed.Unknown = Unit {0}
+FeedSmall (Feed.Known f) = f < 10 ^ 7
+
+-- the machine is sound and at rest, and the counts are some that at most 65,537 lines can make
+pub record Reached (at : ℕ) (t : Tally) : Type 0 where
+  pub sound : soundOf (t .machine) ≡ true
+  pub free : t .machine .held ≡ false
+  pub idle : isNothing (t .machine .work) ≡ true
+  pub feed : FeedSmall (t .reader .feed)
+  pub near : at ≤ 65537
+  pub lines : t .lines ≤ 65537
+  pub blocks : t .blocks ≤ t .lines
+  pub cycles : t .cycles ≤ 8000000 * t .lines
+  pub ticks : t .ticks ≤ 9600000000000 * t .lines
+
+abbrev pub Keeps : (before after : Check) → Type 0
+Keeps c d = Reached (c .at) (c .tally) → Reached (d .at) (d .tally)
+
 -- ---- what a call hands out
 
 abbrev pub lastOf : Check → (next : ℕ) → Step
@@ -75,6 +99,7 @@ pub record Steps (c : Check) (text old : List ℕ) (at : ℕ) (s : Step) (new : 
   pub buffer : new ≡ placed line old at
   pub next : s .next ≡ at + length line
   pub bytes : line ++ restOf (s .check) text ≡ restOf c text
+  pub keeps : Keeps c (s .check)
   pub fewer : stepsLeft (s .check .stage) (s .check .at) (length text) < stepsLeft (c .stage) (c .at) (length text)
 
 -- A buffer's first bytes are the next of the listing, and its later ones keep their contents. How many rows it takes is free; one that holds a row
@@ -84,3 +109,4 @@ pub record Fills (c : Check) (text old : List ℕ) (f : Filled) (new : List ℕ)
   pub later : drop (f .len) new ≡ drop (f .len) old
   pub room : f .len ≤ length old
   pub onward : 160 ≤ length old → isOver (f .check) ≡ false → 1 ≤ f .len
+  pub keeps : Keeps c (f .check)

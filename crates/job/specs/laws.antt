@@ -4,5 +4,6 @@ pub mod Fill
 pub mod Ended
 pub mod Asks
 pub mod Rows
+pub mod Reached
 pub mod Listing
 pub mod Calls

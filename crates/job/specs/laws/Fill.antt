@@ -12,7 +12,7 @@ use Rattle.row.specs.laws.Buffer.{placed-length, placed-front, placed-rest}
 use Rattle.job.specs.declared.Check.{Check}
 use Rattle.job.specs.declared.Step.{Step}
 use Rattle.job.specs.declared.Filled.{Filled}
-use Rattle.job.specs.Check.{isOver, restOf, Steps, Fills}
+use Rattle.job.specs.Check.{isOver, restOf, Keeps, Steps, Fills}
 
 -- so far: of the check that began as c, with the buffer as old
 pub record Filling (c : Check) (text old : List ℕ) (new : List ℕ) (check : Check) (len : ℕ) : Type 0 where
@@ -20,13 +20,14 @@ pub record Filling (c : Check) (text old : List ℕ) (new : List ℕ) (check : C
   pub later : drop len new ≡ drop len old
   pub room : len ≤ length old
   pub long : length new ≡ length old
+  pub keeps : Keeps c check
 
 pub filling-start : (c : Check) (text old : List ℕ) → Filling c text old old c 0
-filling-start c text old = record { bytes = refl; later = refl; room = omega arith; long = refl }
+filling-start c text old = record { bytes = refl; later = refl; room = omega arith; long = refl; keeps = λ r. r }
 
 module _ {c : Check} {text old new : List ℕ} {check : Check} {len : ℕ} (f : Filling c text old new check len) where
   pub filling-done : (160 ≤ length old → isOver check ≡ false → 1 ≤ len) → Fills c text old (record { len = len; check = check }) new
-  filling-done onward = record { bytes = f .bytes; later = f .later; room = f .room; onward = onward }
+  filling-done onward = record { bytes = f .bytes; later = f .later; room = f .room; onward = onward; keeps = f .keeps }
 
   pub filling-on : hasRoom new len ≡ true → {s : Step} {new′ : List ℕ} → Steps check text new len s new′ → Filling c text old new′ (s .check) (s .next)
   filling-on free {s} {new′} t =
@@ -41,6 +42,7 @@ module _ {c : Check} {text old new : List ℕ} {check : Check} {len : ℕ} (f : 
         later = placed-rest (t .line) new len fits ∙ sym (drop-drop (length (t .line)) len new) ∙ ap (drop (length (t .line))) (f .later) ∙ drop-drop (length (t .line)) len old;
         room = omega (arith, f .long);
         long = placed-length (t .line) new len fits ∙ f .long;
+        keeps = λ r. t .keeps (f .keeps r);
       })
 
 -- ---- for programs that fill a buffer until all is handed out

@@ -18,7 +18,8 @@ use Rattle.job.specs.declared.Stage.{Stage}
 use Rattle.job.specs.declared.Check.{Check}
 use Rattle.job.specs.Text.{firstLine, linesOf}
 use Rattle.job.specs.Check.{rowsFrom, unless, restOf, lastOf, Steps}
-use Rattle.job.specs.laws.Text.{lines-next}
+use Rattle.job.specs.laws.Text.{first-short, lines-next}
+use Rattle.job.specs.laws.Reached.{line-reached}
 
 -- a line that one of row's functions wrote, where there was room
 pub record Wrote (line old : List ℕ) (at : ℕ) (p : Place) (new : List ℕ) : Type 0 where
@@ -37,6 +38,7 @@ module _ (c : Check) (text old : List ℕ) (at : ℕ) {new : List ℕ} where
         buffer = w .buffer ∙ written headerLine old at (w .room);
         next = goes-on headerLine old at (w .room) (w .place);
         bytes = rw e;
+        keeps = λ r. r;
         fewer = rw e (omega arith);
       }
 
@@ -44,7 +46,7 @@ module _ (c : Check) (text old : List ℕ) (at : ℕ) {new : List ℕ} where
     -- the last row
     last : {next : ℕ} (line : List ℕ) → length line ≤ 160 → new ≡ placed line old at → next ≡ at + length line → line ≡ restOf c text → Steps c text old at (lastOf c next) new
     unfolding restOf
-    last line short buffer next e = record { line = line; room = short; buffer = buffer; next = next; bytes = append-nil line ∙ e; fewer = rw lines (omega arith) }
+    last line short buffer next e = record { line = line; room = short; buffer = buffer; next = next; bytes = append-nil line ∙ e; keeps = λ r. r; fewer = rw lines (omega arith) }
 
     last-written : {p : Place} (line : List ℕ) → length line ≤ 160 → Wrote line old at p new → line ≡ restOf c text → Steps c text old at (lastOf c (nextPlace p at)) new
     last-written line short w e = last line short (w .buffer ∙ written line old at (w .room)) (goes-on line old at (w .room) (w .place)) e
@@ -87,6 +89,9 @@ module _ (c : Check) (text old : List ℕ) (at : ℕ) {new : List ℕ} where
         unfolding restOf
         onward e = rw (le-leb (length text) 65536 short) (sym (rw e at cut))
 
+        near : end + 1 ≤ 65537
+        near = omega (arith, first, first-short (drop (c .at) text), length-drop (c .at) text)
+
         pub step-line : l .over ≡ false → Steps c text old at (record { next = l .next; check = record { stage = Stage.Lines; at = end + 1; tally = l .tally } }) new
         step-line e =
             record {
@@ -95,5 +100,6 @@ module _ (c : Check) (text old : List ℕ) (at : ℕ) {new : List ℕ} where
               buffer = g .buffer;
               next = g .next;
               bytes = onward e;
+              keeps = λ r. rw (g .tally) (line-reached (c .tally) r near line);
               fewer = rw lines (omega (arith, first));
             }

@@ -1,0 +1,153 @@
+-- Each text line leaves a tally that a start reaches.
+use mathlib.Core.Path.{_≡_, refl}
+use mathlib.Core.Bool.{Bool, true, false, cond}
+use mathlib.Core.List.{List}
+use Prim.Native.Nat.{ℕ, zero, suc, _^_, _≤_, _<_}
+use native.Mathlib.Omega.{arith}
+use lib.ListN.{length}
+use Rattle.block.specs.declared.Block.{Block}
+use Rattle.letters.specs.declared.word.Word.{Word}
+use Rattle.letters.specs.declared.word.Words.{Words}
+use Rattle.words.specs.laws.Scan.{lineOf}
+use Rattle.machine.specs.declared.Machine.{Machine}
+use Rattle.machine.specs.declared.Answer.{Answer}
+use Rattle.machine.specs.Machine.{soundOf, movedOf}
+use Rattle.machine.specs.Calls.{loadOf}
+use Rattle.finish.specs.laws.Record.{AtRest, cycles-most, ticks-most}
+use Rattle.reader.specs.declared.Feed.{Feed}
+use Rattle.reader.specs.declared.Reader.{Reader}
+use Rattle.reader.specs.declared.«text_line».Read.{Read}
+use Rattle.reader.specs.declared.«text_line».ReadLine.{ReadLine}
+use Rattle.reader.specs.Reader.{readerAfter, feedAfter, moving, lineNo, blockOf}
+use Rattle.reader.specs.TextLine.{reads, still, loaded, takenOf, readWith, readLineOf}
+use Rattle.reader.specs.laws.Small.{feed-small}
+use Rattle.listing.specs.declared.Tally.{Tally}
+use Rattle.listing.specs.Tally.{countsRight, blockListed, listedWith, listedOf}
+use Rattle.listing.specs.Tally.{startOf as tallyStart}
+use Rattle.listing.specs.laws.Counts.{Counts, counts}
+use Rattle.listing.specs.laws.Read.{listed, not-listed}
+use Rattle.job.specs.Job.{Asks}
+use Rattle.job.specs.Check.{FeedSmall, Reached}
+use Rattle.job.specs.laws.Ended.{ended, ended-rests}
+use Rattle.job.specs.laws.Asks.{Read-as, line-asks}
+
+pub start-reached : {m : Machine} → AtRest m → Reached 0 (tallyStart m)
+unfolding tallyStart
+start-reached i =
+    record {
+      sound = i .sound;
+      free = i .free;
+      idle = i .idle;
+      feed = tt;
+      near = omega arith;
+      lines = omega arith;
+      blocks = omega arith;
+      cycles = omega arith;
+      ticks = omega arith;
+    }
+
+-- ---- the F that is known has seven digits
+
+feed-after : (f : Feed) (w : Word) → w .magnitude < 10 ^ 7 → FeedSmall f → FeedSmall (feedAfter f w)
+feed-after f w h known = by (w .stands)
+  where
+    by : (stands : Bool) → FeedSmall (cond stands (Feed.Known (w .magnitude)) f)
+    by true = h
+    by false = known
+
+module _ (k k′ : Reader) (m : Machine) (before : FeedSmall (k .feed)) (after : FeedSmall (k′ .feed)) where
+  feed-loaded : (next : Machine) (a : Answer) → FeedSmall (loaded k k′ m next a .reader .feed)
+  feed-loaded next Answer.Done = after
+  feed-loaded next (Answer.Width bits) = after
+  feed-loaded next (Answer.Refused number) = before
+
+  feed-taken : (b : Block) → FeedSmall (takenOf k k′ m b .reader .feed)
+  unfolding takenOf
+  feed-taken b = by (still (b .end) (m .at) (b .path))
+    where
+      by : (stays : Bool) → FeedSmall (cond stays (reads Read.Nothing k′ m) (loaded k k′ m (loadOf m b .machine) (loadOf m b .answer)) .reader .feed)
+      by true = after
+      by false = feed-loaded (loadOf m b .machine) (loadOf m b .answer)
+
+  feed-words : (ws : Words) (number : ℕ) → FeedSmall (readWith k k′ m ws number .reader .feed)
+  feed-words ws zero = by (moving ws)
+    where
+      by : (moves : Bool) → FeedSmall (cond moves (takenOf k k′ m (blockOf (m .settings .scale) k′ ws (m .at))) (reads Read.Nothing k′ m) .reader .feed)
+      by true = feed-taken (blockOf (m .settings .scale) k′ ws (m .at))
+      by false = after
+  feed-words ws (suc n) = before
+
+feed-read : (k : Reader) (m : Machine) (line : List ℕ) → FeedSmall (k .feed) → FeedSmall (readLineOf k m line .reader .feed)
+unfolding readLineOf
+feed-read k m line h = by (soundOf m)
+  where
+    by : (sound : Bool) → FeedSmall ((let l = lineOf line in let k′ = readerAfter k (l .words) in
+        cond sound (readWith k k′ m (l .words) (lineNo (m .settings .scale) k′ (length line) l)) (reads (Read.Refused 9) k m)) .reader .feed)
+    by true =
+        let l = lineOf line in
+        let k′ = readerAfter k (l .words) in
+        feed-words k k′ m h (feed-after (k .feed) (l .words .f) (feed-small line) h) (l .words) (lineNo (m .settings .scale) k′ (length line) l)
+    by false = h
+
+-- ---- a line
+
+module _ (t : Tally) {at next : ℕ} (r : Reached at t) (near : next ≤ 65537) where
+  rests : AtRest (t .machine)
+  rests = record { sound = r .sound; free = r .free; idle = r .idle }
+
+  stays : Reached next t
+  stays =
+      record {
+        sound = r .sound;
+        free = r .free;
+        idle = r .idle;
+        feed = r .feed;
+        near = near;
+        lines = r .lines;
+        blocks = r .blocks;
+        cycles = r .cycles;
+        ticks = r .ticks;
+      }
+
+  by-line : Counts t → {a : Asks} {x : ReadLine} → Read-as (t .machine) (t .reader) a x → FeedSmall (x .reader .feed)
+      → Reached next (listedWith t (x .reader) (x .machine) (x .answer) .tally)
+  unfolding blockListed movedOf
+  by-line c (Read-as.nothing known) f =
+      record {
+        sound = r .sound;
+        free = r .free;
+        idle = r .idle;
+        feed = f;
+        near = near;
+        lines = omega (arith, c .lines);
+        blocks = omega (arith, c .blocks);
+        cycles = omega (arith, c .cycles);
+        ticks = omega (arith, c .ticks);
+      }
+  by-line c (Read-as.makes known b ok) f =
+      let e = ended (t .machine) rests b ok in
+      let i = ended-rests (t .machine) rests b ok in
+      let few = rw e at (cycles-most (loadOf (t .machine) b .machine)) in
+      let short = rw e at (ticks-most (loadOf (t .machine) b .machine)) in
+      rw e
+      (record {
+        sound = i .sound;
+        free = i .free;
+        idle = i .idle;
+        feed = f;
+        near = near;
+        lines = omega (arith, c .lines);
+        blocks = omega (arith, c .blocks);
+        cycles = omega (arith, c .cycles);
+        ticks = omega (arith, c .ticks);
+      })
+  by-line c (Read-as.refuses number) f = stays
+
+  pub line-reached : (line : List ℕ) → Reached next (listedOf t line .tally)
+  line-reached line = by (countsRight t) refl
+    where
+      by : (right : Bool) → countsRight t ≡ right → Reached next (listedOf t line .tally)
+      by true e =
+          rw (listed t line e {r = readLineOf (t .reader) (t .machine) line} refl)
+          (by-line (counts t e) (line-asks (t .machine) (t .reader) (r .sound) (r .idle) line) (feed-read (t .reader) (t .machine) line (r .feed)))
+      by false e = rw (not-listed t line e) stays
