@@ -9,7 +9,8 @@
  * the type says, that don't overlap, and one call at a time on one record.
  *
  * Use: vz_make once; then for each block a vz_load_.. and vz_tick (from the clock's interrupt) or vz_run until the block ends.
- * Link: rt staticlib export writes target/staticlib/libexport.a. examples/c/square_and_circle.c is a whole program.
+ * A job text is checked beforehand by vz_check_start and vz_check_fill, on words of its own.
+ * Link: tools/archive writes target/libverdaizka.a. examples/c has whole programs: square_and_circle.c, check_a_job.c.
  *
  * Units
  *   length   whole pulses. A millimetre is p pulses. X points right, Y up; the machine starts at (0, 0).
@@ -130,6 +131,52 @@ int64_t vz_release(vz_record *record);
 
 /* Drops the block in work and sets the remainder to 0. The machine stands where it is; a hold stays. */
 int64_t vz_stop(vz_record *record);
+
+/* ---- check: the listing of a job text, before a tool moves. A row for each block, and a last line with the totals or with the
+ * line and the number of the refusal. It is handed out piece by piece into a buffer of any size; nothing is driven.
+ *
+ * All that a check knows stands in 26 words that the caller owns, as a record's 18. The text is not among them: the caller
+ * keeps it, whole and unchanged, from the first call to the last. */
+
+#define VZ_CHECK_WORDS 26
+
+/* Written by the calls alone; it may be copied and saved, as a record may. */
+typedef struct vz_check {
+    int64_t word[VZ_CHECK_WORDS];
+} vz_check;
+
+#ifdef __cplusplus
+static_assert(sizeof(vz_check) == 8 * VZ_CHECK_WORDS, "a check is 26 words of 64 bits");
+#else
+_Static_assert(sizeof(vz_check) == 8 * VZ_CHECK_WORDS, "a check is 26 words of 64 bits");
+#endif
+
+/* Words 0 to 17 are the record of the machine that the job would run on, where its last block ended. Then: */
+enum vz_check_word {
+    VZ_CHECK_STAGE = 18,  /* what comes next: 0 the header, 1 the row of the next text line, 2 nothing any more */
+    VZ_CHECK_AT = 19,     /* where the next text line begins, in bytes */
+    VZ_CHECK_MOTION = 20, /* the G that is known: 1, 2 or 3, 0 none */
+    VZ_CHECK_FEED = 21,   /* the F that is known, in millimetres per minute, -1 none */
+    VZ_CHECK_LINES = 22,  /* text lines read */
+    VZ_CHECK_BLOCKS = 23, /* of the blocks so far: their number, */
+    VZ_CHECK_CYCLES = 24, /* cycles */
+    VZ_CHECK_TICKS = 25   /* and ticks */
+};
+
+/* Begins the check of a job on a fresh machine with these settings, which it takes and answers as vz_make does: 0; or 1, 2 or 3,
+ * and then the check is one of p 50, w 5,000 and the widest travel. Whatever the words were before. */
+int64_t vz_check_start(vz_check *check, int64_t p, int64_t w, int64_t x_lower, int64_t x_upper, int64_t y_lower, int64_t y_upper);
+
+/* Hands out the next rows, as many whole ones as surely fit, to the front of out; its other bytes stay. *written is always set:
+ * how many bytes. Answers 0 while there is more, 1 once all is handed out; or -9 where the words are no check, with 0 bytes and
+ * nothing else changed. The pieces, one after the other, are the listing of the text. Where a stray write left a check whose
+ * machine is not sound, the listing ends by refusing the next text line with 9.
+ *
+ * A row has at most 160 bytes. Less room than that writes nothing and answers 0 again, so that a loop until 1 needs at least 160
+ * bytes in each call. text is the whole text, text_length bytes, the same at each call; neither it nor out is null, even where
+ * a length is 0. A text of more than 65,536 bytes is refused by question 30, whatever stands in it: 65,537 of them are enough
+ * to hand over. */
+int64_t vz_check_fill(vz_check *check, const uint8_t *text, size_t text_length, uint8_t *out, size_t out_length, uint64_t *written);
 
 #ifdef __cplusplus
 }

@@ -6,6 +6,9 @@ pub mod crc;
 /// The record as the core has it, in words of 64 bits; `include/verdaizka.h` says which is what.
 pub const WORDS: usize = 18;
 
+/// A check as the core has it: the words of its machine's record, then how far it has come.
+pub const CHECK_WORDS: usize = 26;
+
 // A slice passes as its pointer and its length.
 extern "C" {
     fn vz_make(words: *mut i64, p: i64, w: i64, xlo: i64, xhi: i64, ylo: i64, yhi: i64) -> i64;
@@ -17,6 +20,8 @@ extern "C" {
     fn vz_hold(words: *mut i64) -> i64;
     fn vz_release(words: *mut i64) -> i64;
     fn vz_stop(words: *mut i64) -> i64;
+    fn vz_check_start(words: *mut i64, p: i64, w: i64, xlo: i64, xhi: i64, ylo: i64, yhi: i64) -> i64;
+    fn vz_check_fill(words: *mut i64, text: *const u8, text_len: usize, out: *mut u8, out_len: usize, written: *mut u64) -> i64;
 }
 
 /// The number of the question that was answered by no.
@@ -69,14 +74,22 @@ fn answered(told: i64) -> Result<i64, Refused> {
     }
 }
 
+// Settings have no other answer than done and a question, so their refusals are positive.
+fn made(told: i64) -> Result<(), Refused> {
+    if told == 0 {
+        Ok(())
+    } else {
+        Err(Refused(u32::try_from(told).expect("a number of the specification")))
+    }
+}
+
 impl Machine {
     /// The machine that a make answers, and the number where it is refused: then it is the fresh one with p 50, w 5,000 and the widest travel.
     pub fn make(s: Settings) -> (Machine, Result<(), Refused>) {
         let mut words = [0; WORDS];
         // SAFETY: the core writes the 18 words that it is lent.
         let told = unsafe { vz_make(words.as_mut_ptr(), s.p, s.w, s.x.0, s.x.1, s.y.0, s.y.1) };
-        let made = if told == 0 { Ok(()) } else { Err(Refused(u32::try_from(told).expect("a number of the specification"))) };
-        (Machine { words }, made)
+        (Machine { words }, made(told))
     }
 
     pub fn from_words(words: [i64; WORDS]) -> Machine {
@@ -148,5 +161,40 @@ impl Machine {
 
     pub fn is_busy(&self) -> bool {
         self.words[10] != 0
+    }
+}
+
+/// The check of a job text, whose listing it hands out piece by piece. Any words may stand in it: a fill of words that are no check is refused by 9
+/// and leaves them.
+#[derive(Clone, PartialEq, Eq, Debug)]
+pub struct Check {
+    words: [i64; CHECK_WORDS],
+}
+
+impl Check {
+    /// The check of a job at a fresh machine with these settings, and the number where they are refused, as a make answers them.
+    pub fn start(s: Settings) -> (Check, Result<(), Refused>) {
+        let mut words = [0; CHECK_WORDS];
+        // SAFETY: the core writes the 26 words that it is lent.
+        let told = unsafe { vz_check_start(words.as_mut_ptr(), s.p, s.w, s.x.0, s.x.1, s.y.0, s.y.1) };
+        (Check { words }, made(told))
+    }
+
+    pub fn from_words(words: [i64; CHECK_WORDS]) -> Check {
+        Check { words }
+    }
+
+    pub fn words(&self) -> &[i64; CHECK_WORDS] {
+        &self.words
+    }
+
+    /// How many bytes of the listing stand at the front of the buffer, and whether they were the last. The text is the whole one, the same at each fill;
+    /// a buffer of less than 160 bytes gets none.
+    pub fn fill(&mut self, text: &[u8], out: &mut [u8]) -> Result<(usize, bool), Refused> {
+        let mut written = 0;
+        // SAFETY: as in start; the text and the buffer are lent with their own lengths.
+        let told = unsafe { vz_check_fill(self.words.as_mut_ptr(), text.as_ptr(), text.len(), out.as_mut_ptr(), out.len(), &mut written) };
+        let over = answered(told)? == 1;
+        Ok((usize::try_from(written).expect("a length"), over))
     }
 }

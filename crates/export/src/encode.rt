@@ -34,13 +34,13 @@ pub struct WorkWords {
     pub g: i64,
 }
 
-fn mark_word(held: bool) -> i64
+pub fn mark_word(held: bool) -> i64
     ensures { λ r. ⌜ r ≡ markWord held ⌝ }
 {
     if held { 1 } else { 0 }
 }
 
-fn turn_word(turn: Turn) -> i64
+pub fn turn_word(turn: Turn) -> i64
     ensures { λ r. ⌜ r ≡ turnWord turn ⌝ }
 {
     match turn {
@@ -99,7 +99,7 @@ fn arc_words(a: Arc) -> WorkWords
     }
 }
 
-fn work_words(work: Work) -> WorkWords
+pub fn work_words(work: Work) -> WorkWords
     ensures { λ r. ⌜ r ≡ workWordsOf work ⌝ }
 {
     match work {
@@ -109,7 +109,7 @@ fn work_words(work: Work) -> WorkWords
     }
 }
 
-fn head_words(m: Machine) -> Head
+pub fn head_words(m: Machine) -> Head
     ensures { λ r. ⌜ r ≡ headOf m ⌝ }
 {
     let settings = m.settings;

@@ -18,12 +18,12 @@ use block::Path;
 use circle::plane::Turn;
 use machine::Machine;
 
-mod answer;
+pub mod answer;
 mod call;
-mod decode;
-mod encode;
-mod given;
-mod number;
+pub mod decode;
+pub mod encode;
+pub mod given;
+pub mod number;
 
 // ---- tick, hold, release, stop
 

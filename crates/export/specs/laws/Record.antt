@@ -47,7 +47,7 @@ Small Work.Nothing = Unit {0}
 Small (Work.Line l) = LineSmall l
 Small (Work.Arc a) = ArcSmall a
 
-count-word : {n : ℕ} → n < 2 ^ 63 → countOf (wordOf n) ≡ n
+pub count-word : {n : ℕ} → n < 2 ^ 63 → countOf (wordOf n) ≡ n
 count-word h = rw (word-small h)
 
 mark-back : (held : Bool) → eqb (countOf (markWord held)) 1 ≡ held

@@ -1,0 +1,51 @@
+-- `vz_check_start` is right because it makes the machine of these settings and lays the words of its check.
+use borrow.Author.Needs.{needs}
+use mir.Syntax.{w64}
+use mir.Val.{SFits}
+use mir.Facts.{toZ-ofZ}
+use Rattle.export.specs.Calls.{madeOf}
+use Rattle.checkexport.proofs.vz_check_start.Statement.{statement}
+use Rattle.checkexport.proofs.vz_check_start.Tie as tie
+
+settings-requires : tie.Need-settings-requires
+settings-requires c κs = search needs
+
+make-requires : tie.Need-make-requires
+make-requires c κs = search needs
+
+start-requires : tie.Need-start-requires
+start-requires c κs = search needs
+
+encode-requires : tie.Need-encode-requires
+encode-requires c κs = search needs
+
+make-number-requires : tie.Need-make-number-requires
+make-number-requires c κs = search needs
+
+returns : tie.Need-returns
+unfolding madeOf
+returns c =
+    let s = c .before .before .before .before .before .before in
+    let r : SFits w64 (c .make-number .result) = search needs in
+    let p = s .fits .p in
+    let w = s .fits .w in
+    let xlo = s .fits .xlo in
+    let xhi = s .fits .xhi in
+    let ylo = s .fits .ylo in
+    let yhi = s .fits .yhi in
+    let a = c .before .before .before .before in
+    let given = simp toZ-ofZ at (a .before .settings .ensures) in (
+      simp toZ-ofZ (simp (c .make-number .ensures, a .make .ensures, given)),
+      simp (c .before .encode .ensures, c .before .before .start .ensures, a .make .ensures, given),
+    )
+
+pub vz-check-start-spec : {M : Type 1} → statement M
+vz-check-start-spec =
+    tie.close
+    (tie.spec
+    settings-requires
+    make-requires
+    start-requires
+    encode-requires
+    make-number-requires
+    returns)

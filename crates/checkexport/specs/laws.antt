@@ -1,0 +1,5 @@
+pub mod Number
+pub mod Calls
+pub mod Inverse
+pub mod Start
+pub mod Again

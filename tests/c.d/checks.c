@@ -1,0 +1,130 @@
+/* The check of a job by its words: how a start answers, what a fill does with a small buffer, and that words which are no check
+ * stay as they are, with everything else that a fill could write. Ends with 1 where an answer is another. */
+#include <inttypes.h>
+#include <stdio.h>
+#include <string.h>
+
+#include "verdaizka.h"
+
+static int wrong = 0;
+
+static void is(const char *what, int64_t got, int64_t expected)
+{
+    if (got != expected) {
+        printf("%s: %" PRId64 " in place of %" PRId64 "\n", what, got, expected);
+        wrong = 1;
+    }
+}
+
+static const char job[] = "G1 X10 F300\nX0\n";
+
+static int64_t fill(vz_check *c, void *out, size_t length, uint64_t *written)
+{
+    return vz_check_fill(c, (const uint8_t *)job, strlen(job), out, length, written);
+}
+
+static vz_check started(void)
+{
+    vz_check c;
+    is("start", vz_check_start(&c, 50, 5000, -1000, 1000, -1000, 1000), 0);
+    return c;
+}
+
+static void start(void)
+{
+    vz_check c;
+    is("p", vz_check_start(&c, 0, 5000, 0, 0, 0, 0), VZ_REFUSED_P);
+    is("w", vz_check_start(&c, 50, 20001, 0, 0, 0, 0), VZ_REFUSED_W);
+    is("travel", vz_check_start(&c, 50, 5000, 0, 0, 1, 1), VZ_REFUSED_TRAVEL);
+    is("p of a refused start", c.word[VZ_WORD_P], 50);
+    is("travel of a refused start", c.word[VZ_WORD_Y_LOWER], -1000000);
+    is("feed of a start", c.word[VZ_CHECK_FEED], -1);
+}
+
+/* The smallest buffer that gets on takes a row for each call, and hands out the same bytes as a large one. */
+static void pieces(void)
+{
+    char large[1000], small[1000];
+    uint8_t row[160];
+    uint64_t all = 0, sum = 0, written = 0;
+    vz_check c = started();
+    int64_t told;
+    is("a large buffer", fill(&c, large, sizeof large, &all), 1);
+    is("feed", c.word[VZ_CHECK_FEED], 300);
+    is("motion", c.word[VZ_CHECK_MOTION], 1);
+    is("blocks", c.word[VZ_CHECK_BLOCKS], 2);
+    is("nothing more", fill(&c, large + all, sizeof large - all, &written), 1);
+    is("bytes after the last", (int64_t)written, 0);
+    c = started();
+    is("159 bytes", fill(&c, row, 159, &written), 0);
+    is("bytes in 159", (int64_t)written, 0);
+    do {
+        told = fill(&c, row, sizeof row, &written);
+        memcpy(small + sum, row, written);
+        sum += written;
+    } while (told == 0);
+    is("over", told, 1);
+    is("length", (int64_t)sum, (int64_t)all);
+    is("bytes", memcmp(small, large, all), 0);
+}
+
+/* One word of a check changed, or many. */
+static void refused(const char *what, const vz_check *bad)
+{
+    vz_check c = *bad;
+    uint8_t out[200], before[200];
+    uint64_t written = 5;
+    memset(before, 7, sizeof before);
+    memcpy(out, before, sizeof out);
+    is(what, fill(&c, out, sizeof out, &written), -VZ_REFUSED_RECORD);
+    is("words that stay", memcmp(&c, bad, sizeof c), 0);
+    is("bytes of a refused fill", (int64_t)written, 0);
+    is("the buffer of a refused fill", memcmp(out, before, sizeof out), 0);
+}
+
+static void changed(const char *what, int word, int64_t to)
+{
+    vz_check c = started();
+    c.word[word] = to;
+    refused(what, &c);
+}
+
+/* A machine that is not sound refuses the next text line. */
+static void unsound(void)
+{
+    static const char expected[] = "line 1 refused 9\n";
+    vz_check c = started();
+    char out[320];
+    uint64_t written;
+    c.word[VZ_CHECK_STAGE] = 1;
+    c.word[VZ_WORD_X] = 1001;
+    is("an unsound machine", fill(&c, out, sizeof out, &written), 1);
+    is("length of its row", (int64_t)written, (int64_t)strlen(expected));
+    is("its row", memcmp(out, expected, strlen(expected)), 0);
+}
+
+int main(void)
+{
+    vz_check noise;
+    uint64_t seed = 1;
+    start();
+    pieces();
+    unsound();
+    changed("p", VZ_WORD_P, -50);
+    changed("held 2", VZ_WORD_HELD, 2);
+    changed("kind 4", VZ_WORD_WORK, 4);
+    changed("stage 3", VZ_CHECK_STAGE, 3);
+    changed("at", VZ_CHECK_AT, -1);
+    changed("motion 4", VZ_CHECK_MOTION, 4);
+    changed("feed -2", VZ_CHECK_FEED, -2);
+    changed("feed of 33 bits", VZ_CHECK_FEED, INT64_C(4294967296));
+    changed("ticks", VZ_CHECK_TICKS, INT64_MIN);
+    for (int turn = 0; turn < 1000; turn++) {
+        for (int i = 0; i < VZ_CHECK_WORDS; i++) {
+            seed = seed * 6364136223846793005u + 1442695040888963407u;
+            noise.word[i] = (int64_t)seed;
+        }
+        refused("noise", &noise);
+    }
+    return wrong;
+}
