@@ -9,7 +9,7 @@ use Rattle.settings.specs.declared.Settings.{Settings}
 use Rattle.machine.specs.Calls.{makeOf}
 use Rattle.job.specs.declared.Check.{Check}
 use Rattle.job.specs.Check.{startOf, isOver, Fills}
-use Rattle.export.specs.Words.{markWord}
+use Rattle.layout.specs.Words.{markWord}
 use Rattle.checkexport.specs.Words.{encodeOf, decodeOf}
 
 -- the check of a job at the machine that a make answers

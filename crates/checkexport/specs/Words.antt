@@ -13,7 +13,7 @@ use Rattle.reader.specs.Reader.{motionOf}
 use Rattle.listing.specs.declared.Tally.{Tally}
 use Rattle.job.specs.declared.Stage.{Stage}
 use Rattle.job.specs.declared.Check.{Check}
-use Rattle.export.specs.Words.{wordOf, countOf, turnWord, at, machineIn, sameWords, encodeOf as recordWords}
+use Rattle.layout.specs.Words.{wordOf, countOf, turnWord, at, machineIn, sameWords, encodeOf as recordWords}
 use Rattle.checkexport.specs.declared.encode.Progress.{Progress}
 use Rattle.checkexport.specs.declared.decode.Decoded.{Decoded}
 

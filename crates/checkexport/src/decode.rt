@@ -1,18 +1,18 @@
 // The check that 26 words tell, and whether they are one at all.
 ghost use mathlib.Core.Path.{_≡_};
 ghost use Rattle.reader.specs.Reader.{motionOf};
-ghost use Rattle.export.specs.Words.{headIn, workWordsIn, sameWords};
+ghost use Rattle.layout.specs.Words.{headIn, workWordsIn, sameWords};
 ghost use Rattle.checkexport.specs.Words.{stageOf, feedOf, readerOf, tallyOf, checkOf, progressIn, decodeOf};
 use crate::encode::Progress;
 use crate::encode::encode;
 use circle::plane::Turn;
-use export::decode::machine_of;
-use export::decode::work_of;
-use export::encode::Head;
-use export::encode::WorkWords;
-use export::number::count;
 use job::Check;
 use job::Stage;
+use layout::decode::machine_of;
+use layout::decode::work_of;
+use layout::encode::Head;
+use layout::encode::WorkWords;
+use layout::number::count;
 use listing::Tally;
 use machine::Machine;
 use reader::Feed;

@@ -1,16 +1,16 @@
 // A check as 26 words that a caller in C owns. `specs/Words.antt` says which word is what.
 ghost use mathlib.Core.Path.{_≡_};
 ghost use mathlib.Core.List.{_++_};
-ghost use Rattle.export.specs.Words.{wordsOf};
+ghost use Rattle.layout.specs.Words.{wordsOf};
 ghost use Rattle.checkexport.specs.Words.{stageWord, motionWord, feedWord, progressOf, progressWords, encodeOf};
-use export::encode::Head;
-use export::encode::WorkWords;
-use export::encode::head_words;
-use export::encode::turn_word;
-use export::encode::work_words;
-use export::number::word;
 use job::Check;
 use job::Stage;
+use layout::encode::Head;
+use layout::encode::WorkWords;
+use layout::encode::head_words;
+use layout::encode::turn_word;
+use layout::encode::work_words;
+use layout::number::word;
 use reader::Feed;
 use reader::Motion;
 

@@ -1,15 +1,15 @@
 // The check of a job for C, on 26 words that the caller owns: those of its machine, and how far it has come. `include/verdaizka.h` declares the calls.
 // Each answers for any words: those that are no check get 9 and stay as they are.
 ghost use mathlib.Core.Path.{_≡_};
-ghost use Rattle.export.specs.Words.{settingsOf};
+ghost use Rattle.layout.specs.Words.{settingsOf};
 ghost use Rattle.export.specs.Calls.{madeOf};
 ghost use Rattle.checkexport.specs.Calls.{startWords, TellsFill};
 use crate::decode::decode;
 use crate::encode::encode;
 use export::answer::make_number;
-use export::encode::mark_word;
-use export::given::settings;
 use job::Check;
+use layout::encode::mark_word;
+use layout::given::settings;
 use machine::Machine;
 
 mod decode;

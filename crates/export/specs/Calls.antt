@@ -19,8 +19,8 @@ use Rattle.machine.specs.Calls.{makeOf, loadOf, tickOf, holdOf, releaseOf, stop
 use Rattle.machine.specs.Run.{Run, runOf}
 use Rattle.export.specs.declared.call.Call.{Call}
 use Rattle.export.specs.declared.call.Told.{Told}
-use Rattle.export.specs.declared.decode.Decoded.{Decoded}
-use Rattle.export.specs.Words.{wordOf, countOf, encodeOf, decodeOf}
+use Rattle.layout.specs.declared.decode.Decoded.{Decoded}
+use Rattle.layout.specs.Words.{wordOf, countOf, encodeOf, decodeOf}
 
 -- ---- answers as numbers: a refusal is minus the number of the question
 

@@ -1,4 +1,3 @@
--- To be believed: Words, Calls. Proved of them: laws.
-pub mod Words
+-- To be believed: Calls. Proved of them: laws.
 pub mod Calls
 pub mod laws

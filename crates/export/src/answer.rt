@@ -1,7 +1,7 @@
 // The machine's answers as numbers: a refusal is minus the number of the question.
 ghost use mathlib.Core.Path.{_≡_};
 ghost use Rattle.export.specs.Calls.{refusalOf, answerNumber, tickNumber, reportNumber, makeNumber};
-use crate::number::word;
+use layout::number::word;
 use machine::Answer;
 use machine::Report;
 use machine::Tick;

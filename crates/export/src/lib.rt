@@ -3,27 +3,24 @@
 ghost use mathlib.Core.Path.{_≡_};
 ghost use Rattle.circle.specs.declared.plane.Turn.{Turn};
 ghost use Rattle.block.specs.declared.Path.{Path};
-ghost use Rattle.export.specs.Words.{settingsOf};
+ghost use Rattle.layout.specs.Words.{settingsOf};
 ghost use Rattle.export.specs.Calls.{tells, arcPath, blockOf, toldOf, madeOf, tellsRun, toldRunOf};
 use crate::answer::make_number;
 use crate::answer::report_number;
 use crate::call::Call;
 use crate::call::call_record;
-use crate::decode::decode;
-use crate::encode::encode;
 use crate::given::arc;
 use crate::given::block;
-use crate::given::settings;
 use block::Path;
 use circle::plane::Turn;
+use layout::decode::decode;
+use layout::encode::encode;
+use layout::given::settings;
 use machine::Machine;
 
 pub mod answer;
 mod call;
-pub mod decode;
-pub mod encode;
-pub mod given;
-pub mod number;
+mod given;
 
 // ---- tick, hold, release, stop
 

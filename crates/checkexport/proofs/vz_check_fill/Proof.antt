@@ -1,8 +1,8 @@
 -- `vz_check_fill` is right because it fills only where the words are a check.
 use borrow.Author.Needs.{needs}
 use mathlib.Core.Path.{ap, _∙_}
-use Rattle.export.specs.Words.{markWord}
-use Rattle.export.specs.laws.Number.{mark-fits, through}
+use Rattle.layout.specs.Words.{markWord}
+use Rattle.layout.specs.laws.Number.{mark-fits, through}
 use Rattle.job.specs.Check.{isOver}
 use Rattle.checkexport.specs.laws.Calls.{told-rows, told-refused}
 use Rattle.checkexport.proofs.vz_check_fill.Statement.{statement}

@@ -11,7 +11,7 @@ use Rattle.job.specs.declared.Stage.{Stage}
 use Rattle.job.specs.declared.Check.{Check}
 use Rattle.job.specs.Listing.{listingOf}
 use Rattle.job.specs.Check.{startOf, stageOver, restAt, restOf}
-use Rattle.export.specs.Words.{markWord}
+use Rattle.layout.specs.Words.{markWord}
 use Rattle.export.specs.Calls.{madeOf}
 use Rattle.checkexport.specs.declared.decode.Decoded.{Decoded}
 use Rattle.checkexport.specs.Words.{decodeOf}

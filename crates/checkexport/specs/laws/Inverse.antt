@@ -15,10 +15,10 @@ use Rattle.reader.specs.Reader.{motionOf}
 use Rattle.job.specs.declared.Stage.{Stage}
 use Rattle.job.specs.declared.Check.{Check}
 use Rattle.job.specs.Check.{FeedSmall, Reached}
-use Rattle.export.specs.declared.decode.Decoded.{Decoded}
-use Rattle.export.specs.Words.{countOf, machineIn, encodeOf as recordWords, decodeOf as recordIn}
-use Rattle.export.specs.laws.Record.{count-word, decode-encode as record-back}
-use Rattle.export.specs.laws.Same.{same-true, same-self}
+use Rattle.layout.specs.declared.decode.Decoded.{Decoded}
+use Rattle.layout.specs.Words.{countOf, machineIn, encodeOf as recordWords, decodeOf as recordIn}
+use Rattle.layout.specs.laws.Record.{count-word, decode-encode as record-back}
+use Rattle.layout.specs.laws.Same.{same-true, same-self}
 use Rattle.checkexport.specs.Words.{stageWord, motionWord, feedWord, progressOf, progressWords, stageOf, feedOf, encodeOf, checkIn, decodeOf}
 
 -- ---- from words to a check and back

@@ -12,7 +12,7 @@ use Rattle.whole.specs.Sign.{partOf}
 use Rattle.reader.specs.declared.Motion.{Motion}
 use Rattle.reader.specs.declared.Feed.{Feed}
 use Rattle.job.specs.declared.Stage.{Stage}
-use Rattle.export.specs.laws.Number.{turn-fits}
+use Rattle.layout.specs.laws.Number.{turn-fits}
 use Rattle.checkexport.specs.Words.{stageWord, motionWord, feedOf}
 
 pub stage-fits : (s : Stage) → SFits w64 (stageWord s)

@@ -12,7 +12,7 @@ use Rattle.finish.specs.laws.Record.{AtRest}
 use Rattle.job.specs.Check.{startOf, Lists}
 use Rattle.job.specs.laws.Listing.{fresh-rests, listing-is}
 use Rattle.job.specs.laws.Reached.{start-reached as rests-reached}
-use Rattle.export.specs.Words.{wordOf}
+use Rattle.layout.specs.Words.{wordOf}
 use Rattle.export.specs.Calls.{makeNumber, madeOf}
 use Rattle.checkexport.specs.declared.decode.Decoded.{Decoded}
 use Rattle.checkexport.specs.Words.{decodeOf}

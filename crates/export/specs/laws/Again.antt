@@ -12,10 +12,10 @@ use Rattle.machine.specs.Calls.{makeOf, loadOf, tickOf, holdOf, releaseOf, stop
 use Rattle.machine.specs.Run.{runOf}
 use Rattle.export.specs.declared.call.Call.{Call}
 use Rattle.export.specs.declared.call.Told.{Told}
-use Rattle.export.specs.declared.decode.Decoded.{Decoded}
-use Rattle.export.specs.Words.{encodeOf, decodeOf}
+use Rattle.layout.specs.declared.decode.Decoded.{Decoded}
+use Rattle.layout.specs.Words.{encodeOf, decodeOf}
 use Rattle.export.specs.Calls.{callOf, toldOf, madeOf, ToldRun, toldRunOf}
-use Rattle.export.specs.laws.Record.{decode-encode}
+use Rattle.layout.specs.laws.Record.{decode-encode}
 use Rattle.export.specs.laws.Calls.{told-call, told-run}
 use Rattle.keeps.specs.laws.Make.{make-keeps}
 use Rattle.keeps.specs.laws.Calls.{load-keeps, tick-keeps, run-keeps, hold-keeps, release-keeps, stop-keeps}

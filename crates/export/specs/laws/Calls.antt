@@ -9,8 +9,8 @@ use Rattle.run.specs.Run.{written}
 use Rattle.machine.specs.declared.Ran.{Ran}
 use Rattle.machine.specs.Run.{runOf}
 use Rattle.export.specs.declared.call.Call.{Call}
-use Rattle.export.specs.declared.decode.Decoded.{Decoded}
-use Rattle.export.specs.Words.{encodeOf, decodeOf}
+use Rattle.layout.specs.declared.decode.Decoded.{Decoded}
+use Rattle.layout.specs.Words.{encodeOf, decodeOf}
 use Rattle.export.specs.Calls.{reportNumber, callOf, refused, toldWith, toldOf, tellsRun, ran, runWith, toldRunOf}
 
 yes : {A : Type 0} (b : Bool) (x y : A) → b ≡ true → x ≡ cond b x y

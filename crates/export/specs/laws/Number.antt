@@ -1,46 +1,17 @@
--- Counts and words: what the code's tests give.
-use mathlib.Core.Path.{_≡_, refl, sym, ap, _∙_}
-use mathlib.Core.Bool.{Bool, true, false, cond, true≢false}
-use Prim.Native.Nat.{ℕ, zero, suc, _^_, _≤_, _<_}
+-- A refusal as a word.
+use mathlib.Core.Path.{_≡_, refl}
+use mathlib.Core.Bool.{Bool, true, false, cond}
+use Prim.Native.Nat.{ℕ, zero, suc, _^_, _<_}
 use native.Mathlib.Omega.{arith}
 use lib.Dec.{ltb}
 use lib.IntN.{ℤ, pos, negsuc, negℤ, _-ℤ_}
-use borrow.Author.Tests.{lt-ltb, le-ltb, ltb-true}
+use borrow.Author.Tests.{ltb-true}
 use mir.Syntax.{w64}
-use mir.Val.{SFits, toZ, ofZ}
-use mir.Facts.{sfits-lit, toZ-ofZ}
-use Rattle.whole.specs.declared.sign.SignMagnitude.{SignMagnitude}
-use Rattle.whole.specs.Sign.{partOf}
+use mir.Val.{SFits}
+use mir.Facts.{sfits-lit}
 use Rattle.whole.specs.laws.Difference.{ring, var, num, neg, _⊖_}
-use Rattle.circle.specs.declared.plane.Turn.{Turn}
-use Rattle.export.specs.Words.{countOf, wordOf, markWord, turnWord}
+use Rattle.layout.specs.Words.{wordOf}
 use Rattle.export.specs.Calls.{refusalOf}
-
-pub count-none : (z : ℤ) {p : SignMagnitude} → p ≡ partOf z → p .negative ≡ true → 0 ≡ countOf z
-count-none (pos n) e t = absurd (true≢false (sym t ∙ ap (λ (p : SignMagnitude). p .negative) e))
-count-none (negsuc n) e t = refl
-
-pub count-some : (z : ℤ) {p : SignMagnitude} → p ≡ partOf z → p .negative ≡ false → p .magnitude ≡ countOf z
-count-some (pos n) e t = ap (λ (p : SignMagnitude). p .magnitude) e
-count-some (negsuc n) e t = absurd (true≢false (sym (ap (λ (p : SignMagnitude). p .negative) e) ∙ t))
-
-pub word-small : {n : ℕ} → n < 2 ^ 63 → wordOf n ≡ pos n
-unfolding wordOf
-word-small {n} h = rw (lt-ltb n (2 ^ 63) h)
-
-pub word-large : {n : ℕ} → 2 ^ 63 ≤ n → wordOf n ≡ negsuc 0
-unfolding wordOf
-word-large {n} h = rw (le-ltb n (2 ^ 63) h)
-
--- ---- every word of a record is one of 64 bits
-
-pub word-fits : (n : ℕ) → SFits w64 (wordOf n)
-unfolding wordOf
-word-fits n = by (ltb n (2 ^ 63)) refl
-  where
-    by : (small : Bool) → ltb n (2 ^ 63) ≡ small → SFits w64 (cond small (pos n) (negsuc 0))
-    by true e = record { sfits = ltb-true n (2 ^ 63) e }
-    by false e = sfits-lit tt
 
 pub refusal-fits : (n : ℕ) → SFits w64 (refusalOf n)
 unfolding wordOf refusalOf
@@ -53,18 +24,6 @@ refusal-fits n = by (ltb n (2 ^ 63)) refl
     by : (small : Bool) → ltb n (2 ^ 63) ≡ small → SFits w64 (negℤ (cond small (pos n) (negsuc 0)))
     by true e = least n (ltb-true n (2 ^ 63) e)
     by false e = sfits-lit tt
-
-pub turn-fits : (t : Turn) → SFits w64 (turnWord t)
-turn-fits Turn.Clockwise = sfits-lit tt
-turn-fits Turn.Counterclockwise = sfits-lit tt
-
-pub mark-fits : (held : Bool) → SFits w64 (markWord held)
-mark-fits true = sfits-lit tt
-mark-fits false = sfits-lit tt
-
--- a number that the code reads back from its bits
-pub through : {x z : ℤ} → SFits w64 z → x ≡ z → toZ w64 (ofZ w64 x) ≡ z
-through f e = rw e (toZ-ofZ f)
 
 -- minus a number is 0 less the number
 pub minus : (z : ℤ) → pos 0 -ℤ z ≡ negℤ z

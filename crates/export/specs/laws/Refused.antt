@@ -12,9 +12,9 @@ use Rattle.machine.specs.Machine.{soundOf}
 use Rattle.machine.specs.Calls.{loadOf, tickOf, holdOf, releaseOf, stopOf}
 use Rattle.machine.specs.Run.{Run, noTick, runOf}
 use Rattle.export.specs.declared.call.Call.{Call}
-use Rattle.export.specs.Words.{wordOf, encodeOf, decodeOf}
+use Rattle.layout.specs.Words.{wordOf, encodeOf, decodeOf}
 use Rattle.export.specs.Calls.{refusalOf, tells, callOf, refused, toldOf, tellsRun, ran, toldRunOf}
-use Rattle.export.specs.laws.Record.{encode-decode}
+use Rattle.layout.specs.laws.Record.{encode-decode}
 use Rattle.export.specs.laws.Calls.{told-call, told-refused, told-run, told-no-run}
 
 unsound-call : (m : Machine) (call : Call) → soundOf m ≡ false → callOf m call ≡ tells (negsuc 8) (encodeOf m)

@@ -1,6 +1,6 @@
 -- `decode` is right because words are a check if they are those of the check that they tell.
 use borrow.Author.Needs.{needs}
-use Rattle.export.specs.Words.{machineIn}
+use Rattle.layout.specs.Words.{machineIn}
 use Rattle.checkexport.specs.Words.{checkIn, decodeOf}
 use Rattle.checkexport.proofs.decode.decode.Statement.{statement}
 use Rattle.checkexport.proofs.decode.decode.Tie as tie

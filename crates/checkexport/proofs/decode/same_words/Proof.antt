@@ -9,7 +9,7 @@ use lib.ListN.{length, take, getD}
 use mir.Syntax.{w64}
 use mir.Val.{SFits, ofZ}
 use Rattle.whole.specs.laws.Order.{bits-equal}
-use Rattle.export.specs.laws.Same.{same-words, other-words, next-same, all-same}
+use Rattle.layout.specs.laws.Same.{same-words, other-words, next-same, all-same}
 use Rattle.checkexport.proofs.decode.same_words.Statement.{statement}
 use Rattle.checkexport.proofs.decode.same_words.Tie as tie
 

@@ -1,6 +1,6 @@
 -- `encode` is right because it lays the machine's words and then how far the check has come.
 use borrow.Author.Needs.{needs}
-use Rattle.export.specs.Words.{encodeOf as recordWords}
+use Rattle.layout.specs.Words.{encodeOf as recordWords}
 use Rattle.checkexport.specs.Words.{encodeOf}
 use Rattle.checkexport.proofs.encode.encode.Statement.{statement}
 use Rattle.checkexport.proofs.encode.encode.Tie as tie

@@ -1,6 +1,6 @@
 -- `motion_word` is right by the cases; an arc's word is that of its turn.
 use borrow.Author.Needs.{needs}
-use Rattle.export.specs.laws.Number.{turn-fits, through}
+use Rattle.layout.specs.laws.Number.{turn-fits, through}
 use Rattle.checkexport.proofs.encode.motion_word.Statement.{statement}
 use Rattle.checkexport.proofs.encode.motion_word.Tie as tie
 

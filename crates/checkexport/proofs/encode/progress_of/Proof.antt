@@ -4,7 +4,7 @@ use mathlib.Core.Path.{_∙_}
 use mir.Syntax.{w64}
 use mir.Val.{SFits}
 use mir.Facts.{toZ-ofZ}
-use Rattle.export.specs.laws.Number.{word-fits, through}
+use Rattle.layout.specs.laws.Number.{word-fits, through}
 use Rattle.checkexport.specs.laws.Number.{stage-fits, motion-fits}
 use Rattle.checkexport.proofs.encode.progress_of.Statement.{statement}
 use Rattle.checkexport.proofs.encode.progress_of.Tie as tie

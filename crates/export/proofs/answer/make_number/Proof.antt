@@ -1,8 +1,8 @@
 -- `make_number` is right because each answer has its own number.
 use borrow.Author.Needs.{needs}
 use mathlib.Core.Path.{_∙_}
-use Rattle.export.specs.laws.Number.{word-fits}
-use Rattle.export.specs.laws.Number.{word-fits, through}
+use Rattle.layout.specs.laws.Number.{word-fits}
+use Rattle.layout.specs.laws.Number.{word-fits, through}
 use Rattle.export.proofs.answer.make_number.Statement.{statement}
 use Rattle.export.proofs.answer.make_number.Tie as tie
 

@@ -2,7 +2,8 @@
 use borrow.Author.Needs.{needs}
 use mir.Facts.{toZ-ofZ}
 use Rattle.export.specs.Calls.{refusalOf}
-use Rattle.export.specs.laws.Number.{word-fits, refusal-fits, minus}
+use Rattle.layout.specs.laws.Number.{word-fits}
+use Rattle.export.specs.laws.Number.{refusal-fits, minus}
 use Rattle.export.proofs.answer.refusal.Statement.{statement}
 use Rattle.export.proofs.answer.refusal.Tie as tie
 

@@ -2,7 +2,8 @@
 use borrow.Author.Needs.{needs}
 use mathlib.Core.Path.{_∙_}
 use Rattle.export.specs.laws.Number.{refusal-fits}
-use Rattle.export.specs.laws.Number.{refusal-fits, through}
+use Rattle.layout.specs.laws.Number.{through}
+use Rattle.export.specs.laws.Number.{refusal-fits}
 use Rattle.export.proofs.answer.report_number.Statement.{statement}
 use Rattle.export.proofs.answer.report_number.Tie as tie
 

@@ -1,0 +1,3 @@
+-- To be believed: Words. Proved of it: laws.
+pub mod Words
+pub mod laws

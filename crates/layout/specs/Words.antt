@@ -1,0 +1,153 @@
+-- The record as 18 words, signed numbers of 64 bits:
+-- p, w, the lower and the upper bound of X, those of Y, x, y, the mark, the remainder, and eight words for what is in work.
+use mathlib.Core.Bool.{Bool, true, false, cond, _&&_}
+use mathlib.Core.List.{List, [], _∷_}
+use Prim.Native.Nat.{ℕ, _^_}
+use lib.Dec.{eqb, ltb}
+use lib.ListN.{getD}
+use lib.IntN.{ℤ, pos, negsuc}
+use Rattle.whole.specs.Equal.{equalZ}
+use Rattle.circle.specs.declared.plane.Turn.{Turn}
+use Rattle.line.specs.declared.line.Line.{Line}
+use Rattle.arc.specs.declared.arc.Arc.{Arc}
+use Rattle.work.specs.declared.Work.{Work}
+use Rattle.settings.specs.declared.Settings.{Settings}
+use Rattle.machine.specs.declared.Machine.{Machine}
+use Rattle.layout.specs.declared.encode.Head.{Head}
+use Rattle.layout.specs.declared.encode.WorkWords.{WorkWords}
+use Rattle.layout.specs.declared.decode.Decoded.{Decoded}
+
+-- a count as a word; -1 where no word holds it, as in no sound record
+unfoldable pub wordOf : ℕ → ℤ
+wordOf n = cond (ltb n (2 ^ 63)) (pos n) (negsuc 0)
+
+-- ---- a machine as words
+
+abbrev pub markWord : (held : Bool) → ℤ
+markWord true = pos 1
+markWord false = pos 0
+
+abbrev pub turnWord : Turn → ℤ
+turnWord Turn.Clockwise = pos 2
+turnWord Turn.Counterclockwise = pos 3
+
+abbrev pub workWords : (kind a b c d e f g : ℤ) → WorkWords
+workWords k a b c d e f g = record { kind = k; a = a; b = b; c = c; d = d; e = e; f = f; g = g }
+
+-- what is in work: 0 nothing, 1 a line, 2 an arc clockwise, 3 an arc counterclockwise; then its numbers
+abbrev pub workWordsOf : Work → WorkWords
+workWordsOf Work.Nothing = workWords (pos 0) (pos 0) (pos 0) (pos 0) (pos 0) (pos 0) (pos 0) (pos 0)
+workWordsOf (Work.Line l) =
+    workWords (pos 1) (l .start .x) (l .start .y) (l .end .x) (l .end .y) (wordOf (l .feed)) (wordOf (l .cycles)) (wordOf (l .done))
+workWordsOf (Work.Arc a) =
+    workWords (turnWord (a .turn)) (a .centre .x) (a .centre .y) (wordOf (a .square)) (a .end .x) (a .end .y) (wordOf (a .feed)) (pos 0)
+
+abbrev pub headOf : Machine → Head
+headOf m =
+    record {
+      p = wordOf (m .settings .scale);
+      w = wordOf (m .settings .clock);
+      xlo = m .settings .travel .x .lower;
+      xhi = m .settings .travel .x .upper;
+      ylo = m .settings .travel .y .lower;
+      yhi = m .settings .travel .y .upper;
+      x = m .at .x;
+      y = m .at .y;
+      mark = markWord (m .held);
+      remainder = wordOf (m .remainder);
+    }
+
+-- the order of the words
+abbrev pub wordsOf : Head → WorkWords → List ℤ
+wordsOf h w =
+    h .p ∷ h .w ∷ h .xlo ∷ h .xhi ∷ h .ylo ∷ h .yhi ∷ h .x ∷ h .y ∷ h .mark ∷ h .remainder
+    ∷ w .kind ∷ w .a ∷ w .b ∷ w .c ∷ w .d ∷ w .e ∷ w .f ∷ w .g ∷ []
+
+unfoldable pub encodeOf : Machine → List ℤ
+encodeOf m = wordsOf (headOf m) (workWordsOf (m .work))
+
+-- ---- and back: what the words tell, whatever they are
+
+-- a negative word tells no count
+abbrev pub countOf : ℤ → ℕ
+countOf (pos n) = n
+countOf (negsuc n) = 0
+
+abbrev pub lineOf : WorkWords → Line
+lineOf w =
+    record {
+      start = record { x = w .a; y = w .b };
+      end = record { x = w .c; y = w .d };
+      feed = countOf (w .e);
+      cycles = countOf (w .f);
+      done = countOf (w .g);
+    }
+
+abbrev pub arcOf : Turn → WorkWords → Arc
+arcOf t w =
+    record {
+      centre = record { x = w .a; y = w .b };
+      square = countOf (w .c);
+      turn = t;
+      end = record { x = w .d; y = w .e };
+      feed = countOf (w .f);
+    }
+
+unfoldable pub workOf : WorkWords → Work
+workOf w =
+    cond (eqb (countOf (w .kind)) 1) (Work.Line (lineOf w))
+    (cond (eqb (countOf (w .kind)) 2) (Work.Arc (arcOf Turn.Clockwise w))
+    (cond (eqb (countOf (w .kind)) 3) (Work.Arc (arcOf Turn.Counterclockwise w)) Work.Nothing))
+
+abbrev pub settingsOf : (p w xlo xhi ylo yhi : ℤ) → Settings
+settingsOf p w xlo xhi ylo yhi =
+    record { scale = countOf p; clock = countOf w; travel = record { x = record { lower = xlo; upper = xhi }; y = record { lower = ylo; upper = yhi } } }
+
+abbrev pub settingsIn : Head → Settings
+settingsIn h = settingsOf (h .p) (h .w) (h .xlo) (h .xhi) (h .ylo) (h .yhi)
+
+abbrev pub machineOf : Head → Work → Machine
+machineOf h work =
+    record {
+      settings = settingsIn h;
+      at = record { x = h .x; y = h .y };
+      held = eqb (countOf (h .mark)) 1;
+      remainder = countOf (h .remainder);
+      work = work;
+    }
+
+abbrev pub at : List ℤ → ℕ → ℤ
+at ws i = getD ws i (pos 0)
+
+abbrev pub headIn : List ℤ → Head
+headIn ws =
+    record {
+      p = at ws 0;
+      w = at ws 1;
+      xlo = at ws 2;
+      xhi = at ws 3;
+      ylo = at ws 4;
+      yhi = at ws 5;
+      x = at ws 6;
+      y = at ws 7;
+      mark = at ws 8;
+      remainder = at ws 9;
+    }
+
+abbrev pub workWordsIn : List ℤ → WorkWords
+workWordsIn ws = workWords (at ws 10) (at ws 11) (at ws 12) (at ws 13) (at ws 14) (at ws 15) (at ws 16) (at ws 17)
+
+-- the machine that the words tell, if they are a record at all
+unfoldable pub machineIn : List ℤ → Machine
+machineIn ws = machineOf (headIn ws) (workOf (workWordsIn ws))
+
+unfoldable pub sameWords : List ℤ → List ℤ → Bool
+sameWords [] [] = true
+sameWords [] (w ∷ ws) = false
+sameWords (v ∷ vs) [] = false
+sameWords (v ∷ vs) (w ∷ ws) = equalZ v w && sameWords vs ws
+
+-- Words are a record if they are those of the machine that they tell. So a mark that is neither 0 nor 1, a kind above 3,
+-- an unused word that is not 0 and a negative count make no record.
+unfoldable pub decodeOf : List ℤ → Decoded
+decodeOf ws = record { ok = sameWords ws (encodeOf (machineIn ws)); machine = machineIn ws }

@@ -1,0 +1,98 @@
+-- Words and machines, exactly: words that are a record are those of their machine, and a sound machine's words are a record of it.
+use mathlib.Core.Path.{_≡_, refl, sym}
+use mathlib.Core.Bool.{Bool, true, false}
+use mathlib.Core.List.{List}
+use Prim.Native.Nat.{ℕ, _^_, _≤_, _<_}
+use native.Mathlib.Omega.{arith}
+use lib.Dec.{eqb}
+use lib.IntN.{ℤ, pos}
+use Rattle.plane.specs.declared.point.Point.{Point}
+use Rattle.plane.specs.declared.travel.Travel.{Travel}
+use Rattle.circle.specs.declared.plane.Turn.{Turn}
+use Rattle.circle.specs.laws.Circle.{on-circle-to}
+use Rattle.line.specs.declared.line.Line.{Line}
+use Rattle.line.specs.laws.Cycles.{cycles-bound}
+use Rattle.arc.specs.declared.arc.Arc.{Arc}
+use Rattle.work.specs.declared.Work.{Work}
+use Rattle.work.specs.Work.{workSound}
+use Rattle.work.specs.laws.Sound.{line-work, arc-work}
+use Rattle.machine.specs.declared.Machine.{Machine}
+use Rattle.machine.specs.Machine.{soundOf}
+use Rattle.settings.specs.laws.Right.{settings-right}
+use Rattle.machine.specs.laws.Sound.{sound}
+use Rattle.layout.specs.Words.{wordOf, countOf, markWord, turnWord, workWords, workWordsOf, workOf, encodeOf, machineIn, decodeOf}
+use Rattle.layout.specs.laws.Number.{word-small}
+use Rattle.layout.specs.laws.Same.{same-true, same-self}
+
+-- ---- from words to a machine and back
+
+pub encode-decode : (ws : List ℤ) → decodeOf ws .ok ≡ true → encodeOf (decodeOf ws .machine) ≡ ws
+unfolding decodeOf
+encode-decode ws ok = sym (same-true ws (encodeOf (machineIn ws)) ok)
+
+-- ---- from a machine to words and back
+
+-- the counts of what is in work are words
+record LineSmall (l : Line) : Type 0 where
+  feed : l .feed < 2 ^ 63
+  cycles : l .cycles < 2 ^ 63
+  done : l .done < 2 ^ 63
+
+record ArcSmall (a : Arc) : Type 0 where
+  square : a .square < 2 ^ 63
+  feed : a .feed < 2 ^ 63
+
+abbrev Small : Work → Type 0
+Small Work.Nothing = Unit {0}
+Small (Work.Line l) = LineSmall l
+Small (Work.Arc a) = ArcSmall a
+
+pub count-word : {n : ℕ} → n < 2 ^ 63 → countOf (wordOf n) ≡ n
+count-word h = rw (word-small h)
+
+mark-back : (held : Bool) → eqb (countOf (markWord held)) 1 ≡ held
+mark-back true = refl
+mark-back false = refl
+
+arc-back :
+    (a : Arc)
+    → ArcSmall a
+    → (t : Turn)
+    → workOf (workWords (turnWord t) (a .centre .x) (a .centre .y) (wordOf (a .square)) (a .end .x) (a .end .y) (wordOf (a .feed)) (pos 0))
+    ≡ Work.Arc (record { centre = a .centre; square = a .square; turn = t; end = a .end; feed = a .feed })
+unfolding workOf
+arc-back a s Turn.Clockwise = rw (count-word (s .square), count-word (s .feed))
+arc-back a s Turn.Counterclockwise = rw (count-word (s .square), count-word (s .feed))
+
+work-back : (w : Work) → Small w → workOf (workWordsOf w) ≡ w
+unfolding workOf
+work-back Work.Nothing s = refl
+work-back (Work.Line l) s = rw (count-word (s .feed), count-word (s .cycles), count-word (s .done))
+work-back (Work.Arc a) s = arc-back a s (a .turn)
+
+small : {q0 : ℕ} (t : Travel) (at : Point) (w : Work) → q0 ≤ 1200000 → workSound q0 t at w ≡ true → Small w
+unfolding workSound
+small t at Work.Nothing most e = tt
+small t at (Work.Line l) most e =
+    let i = line-work {t = t} {at = at} e in
+    let d = i .line .drawing in
+    let k : l .cycles ≤ 2828428 = omega (arith, d .own, cycles-bound (l .start) (l .end) (d .short-x) (d .short-y)) in
+    record { feed = omega (arith, i .feed .most); cycles = omega arith; done = omega (arith, d .due) }
+small t at (Work.Arc a) most e =
+    let i = arc-work {t = t} {at = at} e in
+    record { square = omega (arith, on-circle-to _ _ (i .arc .on) .bound); feed = omega (arith, i .feed .most) }
+
+machine-back : (m : Machine) → soundOf m ≡ true → machineIn (encodeOf m) ≡ m
+unfolding machineIn encodeOf
+machine-back m e =
+    let s = sound e in
+    let r = settings-right (m .settings) (s .settings) in
+    let w = small (m .settings .travel) (m .at) (m .work) (omega (arith, r .clock-most)) (s .work) in
+    let scale : m .settings .scale < 2 ^ 63 = omega (arith, r .scale-most) in
+    let clock : m .settings .clock < 2 ^ 63 = omega (arith, r .clock-most) in
+    let remainder : m .remainder < 2 ^ 63 = omega (arith, s .below, r .clock-most) in
+    rw (count-word scale, count-word clock, mark-back (m .held), count-word remainder, work-back (m .work) w)
+
+pub decode-encode : (m : Machine) → soundOf m ≡ true → decodeOf (encodeOf m) ≡ record { ok = true; machine = m }
+unfolding decodeOf
+decode-encode m e = rw (machine-back m e, same-self (encodeOf m))

@@ -1,0 +1,5 @@
+// The record as 18 words of 64 bits that a caller in C owns, and back.
+pub mod decode;
+pub mod encode;
+pub mod given;
+pub mod number;
