@@ -1,14 +1,12 @@
 // A count as a word of the record, and a word as a count.
 ghost use mathlib.Core.Path.{_≡_};
 ghost use Rattle.layout.specs.Words.{countOf, wordOf};
-use whole::sign::part;
 
 // A negative word is no count: 0, which every place that takes a count refuses or writes back otherwise.
 pub fn count(word: i64) -> u64
     ensures { λ r. ⌜ r ≡ countOf word ⌝ }
 {
-    let p = part(word);
-    if p.negative { 0 } else { p.magnitude }
+    if word < 0 { 0 } else { word as u64 }
 }
 
 // A count that no i64 holds stands in no sound record: -1, which is read as no count.

@@ -1,25 +1,25 @@
 -- Counts and words: what the code's tests give.
-use mathlib.Core.Path.{_≡_, refl, sym, ap, _∙_}
-use mathlib.Core.Bool.{Bool, true, false, cond, true≢false}
+use mathlib.Core.Path.{_≡_, refl}
+use mathlib.Core.Bool.{Bool, true, false, cond}
 use Prim.Native.Nat.{ℕ, _^_, _≤_, _<_}
+use native.Mathlib.Omega.{arith}
 use lib.Dec.{ltb}
-use lib.IntN.{ℤ, pos, negsuc}
+use Rattle.whole.specs.laws.Order.{_≼_, _≺_}
+use lib.IntN.{natAbs, ℤ, pos, negsuc}
 use borrow.Author.Tests.{lt-ltb, le-ltb, ltb-true}
 use mir.Syntax.{w64}
 use mir.Val.{SFits, toZ, ofZ}
 use mir.Facts.{sfits-lit, toZ-ofZ}
-use Rattle.whole.specs.declared.sign.SignMagnitude.{SignMagnitude}
-use Rattle.whole.specs.Sign.{partOf}
 use Rattle.circle.specs.declared.plane.Turn.{Turn}
 use Rattle.layout.specs.Words.{countOf, wordOf, markWord, turnWord}
 
-pub count-none : (z : ℤ) {p : SignMagnitude} → p ≡ partOf z → p .negative ≡ true → 0 ≡ countOf z
-count-none (pos n) e t = absurd (true≢false (sym t ∙ ap (λ (p : SignMagnitude). p .negative) e))
-count-none (negsuc n) e t = refl
+pub count-none : (z : ℤ) → z ≺ pos 0 → 0 ≡ countOf z
+count-none (pos n) h = absurd (omega arith)
+count-none (negsuc n) h = refl
 
-pub count-some : (z : ℤ) {p : SignMagnitude} → p ≡ partOf z → p .negative ≡ false → p .magnitude ≡ countOf z
-count-some (pos n) e t = ap (λ (p : SignMagnitude). p .magnitude) e
-count-some (negsuc n) e t = absurd (true≢false (sym (ap (λ (p : SignMagnitude). p .negative) e) ∙ t))
+pub count-some : (z : ℤ) → pos 0 ≼ z → natAbs z ≡ countOf z
+count-some (pos n) h = refl
+count-some (negsuc n) h = absurd (omega arith)
 
 pub word-small : {n : ℕ} → n < 2 ^ 63 → wordOf n ≡ pos n
 unfolding wordOf

@@ -1,18 +1,22 @@
 -- `count` is right because a number that is not negative is its magnitude.
-use borrow.Author.Needs.{needs}
-use mir.Facts.{toZ-ofZ}
+use lib.IntN.{pos}
+use mir.Facts.{toZ-ofZ, sfits-lit}
+use Rattle.whole.specs.laws.Order.{_≼_, test-lt, test-not-lt, to-unsigned}
 use Rattle.layout.specs.laws.Number.{count-none, count-some}
 use Rattle.layout.proofs.number.count.Statement.{statement}
 use Rattle.layout.proofs.number.count.Tie as tie
 
-part-requires : tie.Need-part-requires
-part-requires c κs = search needs
+not-below : (c : tie.Else1) → pos 0 ≼ c .before .args .word
+not-below c = test-not-lt (c .before .args .word) (pos 0) (c .before .fits .word) (sfits-lit tt) (c .if1 .left)
+
+cast-result : tie.Need-cast-result
+cast-result c = let f = c .before .fits .word in simp toZ-ofZ (to-unsigned _ (not-below c) f)
 
 returns : tie.Need-returns
-returns c = let s = c .before .before in let f = s .fits .word in count-none (s .args .word) (simp toZ-ofZ at (c .before .part .ensures)) (c .if1 .taken)
+returns c = count-none (c .before .args .word) (test-lt (c .before .args .word) (pos 0) (c .before .fits .word) (sfits-lit tt) (c .if1 .taken))
 
 returns-2 : tie.Need-returns-2
-returns-2 c = let s = c .before .before in let f = s .fits .word in count-some (s .args .word) (simp toZ-ofZ at (c .before .part .ensures)) (c .if1 .left)
+returns-2 c = let f = c .before .fits .word in simp toZ-ofZ (count-some (c .before .args .word) (not-below c))
 
 pub count-spec : {M : Type 1} → statement M
-count-spec = tie.close (tie.spec part-requires returns returns-2)
+count-spec = tie.close (tie.spec cast-result returns returns-2)
