@@ -1,6 +1,8 @@
 // The letters that words begin with.
 ghost use mathlib.Core.Path.{_≡_};
-ghost use Rattle.letters.specs.Letter.{takesSign, takesPoint, unitOf};
+ghost use Prim.Native.Nat.{_<_};
+ghost use Rattle.letters.specs.Letter.{takesSign, takesPoint};
+ghost use Rattle.letters.specs.laws.Scan.{placeOf};
 
 pub enum Letter {
     N,
@@ -40,9 +42,18 @@ pub fn takes_point(l: Letter) -> bool
     }
 }
 
-// What a one before the point counts: thousandths where a point may follow.
-pub fn unit(l: Letter) -> u64
-    ensures { λ r. ⌜ r ≡ unitOf l ⌝ }
+// Its place in the order of the letters above.
+pub fn place(l: Letter) -> usize
+    ensures { λ r. ⌜ r ≡ placeOf l ⌝ }
+    ensures { λ r. ⌜ r < 7 ⌝ }
 {
-    if takes_point(l) { 1000 } else { 1 }
+    match l {
+        Letter::N => 0,
+        Letter::G => 1,
+        Letter::F => 2,
+        Letter::X => 3,
+        Letter::Y => 4,
+        Letter::I => 5,
+        Letter::J => 6,
+    }
 }

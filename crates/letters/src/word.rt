@@ -1,9 +1,8 @@
 // What a line says of each letter.
-use crate::letter::Letter;
 ghost use mathlib.Core.Path.{_≡_};
 ghost use mathlib.Core.Bool.{_||_};
-ghost use Rattle.letters.specs.Word.{onceOf};
-ghost use Rattle.letters.specs.laws.Scan.{moreOf, putOf, noWords};
+ghost use Rattle.letters.specs.Word.{missingWord, onceOf};
+ghost use Rattle.letters.specs.laws.Scan.{moreOf, noWords, wordsIn};
 
 // A letter's word. The magnitude is in thousandths for a letter that takes a point (below 10^10), else a plain number (below 10^7).
 // A letter that does not stand, or stands twice, has no value: plus 0.
@@ -24,15 +23,44 @@ pub struct Words {
     pub j: Word,
 }
 
-pub fn none() -> Words
-    ensures { λ r. ⌜ r ≡ noWords ⌝ }
+// What is said of a letter that does not stand.
+pub fn missing() -> Word
+    ensures { λ r. ⌜ r ≡ missingWord ⌝ }
 {
-    let w = Word {
+    Word {
         stands: false,
         twice: false,
         negative: false,
         magnitude: 0,
-    };
+    }
+}
+
+// The words of a list that has them in the letters' order.
+pub fn all(list: [Word; 7]) -> Words
+    ensures { λ r. ⌜ r ≡ wordsIn list ⌝ }
+{
+    let n = list[0];
+    let g = list[1];
+    let f = list[2];
+    let x = list[3];
+    let y = list[4];
+    let i = list[5];
+    let j = list[6];
+    Words {
+        n: n,
+        g: g,
+        f: f,
+        x: x,
+        y: y,
+        i: i,
+        j: j,
+    }
+}
+
+pub fn none() -> Words
+    ensures { λ r. ⌜ r ≡ noWords ⌝ }
+{
+    let w = missing();
     Words {
         n: w,
         g: w,
@@ -45,7 +73,7 @@ pub fn none() -> Words
 }
 
 // What a letter says after one word more of it.
-fn more(old: Word, new: Word) -> Word
+pub fn more(old: Word, new: Word) -> Word
     ensures { λ r. ⌜ r ≡ moreOf old new ⌝ }
 {
     if old.stands {
@@ -57,43 +85,6 @@ fn more(old: Word, new: Word) -> Word
         };
     }
     new
-}
-
-pub fn put(ws: Words, l: Letter, new: Word) -> Words
-    ensures { λ r. ⌜ r ≡ putOf ws l new ⌝ }
-{
-    let mut next = ws;
-    match l {
-        Letter::N => {
-            let old = ws.n;
-            next.n = more(old, new);
-        }
-        Letter::G => {
-            let old = ws.g;
-            next.g = more(old, new);
-        }
-        Letter::F => {
-            let old = ws.f;
-            next.f = more(old, new);
-        }
-        Letter::X => {
-            let old = ws.x;
-            next.x = more(old, new);
-        }
-        Letter::Y => {
-            let old = ws.y;
-            next.y = more(old, new);
-        }
-        Letter::I => {
-            let old = ws.i;
-            next.i = more(old, new);
-        }
-        Letter::J => {
-            let old = ws.j;
-            next.j = more(old, new);
-        }
-    }
-    next
 }
 
 fn either(a: bool, b: bool) -> bool

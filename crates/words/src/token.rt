@@ -1,39 +1,39 @@
 // A word that is being read.
-use crate::digits;
-use crate::digits::Digits;
 use letters::letter;
 use letters::letter::Letter;
 use letters::word::Word;
 ghost use mathlib.Core.Path.{_≡_};
-ghost use Prim.Native.Nat.{_-_, _^_, _≤_, _<_};
-ghost use Rattle.words.specs.laws.Scan.{Sized, newToken, signedToken, wholeToken, decimalToken, tokenWord};
+ghost use Prim.Native.Nat.{_+_, _-_, _*_, _^_, _≤_, _<_};
+ghost use Rattle.words.specs.laws.Scan.{Sized, newToken, wholeToken, decimalToken, scaleOf, tokenWord};
 
-// `whole` and `decimals` are the digits before and after the point so far.
+// `whole` and `decimals` count the digits before and after the point so far, 7 and 3 at most; `value` is the number that they all write.
 pub struct Token {
     pub letter: Letter,
     pub negative: bool,
-    pub whole: Digits,
-    pub decimals: Digits,
+    pub whole: u64,
+    pub decimals: u64,
+    pub value: u64,
 }
 
-pub fn new(l: Letter) -> Token
-    ensures { λ r. ⌜ r ≡ newToken l ⌝ }
+pub fn new(l: Letter, negative: bool) -> Token
+    ensures { λ r. ⌜ r ≡ newToken l negative ⌝ }
 {
-    let none = digits::none();
     Token {
         letter: l,
-        negative: false,
-        whole: none,
-        decimals: none,
+        negative: negative,
+        whole: 0,
+        decimals: 0,
+        value: 0,
     }
 }
 
-pub fn signed(t: Token, negative: bool) -> Token
-    ensures { λ r. ⌜ r ≡ signedToken t negative ⌝ }
+// One digit more. With 10 digits at most, the value stays far below 2^64.
+fn push(value: u64, d: u64) -> u64
+    requires { ⌜ value < 10_000_000_000 ⌝ }
+    requires { ⌜ d < 10 ⌝ }
+    ensures { λ r. ⌜ r ≡ value * 10 + d ⌝ }
 {
-    let mut next = t;
-    next.negative = negative;
-    next
+    value * 10 + d
 }
 
 pub fn push_whole(t: Token, d: u64) -> Token
@@ -41,10 +41,9 @@ pub fn push_whole(t: Token, d: u64) -> Token
     requires { ⌜ d < 10 ⌝ }
     ensures { λ r. ⌜ r ≡ wholeToken t d ⌝ }
 {
-    let whole = t.whole;
-    let more = digits::push(whole, d);
     let mut next = t;
-    next.whole = more;
+    next.whole = t.whole + 1;
+    next.value = push(t.value, d);
     next
 }
 
@@ -53,10 +52,9 @@ pub fn push_decimal(t: Token, d: u64) -> Token
     requires { ⌜ d < 10 ⌝ }
     ensures { λ r. ⌜ r ≡ decimalToken t d ⌝ }
 {
-    let decimals = t.decimals;
-    let more = digits::push(decimals, d);
     let mut next = t;
-    next.decimals = more;
+    next.decimals = t.decimals + 1;
+    next.value = push(t.value, d);
     next
 }
 
@@ -73,15 +71,25 @@ fn place(count: u64) -> u64
     }
 }
 
+// What the last digit counts: thousandths where a point may stand.
+fn scale(l: Letter, decimals: u64) -> u64
+    requires { ⌜ decimals ≤ 3 ⌝ }
+    ensures { λ r. ⌜ r ≡ scaleOf l decimals ⌝ }
+{
+    if letter::takes_point(l) {
+        place(decimals)
+    } else {
+        1
+    }
+}
+
 // What the token says once it has ended.
 pub fn word(t: Token) -> Word
     requires { ⌜ Sized t ⌝ }
     ensures { λ r. ⌜ r ≡ tokenWord t ⌝ }
 {
     let l = t.letter;
-    let whole = t.whole.value * letter::unit(l);
-    let decimals = t.decimals.value * place(t.decimals.count);
-    let magnitude = whole + decimals;
+    let magnitude = t.value * scale(l, t.decimals);
     Word {
         stands: true,
         twice: false,

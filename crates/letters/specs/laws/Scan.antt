@@ -3,7 +3,9 @@ use Prim.Native.Nat.{ℕ, _-_, _<_}
 use mathlib.Core.List.{List, [], _∷_}
 use mathlib.Core.Bool.{true, false, cond}
 use lib.Dec.{ltb, leb, eqb}
+use lib.ListN.{getD}
 use Rattle.letters.specs.declared.letter.Letter.{Letter}
+use Rattle.letters.specs.declared.letter.Letter.the-variants.{N, G, F, X, Y, I, J}
 use Rattle.letters.specs.declared.byte.Class.{Class}
 use Rattle.letters.specs.declared.byte.Class.the-variants.{Blank, Name, Sign, Point, Digit, Other}
 use Rattle.letters.specs.declared.word.Word.{Word}
@@ -59,3 +61,20 @@ moreOf old new = cond (old .stands) twiceWord new
 
 abbrev pub putOf : Words → Letter → Word → Words
 putOf ws l new = wordsBy (λ k. cond (same k l) (moreOf (wordAt ws k) new) (wordAt ws k))
+
+-- ---- the same in a list
+
+abbrev pub placeOf : Letter → ℕ
+placeOf N = 0
+placeOf G = 1
+placeOf F = 2
+placeOf X = 3
+placeOf Y = 4
+placeOf I = 5
+placeOf J = 6
+
+abbrev pub wordsIn : List Word → Words
+wordsIn ws = wordsBy (λ l. getD ws (placeOf l) missingWord)
+
+abbrev pub listOf : Words → List Word
+listOf ws = ws .n ∷ ws .g ∷ ws .f ∷ ws .x ∷ ws .y ∷ ws .i ∷ ws .j ∷ []

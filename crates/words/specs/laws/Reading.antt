@@ -16,7 +16,7 @@ use Rattle.words.specs.Grammar.{Sign, Item, blank, word, lineText, Right
 use Rattle.letters.specs.Word.{missingWord, oneWord, wordAt, anyTwice, onceOf}
 use Rattle.words.specs.Meaning.{magnitudeOf, isMinus, Value, missing, one, twice, andThen, says, wordOf, answerOf, saidBy, notWords, Means}
 use Rattle.letters.specs.laws.Scan.{classOf}
-use Rattle.words.specs.laws.Scan.{stepOf, startScan, isBetween, closeOf, runOf, lineOf}
+use Rattle.words.specs.laws.Scan.{Scan, isBetween, closeOf, lastOf, lineOf}
 use Rattle.letters.specs.laws.Byte.{class-letter}
 use Rattle.words.specs.laws.Digits.{magnitude-below}
 use Rattle.words.specs.laws.Sound.{sound}
@@ -35,12 +35,12 @@ closed-no false ws h = refl
 
 items-said : (is : List Item) → RightLine is → lineOf (lineText is) ≡ saidBy is
 unfolding lineOf
-items-said is r = ap closeOf (complete is r) ∙ ap (answerOf true) (gathered is)
+items-said is r = ap (λ (st : Scan). closeOf (st .part) (st .words)) (complete is r) ∙ ap (answerOf true) (gathered is)
 
 pub line-means : (s : List ℕ) → Means s (lineOf s)
 unfolding lineOf
 line-means s =
-    let st = stepOf (runOf startScan s) 32 in
+    let st = lastOf s in
     record {
       formed = λ h. sound s (closed-yes (isBetween (st .part)) (st .words) h);
       said = λ w. rw (← w .text) (items-said (w .items) (w .right));

@@ -1,108 +1,120 @@
 -- The scan that the code is: one step a byte. Nothing here is to be believed: `Reading` proves that its answer is what `Meaning` asks.
 use Prim.Native.Nat.{ℕ, _+_, _-_, _*_, _^_, _≤_, _<_}
-use mathlib.Core.List.{List, [], _∷_}
+use mathlib.Core.List.{List, [], _∷_, _++_}
 use mathlib.Core.Bool.{Bool, true, false, cond}
 use lib.Dec.{ltb, leb}
 use Rattle.letters.specs.declared.letter.Letter.{Letter}
 use Rattle.letters.specs.declared.byte.Class.{Class}
 use Rattle.letters.specs.declared.byte.Class.the-variants.{Blank, Name, Sign, Point, Digit, Other}
 use Rattle.letters.specs.laws.Scan.{classOf, noWords, putOf}
-use Rattle.words.specs.declared.digits.Digits.{Digits}
 use Rattle.words.specs.declared.token.Token.{Token}
 use Rattle.letters.specs.declared.word.Word.{Word}
 use Rattle.letters.specs.declared.word.Words.{Words}
-use Rattle.words.specs.declared.line.Part.{Part}
-use Rattle.words.specs.declared.line.Part.the-variants.{Between, Begun, Whole, Decimals, Bad}
-use Rattle.words.specs.declared.line.Scan.{Scan}
+use Rattle.words.specs.declared.part.Part.{Part}
+use Rattle.words.specs.declared.part.Part.the-variants.{Between, Begun, Whole, Decimals, Bad}
+use Rattle.words.specs.declared.part.Ended.{Ended}
+use Rattle.words.specs.declared.part.Ended.the-variants.{Nothing, Word as WordEnded}
 use Rattle.words.specs.declared.line.Line.{Line}
-use Rattle.letters.specs.Letter.{takesSign, takesPoint, unitOf}
+use Rattle.letters.specs.Letter.{takesSign, takesPoint}
 use Rattle.letters.specs.Word.{oneWord}
 use Rattle.words.specs.Meaning.{answerOf, notWords}
 
 -- ---- the word that is being read
 
-abbrev pub noDigits : Digits
-noDigits = record { count = 0; value = 0 }
-
-abbrev pub pushOf : Digits → ℕ → Digits
-pushOf ds d = record { count = ds .count + 1; value = ds .value * 10 + d }
-
-abbrev pub newToken : Letter → Token
-newToken l = record { letter = l; negative = false; whole = noDigits; decimals = noDigits }
-
-abbrev pub signedToken : Token → Bool → Token
-signedToken t n = record { letter = t .letter; negative = n; whole = t .whole; decimals = t .decimals }
+abbrev pub newToken : Letter → (negative : Bool) → Token
+newToken l n = record { letter = l; negative = n; whole = 0; decimals = 0; value = 0 }
 
 abbrev pub wholeToken : Token → ℕ → Token
-wholeToken t d = record { letter = t .letter; negative = t .negative; whole = pushOf (t .whole) d; decimals = t .decimals }
+wholeToken t d = record { letter = t .letter; negative = t .negative; whole = t .whole + 1; decimals = t .decimals; value = t .value * 10 + d }
 
 abbrev pub decimalToken : Token → ℕ → Token
-decimalToken t d = record { letter = t .letter; negative = t .negative; whole = t .whole; decimals = pushOf (t .decimals) d }
+decimalToken t d = record { letter = t .letter; negative = t .negative; whole = t .whole; decimals = t .decimals + 1; value = t .value * 10 + d }
+
+-- what the last digit counts: thousandths where a point may stand
+abbrev pub scaleOf : Letter → (decimals : ℕ) → ℕ
+scaleOf l k = cond (takesPoint l) (10 ^ (3 - k)) 1
 
 abbrev pub tokenWord : Token → Word
-tokenWord t = oneWord (t .negative) (t .whole .value * unitOf (t .letter) + t .decimals .value * 10 ^ (3 - t .decimals .count))
+tokenWord t = oneWord (t .negative) (t .value * scaleOf (t .letter) (t .decimals))
 
--- ---- a step in each part of a word
-
-abbrev pub at : Part → Words → Scan
-at p ws = record { part = p; words = ws }
+-- ---- the next part of a word
 
 abbrev pub betweenOf : Class → Part
 betweenOf Blank = Between
-betweenOf (Name l) = Begun (newToken l)
+betweenOf (Name l) = Begun l
 betweenOf (Sign n) = Bad
 betweenOf Point = Bad
 betweenOf (Digit d) = Bad
 betweenOf Other = Bad
 
--- a byte that does not belong to the word t; `some` says whether t has the digits that it needs
-abbrev pub endedOf : (some : Bool) → Words → Token → Class → Scan
-endedOf some ws t c = cond some (at (betweenOf c) (putOf ws (t .letter) (tokenWord t))) (at Bad ws)
+abbrev pub onlyIf : (right : Bool) → Part → Part
+onlyIf right p = cond right p Bad
 
-abbrev pub afterSign : Token → Bool → Part
-afterSign t n = cond (takesSign (t .letter)) (Whole (signedToken t n)) Bad
+-- a byte that does not belong to a word ends it, if the word has the digits that it needs
+abbrev pub wholeOf : Token → Class → Part
+wholeOf t (Digit d) = onlyIf (ltb (t .whole) 7) (Whole (wholeToken t d))
+wholeOf t Point = onlyIf (takesPoint (t .letter)) (onlyIf (leb 1 (t .whole)) (Decimals t))
+wholeOf t Blank = onlyIf (leb 1 (t .whole)) (betweenOf Blank)
+wholeOf t (Name l) = onlyIf (leb 1 (t .whole)) (betweenOf (Name l))
+wholeOf t (Sign n) = onlyIf (leb 1 (t .whole)) (betweenOf (Sign n))
+wholeOf t Other = onlyIf (leb 1 (t .whole)) (betweenOf Other)
 
-abbrev pub afterDigit : Token → ℕ → Part
-afterDigit t d = cond (ltb (t .whole .count) 7) (Whole (wholeToken t d)) Bad
+abbrev pub begunOf : Letter → Class → Part
+begunOf l (Sign n) = onlyIf (takesSign l) (Whole (newToken l n))
+begunOf l Blank = wholeOf (newToken l false) Blank
+begunOf l (Name k) = wholeOf (newToken l false) (Name k)
+begunOf l Point = wholeOf (newToken l false) Point
+begunOf l (Digit d) = wholeOf (newToken l false) (Digit d)
+begunOf l Other = wholeOf (newToken l false) Other
 
-abbrev pub afterPoint : Token → Part
-afterPoint t = cond (takesPoint (t .letter)) (cond (leb 1 (t .whole .count)) (Decimals t) Bad) Bad
+abbrev pub decimalsOf : Token → Class → Part
+decimalsOf t (Digit d) = onlyIf (ltb (t .decimals) 3) (Decimals (decimalToken t d))
+decimalsOf t Blank = onlyIf (leb 1 (t .decimals)) (betweenOf Blank)
+decimalsOf t (Name l) = onlyIf (leb 1 (t .decimals)) (betweenOf (Name l))
+decimalsOf t (Sign n) = onlyIf (leb 1 (t .decimals)) (betweenOf (Sign n))
+decimalsOf t Point = onlyIf (leb 1 (t .decimals)) (betweenOf Point)
+decimalsOf t Other = onlyIf (leb 1 (t .decimals)) (betweenOf Other)
 
-abbrev pub afterDecimal : Token → ℕ → Part
-afterDecimal t d = cond (ltb (t .decimals .count) 3) (Decimals (decimalToken t d)) Bad
+abbrev pub nextOf : Part → Class → Part
+nextOf Between c = betweenOf c
+nextOf (Begun l) c = begunOf l c
+nextOf (Whole t) c = wholeOf t c
+nextOf (Decimals t) c = decimalsOf t c
+nextOf Bad c = Bad
 
-abbrev pub wholeOf : Words → Token → Class → Scan
-wholeOf ws t (Digit d) = at (afterDigit t d) ws
-wholeOf ws t Point = at (afterPoint t) ws
-wholeOf ws t Blank = endedOf (leb 1 (t .whole .count)) ws t Blank
-wholeOf ws t (Name l) = endedOf (leb 1 (t .whole .count)) ws t (Name l)
-wholeOf ws t (Sign n) = endedOf (leb 1 (t .whole .count)) ws t (Sign n)
-wholeOf ws t Other = endedOf (leb 1 (t .whole .count)) ws t Other
+-- ---- the words found
 
-abbrev pub begunOf : Words → Token → Class → Scan
-begunOf ws t (Sign n) = at (afterSign t n) ws
-begunOf ws t Blank = wholeOf ws t Blank
-begunOf ws t (Name l) = wholeOf ws t (Name l)
-begunOf ws t Point = wholeOf ws t Point
-begunOf ws t (Digit d) = wholeOf ws t (Digit d)
-begunOf ws t Other = wholeOf ws t Other
+abbrev pub wordIn : Part → Ended
+wordIn Between = Nothing
+wordIn (Begun l) = Nothing
+wordIn (Whole t) = WordEnded t
+wordIn (Decimals t) = WordEnded t
+wordIn Bad = Nothing
 
-abbrev pub decimalsOf : Words → Token → Class → Scan
-decimalsOf ws t (Digit d) = at (afterDecimal t d) ws
-decimalsOf ws t Blank = endedOf (leb 1 (t .decimals .count)) ws t Blank
-decimalsOf ws t (Name l) = endedOf (leb 1 (t .decimals .count)) ws t (Name l)
-decimalsOf ws t (Sign n) = endedOf (leb 1 (t .decimals .count)) ws t (Sign n)
-decimalsOf ws t Point = endedOf (leb 1 (t .decimals .count)) ws t Point
-decimalsOf ws t Other = endedOf (leb 1 (t .decimals .count)) ws t Other
+-- a blank or a letter ends a word
+abbrev pub endsOf : Part → Class → Ended
+endsOf p Blank = wordIn p
+endsOf p (Name l) = wordIn p
+endsOf p (Sign n) = Nothing
+endsOf p Point = Nothing
+endsOf p (Digit d) = Nothing
+endsOf p Other = Nothing
 
-abbrev pub advance : Part → Words → Class → Scan
-advance Between ws c = at (betweenOf c) ws
-advance (Begun t) ws c = begunOf ws t c
-advance (Whole t) ws c = wholeOf ws t c
-advance (Decimals t) ws c = decimalsOf ws t c
-advance Bad ws c = at Bad ws
+abbrev pub gainOf : Words → Ended → Words
+gainOf ws Nothing = ws
+gainOf ws (WordEnded t) = putOf ws (t .letter) (tokenWord t)
 
 -- ---- a line
+
+pub record Scan : Type 0 where
+  pub part : Part
+  pub words : Words
+
+abbrev pub at : Part → Words → Scan
+at p ws = record { part = p; words = ws }
+
+abbrev pub advance : Part → Words → Class → Scan
+advance p ws c = at (nextOf p c) (gainOf ws (endsOf p c))
 
 abbrev pub stepOf : Scan → ℕ → Scan
 stepOf s b = advance (s .part) (s .words) (classOf b)
@@ -110,40 +122,44 @@ stepOf s b = advance (s .part) (s .words) (classOf b)
 abbrev pub startScan : Scan
 startScan = at Between noWords
 
-abbrev pub isBetween : Part → Bool
-isBetween Between = true
-isBetween (Begun t) = false
-isBetween (Whole t) = false
-isBetween (Decimals t) = false
-isBetween Bad = false
-
-abbrev pub closeOf : Scan → Line
-closeOf s = cond (isBetween (s .part)) (answerOf true (s .words)) notWords
-
--- a blank more ends the last word and changes nothing else
-abbrev pub finishOf : Scan → Line
-finishOf s = closeOf (stepOf s 32)
-
 abbrev pub runOf : Scan → List ℕ → Scan
 runOf s [] = s
 runOf s (b ∷ bs) = runOf (stepOf s b) bs
 
+abbrev pub isBetween : Part → Bool
+isBetween Between = true
+isBetween (Begun l) = false
+isBetween (Whole t) = false
+isBetween (Decimals t) = false
+isBetween Bad = false
+
+abbrev pub closeOf : Part → Words → Line
+closeOf p ws = cond (isBetween p) (answerOf true ws) notWords
+
+-- a blank more ends the last word and changes nothing else
+abbrev pub withBlank : List ℕ → List ℕ
+withBlank bytes = bytes ++ (32 ∷ [])
+
+abbrev pub lastOf : List ℕ → Scan
+lastOf bytes = runOf startScan (withBlank bytes)
+
 unfoldable pub lineOf : List ℕ → Line
-lineOf bytes = finishOf (runOf startScan bytes)
+lineOf bytes = closeOf (lastOf bytes .part) (lastOf bytes .words)
 
--- ---- what keeps the sums in range
-
-pub record Bounded (most : ℕ) (ds : Digits) : Type 0 where
-  pub few : ds .count ≤ most
-  pub low : ds .value < 10 ^ ds .count
+-- ---- what keeps the numbers in range
 
 pub record Sized (t : Token) : Type 0 where
-  pub whole : Bounded 7 (t .whole)
-  pub decimals : Bounded 3 (t .decimals)
+  pub few : t .whole ≤ 7
+  pub places : t .decimals ≤ 3
+  pub low : t .value < 10 ^ (t .whole + t .decimals)
 
 abbrev pub PartSized : Part → Type 0
 PartSized Between = Unit
-PartSized (Begun t) = Sized t
+PartSized (Begun l) = Unit
 PartSized (Whole t) = Sized t
 PartSized (Decimals t) = Sized t
 PartSized Bad = Unit
+
+abbrev pub EndedSized : Ended → Type 0
+EndedSized Nothing = Unit
+EndedSized (WordEnded t) = Sized t

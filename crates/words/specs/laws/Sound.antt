@@ -2,7 +2,7 @@
 use Prim.Native.Nat.{ℕ, _+_, _-_, _≤_, _<_}
 use mathlib.Core.Path.{_≡_, refl, ap}
 use mathlib.Core.List.{List, [], _∷_, _++_, append-assoc}
-use mathlib.Core.Bool.{Bool, true, false, cond, false≢true}
+use mathlib.Core.Bool.{Bool, true, false, false≢true}
 use native.Mathlib.Omega.{arith}
 use lib.ListN.{length}
 use lib.Dec.{ltb, leb}
@@ -11,14 +11,12 @@ use Rattle.letters.specs.declared.letter.Letter.{Letter}
 use Rattle.letters.specs.declared.byte.Class.{Class}
 use Rattle.letters.specs.declared.byte.Class.the-variants.{Blank, Name, Sign as SignClass, Point, Digit, Other}
 use Rattle.words.specs.declared.token.Token.{Token}
-use Rattle.letters.specs.declared.word.Words.{Words}
-use Rattle.words.specs.declared.line.Part.{Part}
-use Rattle.words.specs.declared.line.Part.the-variants.{Between, Begun, Whole, Decimals, Bad}
-use Rattle.words.specs.declared.line.Scan.{Scan}
+use Rattle.words.specs.declared.part.Part.{Part}
+use Rattle.words.specs.declared.part.Part.the-variants.{Between, Begun, Whole, Decimals, Bad}
 use Rattle.letters.specs.Letter.{takesSign, takesPoint, letterByte}
 use Rattle.words.specs.Grammar.{Sign, unsigned, plus, minus, blank, word, signText, digitsText, decimalsText, AllDigits, SignRight, PointRight, LineOfWords}
-use Rattle.letters.specs.laws.Scan.{classOf, putOf}
-use Rattle.words.specs.laws.Scan.{newToken, signedToken, wholeToken, decimalToken, tokenWord, at, betweenOf, endedOf, wholeOf, begunOf, decimalsOf, advance, stepOf, startScan, runOf, isBetween}
+use Rattle.letters.specs.laws.Scan.{classOf}
+use Rattle.words.specs.laws.Scan.{newToken, wholeToken, decimalToken, onlyIf, betweenOf, wholeOf, begunOf, decimalsOf, nextOf, isBetween, Scan, stepOf, startScan, runOf, withBlank, lastOf}
 use Rattle.letters.specs.laws.Byte.{ByteOf, byte-of, signByte}
 
 -- ---- what is still to come
@@ -48,32 +46,41 @@ record WholeEnd (l : Letter) (k : ℕ) (s : List ℕ) : Type 0 where
   text : digitsText w ++ (decimalsText f ++ rest) ≡ s
 
 -- after the letter
-record WordEnd (l : Letter) (k : ℕ) (s : List ℕ) : Type 0 where
+record WordEnd (l : Letter) (s : List ℕ) : Type 0 where
   sign : Sign
   after : List ℕ
   right : SignRight (takesSign l) sign
-  whole : WholeEnd l k after
+  whole : WholeEnd l 0 after
   text : signText sign ++ after ≡ s
 
 -- before the point there are no decimals
 abbrev End : Part → List ℕ → Type 0
 End Between s = LineOfWords s
-End (Begun t) s = t .decimals .count ≡ 0 → WordEnd (t .letter) (t .whole .count) s
-End (Whole t) s = t .decimals .count ≡ 0 → WholeEnd (t .letter) (t .whole .count) s
-End (Decimals t) s = DecimalsEnd (t .decimals .count) s
+End (Begun l) s = WordEnd l s
+End (Whole t) s = t .decimals ≡ 0 → WholeEnd (t .letter) (t .whole) s
+End (Decimals t) s = DecimalsEnd (t .decimals) s
 End Bad s = ⊥
 
-abbrev pub Accepts : Scan → List ℕ → Type 0
-Accepts st s = isBetween (stepOf (runOf st s) 32 .part) ≡ true
+-- what is accepted does not depend on the words found
+abbrev partAfter : Part → List ℕ → Part
+partAfter p [] = p
+partAfter p (b ∷ s) = partAfter (nextOf p (classOf b)) s
+
+run-part : (st : Scan) (s : List ℕ) → runOf st s .part ≡ partAfter (st .part) s
+run-part st [] = refl
+run-part st (b ∷ s) = run-part (stepOf st b) s
+
+abbrev Accepts : Part → List ℕ → Type 0
+Accepts p s = isBetween (partAfter p (withBlank s)) ≡ true
 
 -- ---- bad stays bad
 
 no : {A : Type 0} → false ≡ true → A
 no e = absurd (false≢true e)
 
-bad : {A : Type 0} (s : List ℕ) (ws : Words) → Accepts (at Bad ws) s → A
-bad [] ws h = no h
-bad (b ∷ s) ws h = bad s ws h
+bad : {A : Type 0} (s : List ℕ) → Accepts Bad s → A
+bad [] h = no h
+bad (b ∷ s) h = bad s h
 
 -- ---- letters that take no sign or no point have none
 
@@ -93,7 +100,7 @@ empty = record { items = []; right = tt; text = refl }
 more-blank : (s : List ℕ) → LineOfWords s → LineOfWords (32 ∷ s)
 more-blank s r = record { items = blank ∷ r .items; right = (tt, r .right); text = ap (λ (v : List ℕ). 32 ∷ v) (r .text) }
 
-more-word : (l : Letter) (s : List ℕ) → WordEnd l 0 s → LineOfWords (letterByte l ∷ s)
+more-word : (l : Letter) (s : List ℕ) → WordEnd l s → LineOfWords (letterByte l ∷ s)
 more-word l s r =
     let e = r .whole in
     record {
@@ -181,102 +188,102 @@ with-point l k s p h r = pointed (r .f) (r .digits) (omega (arith, r .few)) (r .
         }
 
 -- without a sign, and with one
-unsigned-word : (l : Letter) (k : ℕ) (s : List ℕ) → WholeEnd l k s → WordEnd l k s
-unsigned-word l k s r = record { sign = unsigned; after = s; right = no-sign (takesSign l); whole = r; text = refl }
+unsigned-word : (l : Letter) (s : List ℕ) → WholeEnd l 0 s → WordEnd l s
+unsigned-word l s r = record { sign = unsigned; after = s; right = no-sign (takesSign l); whole = r; text = refl }
 
-signed-word : (l : Letter) (k : ℕ) (negative : Bool) (s : List ℕ) → takesSign l ≡ true → WholeEnd l k s → WordEnd l k (signByte negative ∷ s)
-signed-word l k true s p r = record { sign = minus; after = s; right = rw p tt; whole = r; text = refl }
-signed-word l k false s p r = record { sign = plus; after = s; right = rw p tt; whole = r; text = refl }
+signed-word : (l : Letter) (negative : Bool) (s : List ℕ) → takesSign l ≡ true → WholeEnd l 0 s → WordEnd l (signByte negative ∷ s)
+signed-word l true s p r = record { sign = minus; after = s; right = rw p tt; whole = r; text = refl }
+signed-word l false s p r = record { sign = plus; after = s; right = rw p tt; whole = r; text = refl }
 
 -- ---- one byte b more, in front of the bytes s; what is accepted of s is known
 
-module _ (s : List ℕ) (known : (st : Scan) → Accepts st s → End (st .part) s) (b : ℕ) where
-  between-end : (ws : Words) (c : Class) → ByteOf c b → Accepts (at (betweenOf c) ws) s → LineOfWords (b ∷ s)
-  between-end ws Blank e h = rw e (more-blank s (known (at Between ws) h))
-  between-end ws (Name l) e h = rw e (more-word l s (known (at (Begun (newToken l)) ws) h refl))
-  between-end ws (SignClass n) e h = bad s ws h
-  between-end ws Point e h = bad s ws h
-  between-end ws (Digit d) e h = bad s ws h
-  between-end ws Other e h = bad s ws h
+module _ (s : List ℕ) (known : (p : Part) → Accepts p s → End p s) (b : ℕ) where
+  between-end : (c : Class) → ByteOf c b → Accepts (betweenOf c) s → LineOfWords (b ∷ s)
+  between-end Blank e h = rw e (more-blank s (known Between h))
+  between-end (Name l) e h = rw e (more-word l s (known (Begun l) h))
+  between-end (SignClass n) e h = bad s h
+  between-end Point e h = bad s h
+  between-end (Digit d) e h = bad s h
+  between-end Other e h = bad s h
 
-  ended-end : (whole : Bool) (ws : Words) (t : Token) (c : Class) → ByteOf c b → Accepts (endedOf whole ws t c) s → (whole ≡ true) × LineOfWords (b ∷ s)
-  ended-end true ws t c e h = (refl, between-end (putOf ws (t .letter) (tokenWord t)) c e h)
-  ended-end false ws t c e h = bad s ws h
+  after-end : (some : Bool) (c : Class) → ByteOf c b → Accepts (onlyIf some (betweenOf c)) s → (some ≡ true) × LineOfWords (b ∷ s)
+  after-end true c e h = (refl, between-end c e h)
+  after-end false c e h = bad s h
 
   -- a step that is taken only if a test holds
-  if-end : (test : Bool) (p : Part) (ws : Words) → Accepts (at (cond test p Bad) ws) s → (test ≡ true) × End p s
-  if-end true p ws h = (refl, known (at p ws) h)
-  if-end false p ws h = bad s ws h
+  if-end : (test : Bool) (p : Part) → Accepts (onlyIf test p) s → (test ≡ true) × End p s
+  if-end true p h = (refl, known p h)
+  if-end false p h = bad s h
 
-  module _ (ws : Words) (t : Token) where
-    whole-ended : (c : Class) → ByteOf c b → Accepts (endedOf (leb 1 (t .whole .count)) ws t c) s → WholeEnd (t .letter) (t .whole .count) (b ∷ s)
+  module _ (t : Token) where
+    whole-ended : (c : Class) → ByteOf c b → Accepts (onlyIf (leb 1 (t .whole)) (betweenOf c)) s → WholeEnd (t .letter) (t .whole) (b ∷ s)
     whole-ended c e h =
-        let r = ended-end (leb 1 (t .whole .count)) ws t c e h in
-        no-digits (t .letter) (t .whole .count) (b ∷ s) (leb-true _ _ (r .0)) (r .1)
+        let r = after-end (leb 1 (t .whole)) c e h in
+        no-digits (t .letter) (t .whole) (b ∷ s) (leb-true _ _ (r .0)) (r .1)
 
-    decimals-ended : (c : Class) → ByteOf c b → Accepts (endedOf (leb 1 (t .decimals .count)) ws t c) s → DecimalsEnd (t .decimals .count) (b ∷ s)
+    decimals-ended : (c : Class) → ByteOf c b → Accepts (onlyIf (leb 1 (t .decimals)) (betweenOf c)) s → DecimalsEnd (t .decimals) (b ∷ s)
     decimals-ended c e h =
-        let r = ended-end (leb 1 (t .decimals .count)) ws t c e h in
-        no-decimals (t .decimals .count) (b ∷ s) (leb-true _ _ (r .0)) (r .1)
+        let r = after-end (leb 1 (t .decimals)) c e h in
+        no-decimals (t .decimals) (b ∷ s) (leb-true _ _ (r .0)) (r .1)
 
-    point-if : (takes some : Bool) → Accepts (at (cond takes (cond some (Decimals t) Bad) Bad) ws) s → (takes ≡ true) × (some ≡ true) × DecimalsEnd (t .decimals .count) s
-    point-if true some h = let r = if-end some (Decimals t) ws h in (refl, r .0, r .1)
-    point-if false some h = bad s ws h
+    point-if : (takes some : Bool) → Accepts (onlyIf takes (onlyIf some (Decimals t))) s → (takes ≡ true) × (some ≡ true) × DecimalsEnd (t .decimals) s
+    point-if true some h = let r = if-end some (Decimals t) h in (refl, r .0, r .1)
+    point-if false some h = bad s h
 
-    whole-end : (c : Class) → ByteOf c b → Accepts (wholeOf ws t c) s → t .decimals .count ≡ 0 → WholeEnd (t .letter) (t .whole .count) (b ∷ s)
+    whole-end : (c : Class) → ByteOf c b → Accepts (wholeOf t c) s → t .decimals ≡ 0 → WholeEnd (t .letter) (t .whole) (b ∷ s)
     whole-end (Digit d) e h z =
-        let r = if-end (ltb (t .whole .count) 7) (Whole (wholeToken t d)) ws h in
-        rw (e .0) (more-digits (t .letter) (t .whole .count) d s (ltb-true _ _ (r .0)) (e .1) (r .1 z))
+        let r = if-end (ltb (t .whole) 7) (Whole (wholeToken t d)) h in
+        rw (e .0) (more-digits (t .letter) (t .whole) d s (ltb-true _ _ (r .0)) (e .1) (r .1 z))
     whole-end Point e h z =
-        let r = point-if (takesPoint (t .letter)) (leb 1 (t .whole .count)) h in
-        rw e (with-point (t .letter) (t .whole .count) s (r .0) (leb-true _ _ (r .1)) (rw z at (r .2)))
+        let r = point-if (takesPoint (t .letter)) (leb 1 (t .whole)) h in
+        rw e (with-point (t .letter) (t .whole) s (r .0) (leb-true _ _ (r .1)) (rw z at (r .2)))
     whole-end Blank e h z = whole-ended Blank e h
     whole-end (Name l) e h z = whole-ended (Name l) e h
     whole-end (SignClass n) e h z = whole-ended (SignClass n) e h
     whole-end Other e h z = whole-ended Other e h
 
-    begun-end : (c : Class) → ByteOf c b → Accepts (begunOf ws t c) s → t .decimals .count ≡ 0 → WordEnd (t .letter) (t .whole .count) (b ∷ s)
-    begun-end (SignClass n) e h z =
-        let r = if-end (takesSign (t .letter)) (Whole (signedToken t n)) ws h in
-        rw e (signed-word (t .letter) (t .whole .count) n s (r .0) (r .1 z))
-    begun-end Blank e h z = unsigned-word _ _ _ (whole-end Blank e h z)
-    begun-end (Name l) e h z = unsigned-word _ _ _ (whole-end (Name l) e h z)
-    begun-end Point e h z = unsigned-word _ _ _ (whole-end Point e h z)
-    begun-end (Digit d) e h z = unsigned-word _ _ _ (whole-end (Digit d) e h z)
-    begun-end Other e h z = unsigned-word _ _ _ (whole-end Other e h z)
-
-    decimals-end : (c : Class) → ByteOf c b → Accepts (decimalsOf ws t c) s → DecimalsEnd (t .decimals .count) (b ∷ s)
+    decimals-end : (c : Class) → ByteOf c b → Accepts (decimalsOf t c) s → DecimalsEnd (t .decimals) (b ∷ s)
     decimals-end (Digit d) e h =
-        let r = if-end (ltb (t .decimals .count) 3) (Decimals (decimalToken t d)) ws h in
-        rw (e .0) (more-decimals (t .decimals .count) d s (ltb-true _ _ (r .0)) (e .1) (r .1))
+        let r = if-end (ltb (t .decimals) 3) (Decimals (decimalToken t d)) h in
+        rw (e .0) (more-decimals (t .decimals) d s (ltb-true _ _ (r .0)) (e .1) (r .1))
     decimals-end Blank e h = decimals-ended Blank e h
     decimals-end (Name l) e h = decimals-ended (Name l) e h
     decimals-end (SignClass n) e h = decimals-ended (SignClass n) e h
     decimals-end Point e h = decimals-ended Point e h
     decimals-end Other e h = decimals-ended Other e h
 
-  step-end : (p : Part) (ws : Words) (c : Class) → ByteOf c b → Accepts (advance p ws c) s → End p (b ∷ s)
-  step-end Between ws c e h = between-end ws c e h
-  step-end (Begun t) ws c e h = begun-end ws t c e h
-  step-end (Whole t) ws c e h = whole-end ws t c e h
-  step-end (Decimals t) ws c e h = decimals-end ws t c e h
-  step-end Bad ws c e h = bad s ws h
+  begun-end : (l : Letter) (c : Class) → ByteOf c b → Accepts (begunOf l c) s → WordEnd l (b ∷ s)
+  begun-end l (SignClass n) e h =
+      let r = if-end (takesSign l) (Whole (newToken l n)) h in
+      rw e (signed-word l n s (r .0) (r .1 refl))
+  begun-end l Blank e h = unsigned-word _ _ (whole-end (newToken l false) Blank e h refl)
+  begun-end l (Name k) e h = unsigned-word _ _ (whole-end (newToken l false) (Name k) e h refl)
+  begun-end l Point e h = unsigned-word _ _ (whole-end (newToken l false) Point e h refl)
+  begun-end l (Digit d) e h = unsigned-word _ _ (whole-end (newToken l false) (Digit d) e h refl)
+  begun-end l Other e h = unsigned-word _ _ (whole-end (newToken l false) Other e h refl)
+
+  step-end : (p : Part) (c : Class) → ByteOf c b → Accepts (nextOf p c) s → End p (b ∷ s)
+  step-end Between c e h = between-end c e h
+  step-end (Begun l) c e h = begun-end l c e h
+  step-end (Whole t) c e h = whole-end t c e h
+  step-end (Decimals t) c e h = decimals-end t c e h
+  step-end Bad c e h = bad s h
 
 -- at the line's end a word needs a digit, and a point a decimal
-last-whole : (whole : Bool) (ws : Words) (t : Token) → isBetween (endedOf whole ws t Blank .part) ≡ true → whole ≡ true
-last-whole true ws t h = refl
-last-whole false ws t h = no h
+last-some : (some : Bool) → isBetween (onlyIf some Between) ≡ true → some ≡ true
+last-some true h = refl
+last-some false h = no h
 
-last-end : (p : Part) (ws : Words) → Accepts (at p ws) [] → End p []
-last-end Between ws h = empty
-last-end (Begun t) ws h = λ z. unsigned-word _ _ _ (no-digits _ _ _ (leb-true _ _ (last-whole (leb 1 (t .whole .count)) ws t h)) empty)
-last-end (Whole t) ws h = λ z. no-digits _ _ _ (leb-true _ _ (last-whole (leb 1 (t .whole .count)) ws t h)) empty
-last-end (Decimals t) ws h = no-decimals _ _ (leb-true _ _ (last-whole (leb 1 (t .decimals .count)) ws t h)) empty
-last-end Bad ws h = no h
+last-end : (p : Part) → Accepts p [] → End p []
+last-end Between h = empty
+last-end (Begun l) h = no h
+last-end (Whole t) h = λ z. no-digits _ _ _ (leb-true _ _ (last-some (leb 1 (t .whole)) h)) empty
+last-end (Decimals t) h = no-decimals _ _ (leb-true _ _ (last-some (leb 1 (t .decimals)) h)) empty
+last-end Bad h = no h
 
-accepted : (s : List ℕ) (st : Scan) → Accepts st s → End (st .part) s
-accepted [] st h = last-end (st .part) (st .words) h
-accepted (b ∷ s) st h = step-end s (accepted s) b (st .part) (st .words) (classOf b) (byte-of b) h
+accepted : (s : List ℕ) (p : Part) → Accepts p s → End p s
+accepted [] p h = last-end p h
+accepted (b ∷ s) p h = step-end s (accepted s) b p (classOf b) (byte-of b) h
 
-pub sound : (s : List ℕ) → Accepts startScan s → LineOfWords s
-sound s h = accepted s startScan h
+pub sound : (s : List ℕ) → isBetween (lastOf s .part) ≡ true → LineOfWords s
+sound s h = accepted s Between (rw (← run-part startScan (withBlank s)) h)

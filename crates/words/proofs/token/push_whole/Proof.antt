@@ -1,13 +1,17 @@
--- `push_whole` is right because `push` is.
+-- `push_whole` is right because a value of at most 10 digits is below 10 ^ 10.
+use Rattle.words.specs.laws.Bounds.{below}
 use borrow.Author.Needs.{needs}
 use Rattle.words.proofs.token.push_whole.Statement.{statement}
 use Rattle.words.proofs.token.push_whole.Tie as tie
 
+add-next : tie.Need-add-next
+add-next c = search needs
+
 push-requires : tie.Need-push-requires
-push-requires c κs = search needs
+push-requires c κs = let z = c .before in (below (z .args .t) (z .pre .0), z .pre .1)
 
 returns : tie.Need-returns
 returns c = rw (c .push .ensures)
 
 pub push-whole-spec : {M : Type 1} → statement M
-push-whole-spec = tie.close (tie.spec push-requires returns)
+push-whole-spec = tie.close (tie.spec add-next push-requires returns)

@@ -1,33 +1,23 @@
--- `word` is right because its sum is that of `tokenWord`, and stays below 10 ^ 10 + 1000.
-use Rattle.words.specs.laws.Bounds.{whole-room, thousandths}
+-- `word` is right because its product is that of `tokenWord`, and stays below 10 ^ 13.
+use Prim.Native.Nat.{_≤_}
+use native.Mathlib.Nat.{mul-le-mul}
+use Rattle.words.specs.laws.Bounds.{below, scale-most}
 use borrow.Author.Needs.{needs}
 use native.Mathlib.Omega.{arith}
 use Rattle.words.proofs.token.word.Statement.{statement}
 use Rattle.words.proofs.token.word.Tie as tie
 
-unit-requires : tie.Need-unit-requires
-unit-requires c κs = search needs
+scale-requires : tie.Need-scale-requires
+scale-requires c κs = search needs
 
-mul-whole : tie.Need-mul-whole
-mul-whole c = rw (c .before .unit .ensures) (omega (arith, whole-room (c .before .before .args .t) (c .before .before .pre)))
-
-place-requires : tie.Need-place-requires
-place-requires c κs = search needs
-
-mul-decimals : tie.Need-mul-decimals
-mul-decimals c =
-    let z = c .before .before .before .before in
-    rw (c .before .place .ensures) (omega (arith, thousandths (z .args .t .decimals) (z .pre .decimals)))
-
-add-magnitude : tie.Need-add-magnitude
-add-magnitude c =
-    let z = c .before .before .before .before in
-    rw (c .before .before .before .unit .ensures, c .before .place .ensures)
-    (omega (arith, whole-room (z .args .t) (z .pre), thousandths (z .args .t .decimals) (z .pre .decimals)))
+mul-magnitude : tie.Need-mul-magnitude
+mul-magnitude c =
+    let t = c .before .before .args .t in
+    let v : t .value ≤ 10_000_000_000 = omega (arith, below t (c .before .before .pre)) in
+    rw (c .before .scale .ensures) (omega (arith, mul-le-mul v (scale-most (t .letter) (t .decimals))))
 
 returns : tie.Need-returns
-returns c = rw (c .before .before .before .unit .ensures, c .before .place .ensures)
+returns c = rw (c .before .scale .ensures)
 
 pub word-spec : {M : Type 1} → statement M
-word-spec =
-    tie.close (tie.spec unit-requires mul-whole place-requires mul-decimals add-magnitude returns)
+word-spec = tie.close (tie.spec scale-requires mul-magnitude returns)
