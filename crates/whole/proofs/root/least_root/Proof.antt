@@ -1,94 +1,51 @@
--- `least_root` is right because the square of `below` stays below s while that of `below + gap` does not, until the gap is 1.
-use Prim.Native.Nat.{ℕ, _+_, _-_, _*_, _/_, _^_, _≤_, _<_}
-use mathlib.Core.Path.{_≡_, _∙_}
-use mathlib.Core.Logic.{⊎-elim}
-use native.Mathlib.Nat.{le-trans, pos-of-ne-zero}
-use native.Mathlib.Numerals.{add-one}
-use native.Mathlib.Omega.{arith}
-use Rattle.whole.specs.laws.Squares.{square-le}
-use Rattle.whole.specs.laws.Root.{least-root-is, least-root-between}
+-- `least_root` is right because each way reaches far enough for its numbers.
 use Rattle.whole.proofs.root.least_root.Statement.{statement}
 use Rattle.whole.proofs.root.least_root.Tie as tie
-use Rattle.whole.proofs.root.reach.Reads as reach-reads
+use Rattle.whole.proofs.root.least_root.Reads as reads
+use Rattle.whole.proofs.root.least_root.Lts as lts
+use Rattle.whole.proofs.root.root_within.Reads as root-within-reads
+use borrow.Author.Needs.{needs}
+use native.Mathlib.Nat.{pos-of-ne-zero}
+use native.Mathlib.Omega.{arith}
+use Rattle.whole.specs.laws.Root.{least-root-is}
 
-record Inv (s below gap : ℕ) : Type 0 where
-  some : 1 ≤ gap
-  room : below + gap ≤ 2 ^ 32
-  low : below * below < s
-  high : s ≤ (below + gap) * (below + gap)
-
-abbrev Inv-loop : tie.InvT-loop
-Inv-loop s below₀ gap₀ below gap = Inv s below gap
-
-abbrev μ-loop : tie.MeasureT-loop
-μ-loop s below₀ gap₀ below gap = gap
-
--- half of the gap is taken off, from below where the middle's square is below s
-module _ (s below gap : ℕ) (i : Inv s below gap) (wide : 1 < gap) where
-  whole-gap : (below + gap / 2) + (gap - gap / 2) ≡ below + gap
-  whole-gap = omega arith
-
-  up : (below + gap / 2) * (below + gap / 2) < s → Inv s (below + gap / 2) (gap - gap / 2)
-  up h = record { some = omega arith; room = omega (arith, i .room); low = h; high = rw whole-gap (i .high) }
-
-  stay : s ≤ (below + gap / 2) * (below + gap / 2) → Inv s below (gap - gap / 2)
-  stay h = record { some = omega arith; room = omega (arith, i .room); low = i .low; high = le-trans h (square-le (omega arith)) }
-
-returns : tie.Need-returns Inv-loop μ-loop
+returns : tie.Need-returns
 returns c = rw (c .if1 .taken) (least-root-is (record { above = omega arith; least = λ k h. omega arith }))
 
-reach-requires : tie.Need-reach-requires Inv-loop μ-loop
-reach-requires c κs = tt
+root-within-requires : tie.Need-root-within-requires
+root-within-requires c κs = ((pos-of-ne-zero (c .before .if1 .left), c .if2 .taken), (omega arith, omega arith))
 
-loop-holds : tie.Need-loop-holds Inv-loop μ-loop
-loop-holds c =
-    let e = c .reach .ensures in
-    record { some = e .1 .0; room = omega (arith, e .1 .1); low = pos-of-ne-zero (c .before .if1 .left); high = omega (arith, e .0) }
+returns-2 : tie.Need-returns-2
+returns-2 c = c .root-within .ensures
 
-add-middle : tie.Need-add-middle Inv-loop μ-loop
-add-middle c = omega arith
+root-within-requires-2 : tie.Need-root-within-requires-2
+root-within-requires-2 c κs = ((pos-of-ne-zero (c .before .before .if1 .left), c .if3 .taken), (omega arith, omega arith))
 
-mul-if2 : tie.Need-mul-if2 Inv-loop μ-loop
-mul-if2 c = let i = c .before .loop .inv in omega (arith, square-le {m = c .before .loop .below + c .before .loop .gap / 2} {n = 2 ^ 32 - 1} (omega arith))
+returns-3 : tie.Need-returns-3
+returns-3 c = c .root-within2 .ensures
 
-sub-gap : tie.Need-sub-gap Inv-loop μ-loop
-sub-gap c = omega arith
+root-within-requires-3 : tie.Need-root-within-requires-3
+root-within-requires-3 c κs = ((pos-of-ne-zero (c .before .before .before .if1 .left), c .if4 .taken), (omega arith, omega arith))
 
-loop-less : tie.Need-loop-less Inv-loop μ-loop
-loop-less c = omega arith
+returns-4 : tie.Need-returns-4
+returns-4 c = c .root-within3 .ensures
 
-loop-again : tie.Need-loop-again Inv-loop μ-loop
-loop-again c =
-    let t = c .before .before in
-    let i = t .loop .inv in
-    ⊎-elim
-    (λ w. rw (w .1) (up _ (t .loop .below) (t .loop .gap) i (c .before .loop-test .taken) (w .0 .taken)))
-    (λ w. rw (w .1) (stay _ (t .loop .below) (t .loop .gap) i (c .before .loop-test .taken) (w .0 .left)))
-    (c .if2 .came)
+root-within-requires-4 : tie.Need-root-within-requires-4
+root-within-requires-4 c κs = ((pos-of-ne-zero (c .before .before .before .if1 .left), omega arith), (omega arith, omega arith))
 
-add-result : tie.Need-add-result Inv-loop μ-loop
-add-result c = omega arith
-
-returns-2 : tie.Need-returns-2 Inv-loop μ-loop
-returns-2 c =
-    let b = c .before .loop .below in
-    let i = c .before .loop .inv in
-    let one : c .before .loop .gap ≡ 1 = omega arith in
-    add-one b ∙ least-root-between _ b (i .low) (rw (← add-one b) (rw one at (i .high)))
+returns-5 : tie.Need-returns-5
+returns-5 c = c .root-within4 .ensures
 
 pub least-root-spec : {M : Type 1} → statement M
 least-root-spec =
     tie.close
     (tie.spec
-    Inv-loop
-    μ-loop
     returns
-    reach-requires
-    loop-holds
-    add-middle
-    mul-if2
-    sub-gap
-    loop-less
-    loop-again
-    add-result
-    returns-2)
+    root-within-requires
+    returns-2
+    root-within-requires-2
+    returns-3
+    root-within-requires-3
+    returns-4
+    root-within-requires-4
+    returns-5)
