@@ -4,7 +4,6 @@ use Rattle.whole.proofs.root.least_root.Tie as tie
 use Rattle.whole.proofs.root.least_root.Reads as reads
 use Rattle.whole.proofs.root.least_root.Lts as lts
 use Rattle.whole.proofs.root.root_within.Reads as root-within-reads
-use borrow.Author.Needs.{needs}
 use native.Mathlib.Nat.{pos-of-ne-zero}
 use native.Mathlib.Omega.{arith}
 use Rattle.whole.specs.laws.Root.{least-root-is}

@@ -2,11 +2,11 @@
 use Prim.Native.Nat.{ℕ, _+_, _-_, _*_, _/_, _^_, _≤_, _<_}
 use mathlib.Core.Path.{_≡_, _∙_}
 use mathlib.Core.Logic.{⊎-elim}
-use native.Mathlib.Nat.{le-trans, pos-of-ne-zero}
+use native.Mathlib.Nat.{le-trans}
 use native.Mathlib.Numerals.{add-one}
 use native.Mathlib.Omega.{arith}
 use Rattle.whole.specs.laws.Squares.{square-le}
-use Rattle.whole.specs.laws.Root.{least-root-is, least-root-between}
+use Rattle.whole.specs.laws.Root.{least-root-between}
 use Rattle.whole.proofs.root.root_within.Statement.{statement}
 use Rattle.whole.proofs.root.root_within.Tie as tie
 
