@@ -27,7 +27,10 @@
 #include <stdint.h>
 
 #ifdef __cplusplus
+#define VZ_ASSERT static_assert
 extern "C" {
+#else
+#define VZ_ASSERT _Static_assert
 #endif
 
 /* ---- the record */
@@ -39,11 +42,7 @@ typedef struct vz_record {
     int64_t word[VZ_RECORD_WORDS];
 } vz_record;
 
-#ifdef __cplusplus
-static_assert(sizeof(vz_record) == 8 * VZ_RECORD_WORDS, "a record is 18 words of 64 bits");
-#else
-_Static_assert(sizeof(vz_record) == 8 * VZ_RECORD_WORDS, "a record is 18 words of 64 bits");
-#endif
+VZ_ASSERT(sizeof(vz_record) == 8 * VZ_RECORD_WORDS, "a record is 18 words of 64 bits");
 
 /* Which word is what. */
 enum vz_word {
@@ -78,6 +77,19 @@ enum vz_refusal {
     VZ_REFUSED_CIRCLE = 15, /* the end is not on the circle. Seen from the centre, keep its shorter coordinate and round the
                                longer one to the pulse nearest to the circle. A full turn ends where it starts. */
     VZ_REFUSED_WAY = 16     /* the arc leaves the travel on its way, though both ends are inside. */
+};
+
+/* Of a job text these too, before those of a load; they stand in a listing and are answered by no call. */
+enum vz_text_refusal {
+    VZ_REFUSED_LONG_TEXT = 30, /* the text has more than 65,536 bytes; told of line 1. Cut the job into two. */
+    VZ_REFUSED_LONG_LINE = 31, /* the line has more than 80 bytes without its LF. */
+    VZ_REFUSED_WORDS = 32,     /* it is not made of words: N, G or F with 1 to 7 digits; X, Y, I or J with an optional sign, 1 to 7
+                                  digits and optionally a point with 1 to 3 digits; blanks between. A carriage return is none. */
+    VZ_REFUSED_TWICE = 33,     /* a letter stands twice. */
+    VZ_REFUSED_MOTION = 34,    /* G is not 1 (line), 2 (arc clockwise) or 3 (arc counterclockwise). */
+    VZ_REFUSED_PULSE = 35,     /* X, Y, I or J, in millimetres, falls between two pulses. */
+    VZ_REFUSED_UNKNOWN = 36,   /* X, Y, I or J stands and no G or no F is known yet. */
+    VZ_REFUSED_IJ = 37         /* I or J stands under G 1; or an arc has X or Y but neither I nor J. */
 };
 
 /* ---- make */
@@ -132,8 +144,14 @@ int64_t vz_release(vz_record *record);
 /* Drops the block in work and sets the remainder to 0. The machine stands where it is; a hold stays. */
 int64_t vz_stop(vz_record *record);
 
-/* ---- check: the listing of a job text, before a tool moves. A row for each block, and a last line with the totals or with the
- * line and the number of the refusal. It is handed out piece by piece into a buffer of any size; nothing is driven.
+/* ---- check: the listing of a job text, before a tool moves. It is handed out piece by piece into a buffer of any size; nothing
+ * is driven. The listing is text, each line with an LF, numbers in decimal with one blank between them:
+ *
+ *     block line kind cycles x y bits      the header, always the same
+ *     1 1 L 2237 1000 2000 11              a row for each block: its number, its line in the text, L or A, cycles, end in pulses,
+ *     2 2 L 2500 2500 4000 11                register width
+ *     total 2 4737 284220                  the last line: blocks, cycles and ticks
+ *     line 3 refused 15                    or, in its place, the text line that is refused and the number
  *
  * All that a check knows stands in 26 words that the caller owns, as a record's 18. The text is not among them: the caller
  * keeps it, whole and unchanged, from the first call to the last. */
@@ -145,11 +163,7 @@ typedef struct vz_check {
     int64_t word[VZ_CHECK_WORDS];
 } vz_check;
 
-#ifdef __cplusplus
-static_assert(sizeof(vz_check) == 8 * VZ_CHECK_WORDS, "a check is 26 words of 64 bits");
-#else
-_Static_assert(sizeof(vz_check) == 8 * VZ_CHECK_WORDS, "a check is 26 words of 64 bits");
-#endif
+VZ_ASSERT(sizeof(vz_check) == 8 * VZ_CHECK_WORDS, "a check is 26 words of 64 bits");
 
 /* Words 0 to 17 are the record of the machine that the job would run on, where its last block ended. Then: */
 enum vz_check_word {
@@ -177,6 +191,8 @@ int64_t vz_check_start(vz_check *check, int64_t p, int64_t w, int64_t x_lower, i
  * a length is 0. A text of more than 65,536 bytes is refused by question 30, whatever stands in it: 65,537 of them are enough
  * to hand over. */
 int64_t vz_check_fill(vz_check *check, const uint8_t *text, size_t text_length, uint8_t *out, size_t out_length, uint64_t *written);
+
+#undef VZ_ASSERT
 
 #ifdef __cplusplus
 }

@@ -41,7 +41,7 @@ abbrev pub wordsAsk : Settings → (at : Point) (known : Reader) → Words → (
 wordsAsk s at k ws zero = cond (moving ws) (blockAsks s at k (blockOf (s .scale) k ws at)) (Asks.nothing k)
 wordsAsk s at k ws (suc n) = Asks.refuses (suc n)
 
--- the line's bytes without their LF; `lineOf` is the one answer about them that the grammar allows
+-- the line's bytes without their LF; `lineOf` is the one answer about them that the grammar allows: `asks-means` in the laws says this over `Means`
 unfoldable pub lineAsks : Settings → (at : Point) (known : Reader) → (line : List ℕ) → Asks
 lineAsks s at k line =
     let l = lineOf line in

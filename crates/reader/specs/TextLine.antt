@@ -41,7 +41,7 @@ readWith k k′ m ws zero = cond (moving ws) (takenOf k k′ m (blockOf (m .sett
 readWith k k′ m ws (suc n) = reads (Read.Refused (suc n)) k m
 
 -- "Any call on a record: is it sound? 9." `lineOf` is the scan that the code does; it is the one answer about the bytes that `Means` in
--- `words/specs/Meaning.antt` allows, by `line-means` and `means-unique`, so hold that file against the paper and not the scan.
+-- `words/specs/Meaning.antt` allows; `read-means` in the laws says this definition over `Means`, so hold that against the paper and not the scan.
 unfoldable pub readLineOf : Reader → Machine → (bytes : List ℕ) → ReadLine
 readLineOf k m bytes =
     let l = lineOf bytes in

@@ -16,7 +16,8 @@ use Rattle.machine.specs.Calls.{loadOf}
 use Rattle.machine.specs.laws.Sound.{sound}
 use Rattle.keeps.specs.laws.Calls.{load-keeps}
 use Rattle.finish.specs.Finish.{finishedOf, finishOf}
-use Rattle.finish.specs.laws.Record.{AtWork, AtRest, finishes, finish-keeps-sound}
+use Rattle.finish.specs.laws.Record.{AtWork, AtRest, finishes}
+use Rattle.finish.specs.laws.Run.{finish-keeps-sound}
 
 -- ---- what a block newly in work is, by its path
 

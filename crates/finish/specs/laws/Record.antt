@@ -6,23 +6,18 @@ use native.Mathlib.Omega.{arith}
 use lib.Dec.{T}
 use Rattle.whole.specs.laws.Test.{both}
 use Rattle.plane.specs.declared.point.Point.{Point}
-use Rattle.plane.specs.declared.travel.Travel.{Travel}
-use Rattle.plane.specs.Travel.{insideOf}
-use Rattle.plane.specs.laws.Travel.{inside-test}
 use Rattle.line.specs.laws.Work.{line-at}
-use Rattle.arc.specs.laws.Work.{end-inside}
 use Rattle.work.specs.declared.Work.{Work}
-use Rattle.work.specs.Work.{isNothing, workSound, endOf, Ready}
-use Rattle.work.specs.laws.Sound.{line-work, arc-work}
+use Rattle.work.specs.Work.{isNothing, Ready}
 use Rattle.run.specs.Run.{SoundIn}
 use Rattle.run.specs.laws.Cycles.{in-work}
 use Rattle.machine.specs.declared.Machine.{Machine}
 use Rattle.settings.specs.Settings.{capacityOf}
 use Rattle.machine.specs.Machine.{soundOf, movedOf}
-use Rattle.machine.specs.laws.Sound.{sound, sound-test, running}
+use Rattle.machine.specs.laws.Sound.{sound, running}
 use Rattle.finish.specs.declared.Finished.{Finished}
 use Rattle.finish.specs.Finish.{Countable, unmoved, atEnd, worksOf, finishOf}
-use Rattle.finish.specs.laws.Bounds.{left-over, latest}
+use Rattle.finish.specs.laws.Bounds.{latest}
 
 -- what the code of the count asks
 pub countable : (at : Point) (r : ℕ) (w : Work) → Ready at r w → Countable at w
@@ -78,29 +73,6 @@ pub record AtRest (m : Machine) : Type 0 where
   pub sound : soundOf m ≡ true
   pub free : m .held ≡ false
   pub idle : isNothing (m .work) ≡ true
-
-end-in : (q0 : ℕ) (t : Travel) (at : Point) (w : Work) → insideOf t at ≡ true → workSound q0 t at w ≡ true → insideOf t (endOf at w) ≡ true
-unfolding workSound
-end-in q0 t at Work.Nothing here e = here
-end-in q0 t at (Work.Line l) here e = inside-test (line-work e .end)
-end-in q0 t at (Work.Arc a) here e = inside-test (end-inside (arc-work e .arc))
-
-pub finish-keeps-sound : (m : Machine) → AtWork m → AtRest (finishOf m .machine)
-unfolding movedOf workSound
-finish-keeps-sound m a =
-    let s = sound (a .sound) in
-    let o = left-over (at-work a) in
-    rw (finishes m a)
-    (record {
-      sound = sound-test (record {
-        settings = s .settings;
-        in-travel = end-in (capacityOf (m .settings)) (m .settings .travel) (m .at) (m .work) (s .in-travel) (s .work);
-        below = omega (arith, o .reached, o .early, in-work (at-work a) .feed .most);
-        work = refl;
-      });
-      free = a .free;
-      idle = refl;
-    })
 
 pub finish-keeps-settings : (m : Machine) → finishOf m .machine .settings ≡ m .settings
 unfolding movedOf

@@ -1,19 +1,23 @@
 -- Finishing is a run that is allowed its ticks: the same record, ticks and cycles.
-use mathlib.Core.Path.{_≡_, ap}
+use mathlib.Core.Path.{_≡_, ap, subst}
+use mathlib.Core.Bool.{true}
 use Prim.Native.Nat.{ℕ, _+_, _-_, _*_, _≤_, min}
 use native.Mathlib.Omega.{arith}
 use Rattle.work.specs.Work.{feedOf, cyclesLeft}
 use Rattle.run.specs.Run.{Strip, stripOf}
 use Rattle.machine.specs.declared.Machine.{Machine}
 use Rattle.machine.specs.declared.Report.{Report}
+use Rattle.machine.specs.declared.Ran.{Ran}
+use Rattle.machine.specs.Machine.{soundOf, movedOf}
 use Rattle.settings.specs.Settings.{capacityOf}
 use Rattle.machine.specs.Run.{ranOver, runOf}
+use Rattle.keeps.specs.laws.Calls.{run-keeps}
 use Rattle.book.specs.Sums.{cyclesMarked}
 use Rattle.finish.specs.declared.Finished.{Finished}
 use Rattle.finish.specs.Finish.{lastTick, finishOf}
 use Rattle.finish.specs.laws.Bounds.{last-tick}
 use Rattle.finish.specs.laws.Strip.{Ended, strip-ends}
-use Rattle.finish.specs.laws.Record.{AtWork, at-work, finishes}
+use Rattle.finish.specs.laws.Record.{AtWork, AtRest, at-work, finishes}
 
 module _ (m : Machine) (a : AtWork m) (budget buffer : ℕ) (long : finishOf m .ticks ≤ budget) (room : finishOf m .ticks ≤ buffer) where
   abbrev ticking : Strip
@@ -36,3 +40,14 @@ module _ (m : Machine) (a : AtWork m) (budget buffer : ℕ) (long : finishOf m .
 
   pub finish-counts : cyclesMarked (runOf m budget buffer .bytes) ≡ finishOf m .cycles
   finish-counts = rw (runs, finishes m a) (strip-ended .cycles)
+
+-- so the record that it leaves is at rest, as a run's is
+pub finish-keeps-sound : (m : Machine) → AtWork m → AtRest (finishOf m .machine)
+unfolding movedOf
+finish-keeps-sound m a =
+    let t = finishOf m .ticks in
+    record {
+      sound = subst (λ (r : Ran). soundOf (r .machine) ≡ true) (finish-is-run m a t t (omega arith) (omega arith)) (run-keeps m (a .sound) t t);
+      free = rw (finishes m a) (a .free);
+      idle = rw (finishes m a);
+    }

@@ -4,14 +4,19 @@ use mathlib.Core.Bool.{Bool, true, false, cond}
 use mathlib.Core.List.{List}
 use Prim.Native.Nat.{ℕ, zero, suc}
 use lib.ListN.{length}
+use Rattle.plane.specs.declared.point.Point.{Point}
 use Rattle.block.specs.declared.Block.{Block}
 use Rattle.block.specs.Block.{blockWidth}
 use Rattle.block.specs.Questions.{loadNo}
 use Rattle.letters.specs.declared.word.Words.{Words}
+use Rattle.words.specs.declared.line.Line.{Line}
+use Rattle.words.specs.Meaning.{Means}
 use Rattle.words.specs.laws.Scan.{lineOf}
+use Rattle.words.specs.laws.Reading.{line-means, means-unique}
 use Rattle.work.specs.Work.{isNothing, begunOf}
 use Rattle.machine.specs.declared.Machine.{Machine}
 use Rattle.machine.specs.declared.Answered.{Answered}
+use Rattle.settings.specs.declared.Settings.{Settings}
 use Rattle.settings.specs.Settings.{capacityOf}
 use Rattle.machine.specs.Machine.{soundOf}
 use Rattle.machine.specs.Calls.{taking, loadWith, loadOf}
@@ -71,3 +76,9 @@ module _ (m : Machine) (k : Reader) (sound : soundOf m ≡ true) (idle : isNothi
       let l = lineOf line in
       let k′ = readerAfter k (l .words) in
       rw sound (words-ask k′ (l .words) (lineNo (m .settings .scale) k′ (length line) l))
+
+-- ---- what a line asks, by the meaning that the grammar gives it: any answer that `Means` allows, and there is only one
+pub asks-means : (s : Settings) (at : Point) (k : Reader) (line : List ℕ) (l : Line) → Means line l
+    → (let k′ = readerAfter k (l .words) in lineAsks s at k line ≡ wordsAsk s at k′ (l .words) (lineNo (s .scale) k′ (length line) l))
+unfolding lineAsks
+asks-means s at k line l means = rw (means-unique line (lineOf line) l (line-means line) means)
