@@ -1,10 +1,10 @@
 -- The arc's stepper: the circle's, with the codes of its moves. `laws/Stepper.antt` proves that it computes the step.
 use mathlib.Core.Path.{_≡_}
-use Prim.Native.Nat.{ℕ, _+_, _*_}
+use Prim.Native.Nat.{ℕ, _+_}
 use lib.IntN.{pos, negsuc}
 use Rattle.plane.specs.declared.point.Point.{Point}
-use Rattle.plane.specs.declared.pulse.Pulses.{Pulses}
 use Rattle.plane.specs.Pulse.{changeOf}
+use Rattle.plane.specs.Byte.{bothCodes}
 use Rattle.circle.specs.declared.plane.Offset.{Offset}
 use Rattle.circle.specs.declared.plane.Turn.{Turn}
 use Rattle.circle.specs.declared.step.Move.{Move}
@@ -17,13 +17,9 @@ use Rattle.arc.specs.declared.stepper.Tracer.{Tracer}
 use Rattle.arc.specs.declared.stepper.Traced.{Traced}
 use Rattle.arc.specs.Centre.{seenFrom, backFrom}
 
--- 01, Ticks and runs: "X code + 4 × Y code", of a cycle's pulses ..
-abbrev pub bothCodes : Pulses → ℕ
-bothCodes p = p .x + 4 * p .y
-
--- .. and of a way
+-- 01, Ticks and runs: "X code + 4 × Y code", of a way ..
 unfoldable pub wayCode : Offset → ℕ
-wayCode o = changeOf (pos 0) (o .x) + 4 * changeOf (pos 0) (o .y)
+wayCode o = bothCodes (record { x = changeOf (pos 0) (o .x); y = changeOf (pos 0) (o .y) })
 
 abbrev pub upCode : Turn → ℕ
 upCode t = wayCode (seen t (offset (pos 0) (pos 1)))

@@ -8,7 +8,8 @@ use lib.IntN.{pos}
 use lib.ListN.{length}
 use Rattle.plane.specs.declared.point.Point.{Point}
 use Rattle.plane.specs.declared.travel.Travel.{Travel}
-use Rattle.plane.specs.Pulse.{pulsesBetween, cycleByte}
+use Rattle.plane.specs.Pulse.{pulsesBetween}
+use Rattle.plane.specs.Byte.{cycleByte}
 use Rattle.divider.specs.declared.Fed.{Fed}
 use Rattle.divider.specs.Divider.{fedOf}
 use Rattle.block.specs.declared.Block.{Block}

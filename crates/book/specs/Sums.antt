@@ -3,11 +3,12 @@
 -- by the book.
 use mathlib.Core.Bool.{Bool, false, cond, not}
 use mathlib.Core.List.{List, [], _∷_}
-use Prim.Native.Nat.{ℕ, _+_, _*_, _/_, _%_}
+use Prim.Native.Nat.{ℕ, _+_, _*_}
 use lib.IntN.{ℤ, pos, _+ℤ_}
 use lib.ListN.{length}
 use Rattle.plane.specs.declared.travel.Travel.{Travel}
 use Rattle.plane.specs.Pulse.{pulseOf}
+use Rattle.plane.specs.Byte.{cycleMark}
 use Rattle.book.specs.Book.{InWork, Book, Call, Reply, entry}
 
 -- ---- tick bytes
@@ -19,16 +20,6 @@ tickBytes (Reply.width bits) = []
 tickBytes Reply.done = []
 tickBytes (Reply.byte b) = b ∷ []
 tickBytes (Reply.ran report ticks bytes) = bytes
-
--- 01, Ticks and runs: "X code + 4 × Y code + 16 if a cycle was done + 32 if the block ended"
-abbrev pub codeX : (byte : ℕ) → ℕ
-codeX b = b % 4
-
-abbrev pub codeY : (byte : ℕ) → ℕ
-codeY b = b / 4 % 4
-
-abbrev pub cycleMark : (byte : ℕ) → ℕ
-cycleMark b = b / 16 % 2
 
 -- ---- pulses of an axis, which `code` picks
 

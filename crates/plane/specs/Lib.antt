@@ -1,5 +1,6 @@
--- To be believed: Point, Pulse, Travel. Proved of them: laws.
+-- To be believed: Point, Pulse, Byte, Travel. Proved of them: laws.
 pub mod Point
 pub mod Pulse
+pub mod Byte
 pub mod Travel
 pub mod laws

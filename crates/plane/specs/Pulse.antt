@@ -1,6 +1,6 @@
 -- 01, Ticks and runs: "code 0 none, 1 plus, 2 minus".
 use mathlib.Core.Bool.{Bool, true, false, cond}
-use Prim.Native.Nat.{ℕ, zero, suc, _+_, _*_}
+use Prim.Native.Nat.{ℕ, zero, suc}
 use lib.IntN.{ℤ, pos, negsuc, _+ℤ_}
 use lib.Signed.{ltZ}
 use Rattle.plane.specs.declared.point.Point.{Point}
@@ -29,7 +29,3 @@ changeOf before after = cond (ltZ before after) 1 (cond (ltZ after before) 2 0)
 
 abbrev pub pulsesBetween : (before after : Point) → Pulses
 pulsesBetween before after = record { x = changeOf (before .x) (after .x); y = changeOf (before .y) (after .y) }
-
--- 01, Ticks and runs: "X code + 4 × Y code + 16 if a cycle was done + 32 if the block ended"; a tick without a cycle gives 0
-abbrev pub cycleByte : Pulses → (ended : Bool) → ℕ
-cycleByte p ended = p .x + 4 * p .y + 16 + cond ended 32 0

@@ -1,10 +1,9 @@
 // Pulses of one cycle, and the position after them.
 ghost use mathlib.Core.Path.{_≡_};
-ghost use Prim.Native.Nat.{_≤_};
 ghost use lib.IntN.{_+ℤ_};
 ghost use mir.Syntax.{w64};
 ghost use mir.Val.{SFits};
-ghost use Rattle.plane.specs.Pulse.{pulseOf, codeOf, shiftedOf, changeOf, pulsesBetween, cycleByte};
+ghost use Rattle.plane.specs.Pulse.{pulseOf, codeOf, shiftedOf, changeOf, pulsesBetween};
 use crate::point::Point;
 
 // The codes of a tick byte: 0 none, 1 plus, 2 minus.
@@ -68,17 +67,5 @@ pub fn changes(before: Point, after: Point) -> Pulses
     Pulses {
         x: change(before.x, after.x),
         y: change(before.y, after.y),
-    }
-}
-
-// The byte of a tick that did a cycle.
-pub fn cycle_byte(pulses: Pulses, ended: bool) -> u8
-    requires { ⌜ (pulses .x ≤ 2) × (pulses .y ≤ 2) ⌝ }
-    ensures { λ r. ⌜ r ≡ cycleByte pulses ended ⌝ }
-{
-    if ended {
-        pulses.x + 4 * pulses.y + 48
-    } else {
-        pulses.x + 4 * pulses.y + 16
     }
 }

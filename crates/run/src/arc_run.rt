@@ -12,6 +12,7 @@ use crate::gap::remainder_at;
 use arc::arc::Arc;
 use arc::stepper::Tracer;
 use divider::end_tick;
+use plane::byte::with_marks;
 use plane::point::Point;
 use work::Work;
 
@@ -30,7 +31,7 @@ pub fn run_arc(capacity: u64, at: Point, remainder: u64, a: Arc, most: u64, out:
     while gap.ticks < last {
         let t = tracer.cycle();
         let tick = gap.ticks as usize;
-        out[tick] = t.code + 16;
+        out[tick] = with_marks(t.code, false);
         tracer = t.tracer;
         gap = next_gap(capacity, a.feed, whole, gap);
     }
@@ -38,7 +39,7 @@ pub fn run_arc(capacity: u64, at: Point, remainder: u64, a: Arc, most: u64, out:
         let t = tracer.cycle();
         let tick = last as usize;
         let there = a.end;
-        out[tick] = t.code + 48;
+        out[tick] = with_marks(t.code, true);
         return Ran {
             ticks: n,
             ended: true,

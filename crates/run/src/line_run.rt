@@ -13,8 +13,8 @@ use crate::gap::remainder_at;
 use divider::end_tick;
 use line::line::Line;
 use line::stepper::Stepper;
+use plane::byte::cycle_byte;
 use plane::point::Point;
-use plane::pulse::cycle_byte;
 use work::Work;
 
 pub fn run_line(capacity: u64, at: Point, remainder: u64, l: Line, most: u64, out: &mut [u8]) -> Ran

@@ -6,8 +6,8 @@ use lib.Dec.{eqb}
 use Rattle.plane.specs.declared.point.Point.{Point}
 use Rattle.plane.specs.declared.travel.Travel.{Travel}
 use Rattle.plane.specs.Point.{equalPoint}
-use Rattle.plane.specs.Pulse.{cycleByte}
 use Rattle.plane.specs.Travel.{insideOf}
+use Rattle.plane.specs.Byte.{cycleByte}
 use Rattle.line.specs.declared.line.Line.{Line}
 use Rattle.line.specs.Line.{differ, lineOf, shortOf, lineAt, steppedOf}
 use Rattle.arc.specs.declared.arc.Arc.{Arc}

@@ -14,9 +14,9 @@ use block::Path;
 use block::questions::arc_of;
 use divider::add_feed;
 use line::line::Line;
+use plane::byte::cycle_byte;
 use plane::point::Point;
 use plane::point::is_same;
-use plane::pulse::cycle_byte;
 use plane::travel::Travel;
 use plane::travel::inside;
 

@@ -11,6 +11,7 @@ use Rattle.whole.specs.laws.Difference.{parts, negated, added, ring, var, _⊕_
 use Rattle.whole.specs.laws.Order.{ltZ-true, ltZ-false, ≺-ltZ, ≼-ltZ}
 use Rattle.plane.specs.declared.point.Point.{Point}
 use Rattle.plane.specs.Pulse.{changeOf}
+use Rattle.plane.specs.Byte.{bothCodes}
 use Rattle.plane.specs.laws.Pulse.{change-small}
 use Rattle.circle.specs.declared.plane.Offset.{Offset}
 use Rattle.circle.specs.declared.plane.Turn.{Turn}
@@ -27,7 +28,7 @@ use Rattle.arc.specs.declared.arc.Arc.{Arc}
 use Rattle.arc.specs.declared.stepper.Tracer.{Tracer}
 use Rattle.arc.specs.Centre.{Reach, seenFrom, backFrom}
 use Rattle.arc.specs.Arc.{arcAfter, arcStepped}
-use Rattle.arc.specs.Stepper.{bothCodes, wayCode, moveCode, pickCode, tracerOf, arcTracer, tracedOf, tracerAt, Tracing}
+use Rattle.arc.specs.Stepper.{wayCode, moveCode, pickCode, tracerOf, arcTracer, tracedOf, tracerAt, Tracing}
 use Rattle.arc.specs.laws.Centre.{back-seen}
 use Rattle.arc.specs.laws.Step.{Circles, seen-after}
 

@@ -10,14 +10,16 @@ use lib.ListN.{length}
 use borrow.Author.Tests.{eqb-true, eqb-false}
 use Rattle.plane.specs.declared.point.Point.{Point}
 use Rattle.plane.specs.declared.travel.Travel.{Travel}
-use Rattle.plane.specs.Pulse.{pulseOf, shiftedOf, pulsesBetween, cycleByte}
+use Rattle.plane.specs.Pulse.{pulseOf, shiftedOf, pulsesBetween}
+use Rattle.plane.specs.Byte.{cycleByte, codeX, codeY, cycleMark}
+use Rattle.plane.specs.laws.Byte.{told}
 use Rattle.divider.specs.Divider.{fedOf}
 use Rattle.divider.specs.laws.Ticks.{Tick, tick}
 use Rattle.block.specs.declared.Block.{Block}
 use Rattle.block.specs.Block.{blockCycles, blockPoint}
 use Rattle.book.specs.Book.{Job, InWork, Book, Ticked, Strip, isNothing, cycleTick, fedTick, bookTick, inFront, strip}
-use Rattle.book.specs.Sums.{codeX, codeY, cycleMark, pulsesIn, cyclesMarked}
-use Rattle.book.specs.laws.Byte.{told, sent-one, onward, Silent, zero-silent, none-silent}
+use Rattle.book.specs.Sums.{pulsesIn, cyclesMarked}
+use Rattle.book.specs.laws.Byte.{sent-one, onward, Silent, zero-silent, none-silent}
 use Rattle.book.specs.laws.Sound.{bookOf, JobSound, WorkSound, Sound, job-way, job-inside}
 
 -- the block goes on, or its last cycle was done: then the remainder is less than one feed, for the tick before had not reached it

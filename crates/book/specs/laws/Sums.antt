@@ -8,10 +8,11 @@ use lib.IntN.{ℤ, pos, _+ℤ_, +ℤ-idl, +ℤ-idr}
 use lib.ListN.{length}
 use Rattle.plane.specs.declared.point.Point.{Point}
 use Rattle.plane.specs.declared.travel.Travel.{Travel}
+use Rattle.plane.specs.Byte.{codeX, codeY}
 use Rattle.block.specs.declared.Block.{Block}
 use Rattle.block.specs.Questions.{loadNo}
 use Rattle.book.specs.Book.{InWork, Book, Call, Reply, freshBook, isNothing, loaded, loadEntry, entry, replies, closing}
-use Rattle.book.specs.Sums.{tickBytes, codeX, codeY, pulsesIn, pulsesSent, sinceStop, cyclesMarked, cyclesSince, ticksWork, feedIn, workingTicks, feedsSince}
+use Rattle.book.specs.Sums.{tickBytes, pulsesIn, pulsesSent, sinceStop, cyclesMarked, cyclesSince, ticksWork, feedIn, workingTicks, feedsSince}
 use Rattle.book.specs.laws.Byte.{onward}
 use Rattle.book.specs.laws.Settings.{SettingsRight}
 use Rattle.book.specs.laws.Sound.{Sound, fresh-sound}

@@ -9,6 +9,8 @@ use lib.ListN.{length}
 use borrow.Author.Tests.{leb-true, leb-false}
 use Rattle.plane.specs.declared.point.Point.{Point}
 use Rattle.plane.specs.Point.{equalPoint}
+use Rattle.plane.specs.Byte.{cycleMark}
+use Rattle.plane.specs.laws.Byte.{told}
 use Rattle.line.specs.Line.{pointOf, steppedOf}
 use Rattle.arc.specs.Arc.{arcAfter, arcStepped}
 use Rattle.divider.specs.laws.End.{Ends}
@@ -18,8 +20,7 @@ use Rattle.run.specs.Run.{Strip, stripOf, SoundIn}
 use Rattle.run.specs.laws.Sound.{waiting, still-sound}
 use Rattle.run.specs.laws.Cycles.{cycle-counts, same-feed, same-end, due-later}
 use Rattle.run.specs.laws.Idle.{idle-tick, cycle-tick}
-use Rattle.book.specs.Sums.{cycleMark, cyclesMarked}
-use Rattle.book.specs.laws.Byte.{told}
+use Rattle.book.specs.Sums.{cyclesMarked}
 
 -- what such a run of t ticks is
 pub record Ended (q0 : ℕ) (at : Point) (r : ℕ) (w : Work) (t : ℕ) (s : Strip) : Type 0 where

@@ -10,7 +10,8 @@ use Rattle.whole.specs.laws.Test.{same-test}
 use Rattle.plane.specs.declared.point.Point.{Point}
 use Rattle.plane.specs.declared.travel.Travel.{Travel}
 use Rattle.plane.specs.Point.{equalPoint}
-use Rattle.plane.specs.Pulse.{pulsesBetween, cycleByte}
+use Rattle.plane.specs.Pulse.{pulsesBetween}
+use Rattle.plane.specs.Byte.{cycleByte}
 use Rattle.plane.specs.laws.Point.{equal-point, equal-itself}
 use Rattle.line.specs.Line.{steppedOf}
 use Rattle.arc.specs.declared.arc.Arc.{Arc}

@@ -2,18 +2,18 @@
 use mathlib.Core.Path.{_≡_, refl, sym, ap, subst, _∙_}
 use mathlib.Core.Bool.{Bool, true, false}
 use mathlib.Core.List.{List}
-use Prim.Native.Nat.{ℕ, _+_, _≤_, _<_}
+use Prim.Native.Nat.{ℕ, _≤_, _<_}
 use native.Mathlib.Omega.{arith}
 use lib.ListN.{set}
 use Rattle.plane.specs.declared.point.Point.{Point}
 use Rattle.plane.specs.Point.{equalPoint}
-use Rattle.plane.specs.Pulse.{cycleByte}
+use Rattle.plane.specs.Byte.{bothCodes, withMarks, cycleByte}
 use Rattle.arc.specs.declared.arc.Arc.{Arc}
 use Rattle.arc.specs.declared.stepper.Tracer.{Tracer}
 use Rattle.arc.specs.declared.stepper.Traced.{Traced}
 use Rattle.arc.specs.Centre.{Near}
 use Rattle.arc.specs.Arc.{OnArc, arcStepped}
-use Rattle.arc.specs.Stepper.{bothCodes, arcTracer, tracedOf, tracerAt, Tracing}
+use Rattle.arc.specs.Stepper.{arcTracer, tracedOf, tracerAt, Tracing}
 use Rattle.arc.specs.laws.Step.{Circles, circles, next-circles}
 use Rattle.arc.specs.laws.Stepper.{tracing, tracer-next, tracer-at}
 use Rattle.work.specs.declared.Work.{Work}
@@ -74,16 +74,19 @@ module _ {q0 most : ℕ} {all : Strip} {out₀ out : List ℕ} {last n : ℕ} (a
     next-at : tracerAt (a .centre) (t .tracer) ≡ arcStepped a (tracerAt (a .centre) tracer) .at
     next-at = ap (tracerAt (a .centre)) tracer-is ∙ tracer-at a (arcStepped a (tracerAt (a .centre) tracer) .at) next-on
 
-    pub arc-on : g .ticks < last → {next : Gap} → next ≡ nextGap q0 (a .feed) g
-        → Cycling q0 (a .feed) most all out₀ (set out (g .ticks) (t .code + 16)) last n (tracerAt (a .centre) (t .tracer)) (Work.Arc a) next × StandsOn a (t .tracer)
-    arc-on h {next} gap =
-        let cycle = cycle-is a (tracerAt (a .centre) tracer) {byte = t .code + 16} (goes-on s h) (omega (arith, code-is)) in (
-          subst (λ (p : Point). Cycling q0 (a .feed) most all out₀ (set out (g .ticks) (t .code + 16)) last n p (Work.Arc a) next) (sym next-at) (cycling-on s h cycle gap),
+    byte-is : {byte : ℕ} (ended : Bool) → byte ≡ withMarks (t .code) ended → byte ≡ cycleByte (arcStepped a (tracerAt (a .centre) tracer) .pulses) ended
+    byte-is ended b = b ∙ ap (λ (codes : ℕ). withMarks codes ended) code-is
+
+    pub arc-on : g .ticks < last → {byte : ℕ} → byte ≡ withMarks (t .code) false → {next : Gap} → next ≡ nextGap q0 (a .feed) g
+        → Cycling q0 (a .feed) most all out₀ (set out (g .ticks) byte) last n (tracerAt (a .centre) (t .tracer)) (Work.Arc a) next × StandsOn a (t .tracer)
+    arc-on h {byte} b {next} gap =
+        let cycle = cycle-is a (tracerAt (a .centre) tracer) {byte = byte} (goes-on s h) (byte-is false b) in (
+          subst (λ (p : Point). Cycling q0 (a .feed) most all out₀ (set out (g .ticks) byte) last n p (Work.Arc a) next) (sym next-at) (cycling-on s h cycle gap),
           tracer-is ∙ ap (arcTracer a) (sym next-at),
         )
 
-    pub arc-end : last < n → last ≤ g .ticks → {old : List ℕ} → out₀ ≡ clearedOf n old
-        → Answer all old (set out last (t .code + 48)) (record { ticks = n; ended = true; at = a .end; remainder = g .remainder; work = Work.Nothing })
-    arc-end m h clear =
-        let cycle = cycle-is a (tracerAt (a .centre) tracer) {byte = t .code + 48} (ends-now s m h) (omega (arith, code-is)) in
+    pub arc-end : last < n → last ≤ g .ticks → {byte : ℕ} → byte ≡ withMarks (t .code) true → {old : List ℕ} → out₀ ≡ clearedOf n old
+        → Answer all old (set out last byte) (record { ticks = n; ended = true; at = a .end; remainder = g .remainder; work = Work.Nothing })
+    arc-end m h {byte} b clear =
+        let cycle = cycle-is a (tracerAt (a .centre) tracer) {byte = byte} (ends-now s m h) (byte-is true b) in
         cycling-end s m h (ap (λ (x : Cycle). x .byte) cycle) clear

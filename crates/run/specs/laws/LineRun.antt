@@ -8,7 +8,7 @@ use lib.Dec.{eqb}
 use lib.ListN.{set}
 use Rattle.plane.specs.declared.point.Point.{Point}
 use Rattle.plane.specs.declared.pulse.Pulses.{Pulses}
-use Rattle.plane.specs.Pulse.{cycleByte}
+use Rattle.plane.specs.Byte.{cycleByte}
 use Rattle.line.specs.declared.line.Line.{Line}
 use Rattle.line.specs.declared.stepper.Stepper.{Stepper}
 use Rattle.line.specs.declared.stepper.Advanced.{Advanced}

@@ -5,8 +5,8 @@ use Prim.Native.Nat.{ℕ, _≤_}
 use lib.Dec.{eqb}
 use Rattle.plane.specs.declared.point.Point.{Point}
 use Rattle.plane.specs.Point.{equalPoint}
-use Rattle.plane.specs.Pulse.{cycleByte}
 use Rattle.plane.specs.laws.Pulse.{change-small}
+use Rattle.plane.specs.Byte.{cycleByte}
 use Rattle.line.specs.declared.line.Line.{Line}
 use Rattle.line.specs.declared.line.Stepped.{Stepped}
 use Rattle.line.specs.Line.{steppedOf}

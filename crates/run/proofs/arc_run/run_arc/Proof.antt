@@ -5,7 +5,7 @@ use borrow.Author.Needs.{needs}
 use native.Mathlib.Omega.{arith}
 use mathlib.Core.Path.{_≡_, refl, sym, ap, subst, _∙_}
 use mathlib.Core.List.{List}
-use Prim.Native.Nat.{ℕ, _+_, _-_, _<_, min}
+use Prim.Native.Nat.{ℕ, _-_, _<_, min}
 use lib.ListN.{length, length-set}
 use Rattle.plane.specs.declared.point.Point.{Point}
 use Rattle.arc.specs.declared.arc.Arc.{Arc}
@@ -110,11 +110,10 @@ loop-holds c =
 cycle-requires : tie.Need-cycle-requires Inv-loop μ-loop
 cycle-requires c κs = let l = c .before .before in arc-asks (start l .args .a) (l .loop .tracer) (l .loop .inv .0) (l .loop .inv .1) .1
 
-add-out : tie.Need-add-out Inv-loop μ-loop
-add-out c =
-    let l = c .before .before .before .before in
-    let small = arc-small (start l .args .a) (l .loop .tracer) (l .loop .inv .0) (l .loop .inv .1) (c .before .cycle .ensures) in
-    omega arith
+with-marks-requires : tie.Need-with-marks-requires Inv-loop μ-loop
+with-marks-requires c κs =
+    let l = c .before .before .before in
+    arc-small (start l .args .a) (l .loop .tracer) (l .loop .inv .0) (l .loop .inv .1) (c .cycle .ensures)
 
 slice-write-out : tie.Need-slice-write-out Inv-loop μ-loop
 slice-write-out c =
@@ -136,16 +135,15 @@ loop-less c =
 loop-again : tie.Need-loop-again Inv-loop μ-loop
 loop-again c =
     let l = c .before .before .before .before .before .before in
-    arc-on (start l .args .a) (l .loop .tracer) (l .loop .inv .0) (l .loop .inv .1) (c .before .before .before .cycle .ensures) (c .before .before .before .before .if1 .taken) (c .next-gap .ensures)
+    arc-on (start l .args .a) (l .loop .tracer) (l .loop .inv .0) (l .loop .inv .1) (c .before .before .before .cycle .ensures) (c .before .before .before .before .if1 .taken) (c .before .before .with-marks .ensures) (c .next-gap .ensures)
 
 cycle-requires-2 : tie.Need-cycle-requires-2 Inv-loop μ-loop
 cycle-requires-2 c κs = let l = c .before .before .before in arc-asks (start l .args .a) (l .loop .tracer) (l .loop .inv .0) (l .loop .inv .1) .1
 
-add-out-2 : tie.Need-add-out-2 Inv-loop μ-loop
-add-out-2 c =
-    let l = c .before .before .before .before .before .before in
-    let small = arc-small (start l .args .a) (l .loop .tracer) (l .loop .inv .0) (l .loop .inv .1) (c .before .before .cycle2 .ensures) in
-    omega arith
+with-marks-requires-2 : tie.Need-with-marks-requires-2 Inv-loop μ-loop
+with-marks-requires-2 c κs =
+    let l = c .before .before .before .before .before in
+    arc-small (start l .args .a) (l .loop .tracer) (l .loop .inv .0) (l .loop .inv .1) (c .before .cycle2 .ensures)
 
 slice-write-out-2 : tie.Need-slice-write-out-2 Inv-loop μ-loop
 slice-write-out-2 c =
@@ -155,13 +153,13 @@ slice-write-out-2 c =
 same-length : tie.Need-same-length Inv-loop μ-loop
 same-length c =
     let l = c .before .before .before .before .before .before in
-    length-set (l .loop .out) (last-of l) (c .before .before .cycle2 .result .code + 48) ∙ long l
+    length-set (l .loop .out) (last-of l) (c .with-marks2 .result) ∙ long l
 
 returns : tie.Need-returns Inv-loop μ-loop
 returns c =
     let l = c .before .before .before .before .before .before in
     let t = c .before .before .before in
-    answers (strip (start l)) (entered (l .before)) (arc-end (start l .args .a) (l .loop .tracer) (l .loop .inv .0) (l .loop .inv .1) (c .before .before .cycle2 .ensures) (t .if2 .taken) (t .before .if1 .left) (cleared l))
+    answers (strip (start l)) (entered (l .before)) (arc-end (start l .args .a) (l .loop .tracer) (l .loop .inv .0) (l .loop .inv .1) (c .before .before .cycle2 .ensures) (t .if2 .taken) (t .before .if1 .left) (c .with-marks2 .ensures) (cleared l))
 
 leave-requires : tie.Need-leave-requires Inv-loop μ-loop
 leave-requires c κs = let l = c .before .before .before .before in arc-asks (start l .args .a) (l .loop .tracer) (l .loop .inv .0) (l .loop .inv .1)
@@ -197,13 +195,13 @@ run-arc-spec =
     enter-requires
     loop-holds
     cycle-requires
-    add-out
+    with-marks-requires
     slice-write-out
     next-gap-requires
     loop-less
     loop-again
     cycle-requires-2
-    add-out-2
+    with-marks-requires-2
     slice-write-out-2
     same-length
     returns
