@@ -5,6 +5,7 @@ use divider::end_tick;
 use machine::Machine;
 use machine::sound;
 use plane::point::Point;
+use settings::capacity;
 use work::Work;
 use work::is_nothing;
 
@@ -82,11 +83,11 @@ pub fn finish(m: Machine) -> Finished
     let settings = m.settings;
     let at = m.at;
     let work = m.work;
-    let capacity = 60 * settings.clock;
+    let q0 = capacity(settings);
     let left = work_left(at, work);
     let end = left.end;
-    let ticks = end_tick(capacity, left.feed, m.remainder, left.cycles);
-    let remainder = m.remainder + ticks * left.feed - left.cycles * capacity;
+    let ticks = end_tick(q0, left.feed, m.remainder, left.cycles);
+    let remainder = m.remainder + ticks * left.feed - left.cycles * q0;
     Finished {
         cycles: left.cycles,
         ticks: ticks,

@@ -12,6 +12,7 @@ use plane::point::Point;
 use plane::travel::inside;
 use run::run_work;
 use settings::Settings;
+use settings::capacity;
 use settings::settings_no;
 use settings::standard;
 use work::Work;
@@ -81,11 +82,11 @@ pub fn sound(settings: Settings, at: Point, remainder: u64, work: Work) -> bool
     if !inside(travel, at) {
         return false;
     }
-    let capacity = 60 * settings.clock;
-    if capacity <= remainder {
+    let q0 = capacity(settings);
+    if q0 <= remainder {
         return false;
     }
-    work_sound(capacity, travel, at, work)
+    work_sound(q0, travel, at, work)
 }
 
 fn report_of(ended: bool, spent: bool) -> Report
@@ -158,7 +159,7 @@ impl Machine {
             };
         }
         let travel = settings.travel;
-        let no = load_no(60 * settings.clock, travel, is_nothing(work), at, b);
+        let no = load_no(capacity(settings), travel, is_nothing(work), at, b);
         if no != 0 {
             return Answered {
                 answer: Answer::Refused(no),
@@ -198,7 +199,7 @@ impl Machine {
                 machine: self,
             };
         }
-        let a = work_tick(60 * settings.clock, at, self.remainder, work);
+        let a = work_tick(capacity(settings), at, self.remainder, work);
         let here = a.at;
         let next = a.work;
         Ticked {
@@ -236,7 +237,7 @@ impl Machine {
                 machine: self,
             };
         }
-        let r = run_work(60 * settings.clock, at, self.remainder, work, budget, out);
+        let r = run_work(capacity(settings), at, self.remainder, work, budget, out);
         let here = r.at;
         let next = r.work;
         Ran {

@@ -1,6 +1,6 @@
 // The settings of a table, and questions 1 to 3.
 ghost use mathlib.Core.Path.{_≡_};
-ghost use Rattle.settings.specs.Settings.{inRange, axisRight, travelRight, settingsNo, standardSettings};
+ghost use Rattle.settings.specs.Settings.{capacityOf, inRange, axisRight, travelRight, settingsNo, standardSettings};
 use plane::travel::Range;
 use plane::travel::Travel;
 use plane::travel::within;
@@ -65,6 +65,14 @@ pub fn settings_no(s: Settings) -> u64
         return 3;
     }
     0
+}
+
+// q0, the capacity of the feed divider, of settings that have been tested.
+pub fn capacity(s: Settings) -> u64
+    requires { ⌜ settingsNo s ≡ 0 ⌝ }
+    ensures { λ r. ⌜ r ≡ capacityOf s ⌝ }
+{
+    60 * s.clock
 }
 
 // p 50, w 5,000 and the widest travel: what a refused make hands back, and what the programs take.

@@ -4,8 +4,6 @@ use mathlib.Core.Path.{sym, _∙_}
 use Prim.Native.Nat.{_+_, _*_, _^_, _≤_, _<_}
 use native.Mathlib.Omega.{arith}
 use borrow.Author.Tests.{not-true, not-false}
-use Rattle.settings.specs.Settings.{capacityOf}
-use Rattle.settings.specs.laws.Right.{settings-right}
 use Rattle.machine.specs.laws.Sound.{sound, ready}
 use Rattle.finish.specs.Finish.{finishOf}
 use Rattle.finish.specs.laws.Bounds.{tick-asks, sums}
@@ -20,8 +18,11 @@ working c = works (sym (c .before .works .ensures) ∙ not-false _ (c .if1 .left
 sums-fit : (c : tie.After-end-tick)
     → let m = c .before .before .before .before .before .before .before .before .args .m in
     let l = c .before .before .work-left .result in
-    (m .remainder + c .end-tick .result * l .feed < 2 ^ 64) × (l .cycles * capacityOf (m .settings) ≤ m .remainder + c .end-tick .result * l .feed)
-sums-fit c = sums (at-work (working (c .before .before .before .before .before .before))) (c .before .before .work-left .ensures) (c .end-tick .ensures)
+    let q0 = c .before .before .before .capacity .result in
+    (m .remainder + c .end-tick .result * l .feed < 2 ^ 64) × (l .cycles * q0 ≤ m .remainder + c .end-tick .result * l .feed)
+sums-fit c =
+    let q = c .before .before .before .capacity .ensures in
+    rw q (sums (at-work (working (c .before .before .before .before .before .before))) (c .before .before .work-left .ensures) (rw q at (c .end-tick .ensures)))
 
 works-requires : tie.Need-works-requires
 works-requires c κs = search needs
@@ -30,10 +31,8 @@ returns : tie.Need-returns
 unfolding finishOf
 returns c = simp (sym (c .before .works .ensures) ∙ not-true _ (c .if1 .taken))
 
-mul-capacity : tie.Need-mul-capacity
-mul-capacity c =
-    let r = settings-right _ (sound (working (c .before .before .before) .sound) .settings) in
-    omega (arith, r .clock-most)
+capacity-requires : tie.Need-capacity-requires
+capacity-requires c κs = sound (working (c .before .before) .sound) .settings
 
 work-left-requires : tie.Need-work-left-requires
 work-left-requires c κs =
@@ -43,7 +42,7 @@ work-left-requires c κs =
 end-tick-requires : tie.Need-end-tick-requires
 end-tick-requires c κs =
     let a = tick-asks (at-work (working (c .before .before .before .before .before))) (c .before .work-left .ensures) in
-    (a .0, omega (arith, a .1), a .2)
+    rw (c .before .before .capacity .ensures) (a .0, omega (arith, a .1), a .2)
 
 mul-remainder : tie.Need-mul-remainder
 mul-remainder c = omega (arith, sums-fit (c .before) .0)
@@ -63,7 +62,7 @@ moved-requires c κs = search needs
 returns-2 : tie.Need-returns-2
 returns-2 c =
     let t = c .before .before .before .before in
-    rw (c .moved .ensures, t .end-tick .ensures, t .before .before .work-left .ensures)
+    rw (c .moved .ensures, t .end-tick .ensures, t .before .before .before .capacity .ensures, t .before .before .work-left .ensures)
     (sym (finishes _ (working (t .before .before .before .before .before .before))))
 
 pub finish-spec : {M : Type 1} → statement M
@@ -72,7 +71,7 @@ finish-spec =
     (tie.spec
     works-requires
     returns
-    mul-capacity
+    capacity-requires
     work-left-requires
     end-tick-requires
     mul-remainder

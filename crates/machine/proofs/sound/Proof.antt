@@ -31,22 +31,23 @@ inside-requires c κs = search needs
 returns-2 : tie.Need-returns-2
 returns-2 c = sym (refuted _ (λ e. true≢false (sym (sound e .in-travel) ∙ sym (c .before .inside .ensures) ∙ not-true _ (c .if2 .taken))))
 
-mul-capacity : tie.Need-mul-capacity
-mul-capacity c = let r = settings-right _ (settings-pass (c .before .before .before .before)) in omega (arith, r .clock-most)
+capacity-requires : tie.Need-capacity-requires
+capacity-requires c κs = settings-pass (c .before .before .before)
 
 returns-3 : tie.Need-returns-3
-returns-3 c = sym (refuted _ (λ e. omega (arith, sound e .below)))
+returns-3 c = sym (refuted _ (λ e. omega (arith, sound e .below, c .before .capacity .ensures)))
 
 work-sound-requires : tie.Need-work-sound-requires
 work-sound-requires c κs = (settings-right _ (settings-pass (c .before .before .before .before .before)) .wide, in-travel (c .before .before))
 
 returns-4 : tie.Need-returns-4
 returns-4 c =
-    c .work-sound .ensures
+    let q = c .before .before .capacity .ensures in
+    (rw q at (c .work-sound .ensures))
     ∙ same-test (λ t. sound-test (record {
       settings = settings-pass (c .before .before .before .before .before .before);
       in-travel = in-travel (c .before .before .before);
-      below = c .before .if3 .left;
+      below = omega (arith, c .before .if3 .left, q);
       work = t;
     })) (λ t. sound t .work)
 
@@ -58,7 +59,7 @@ sound-spec =
     returns
     inside-requires
     returns-2
-    mul-capacity
+    capacity-requires
     returns-3
     work-sound-requires
     returns-4)

@@ -2,7 +2,6 @@
 use borrow.Author.Needs.{needs}
 use mathlib.Core.Path.{_≡_, sym, _∙_}
 use mathlib.Core.Bool.{true}
-use native.Mathlib.Omega.{arith}
 use borrow.Author.Tests.{not-true, not-false}
 use Rattle.block.specs.Questions.{loadNo}
 use Rattle.work.specs.Work.{isNothing}
@@ -23,7 +22,7 @@ number-is :
     (c : tie.After-load-no)
     → let s = c .before .before .before .before .before .before .before .before .args in
     c .load-no .result ≡ loadNo (capacityOf (s .self .settings)) (s .self .settings .travel) (isNothing (s .self .work)) (s .self .at) (s .b)
-number-is c = rw (c .before .is-nothing .ensures) at (c .load-no .ensures)
+number-is c = rw (c .before .is-nothing .ensures, c .before .before .capacity .ensures) at (c .load-no .ensures)
 
 sound-requires : tie.Need-sound-requires
 sound-requires c κs = search needs
@@ -32,8 +31,8 @@ returns : tie.Need-returns
 unfolding loadOf
 returns c = simp (sym (c .before .sound .ensures) ∙ not-true _ (c .if1 .taken))
 
-mul-load-no : tie.Need-mul-load-no
-mul-load-no c = let r = settings-right _ (sound (record-sound (c .before .before)) .settings) in omega (arith, r .clock-most)
+capacity-requires : tie.Need-capacity-requires
+capacity-requires c κs = sound (record-sound (c .before)) .settings
 
 is-nothing-requires : tie.Need-is-nothing-requires
 is-nothing-requires c κs = search needs
@@ -67,7 +66,7 @@ load-spec =
     (tie.spec
     sound-requires
     returns
-    mul-load-no
+    capacity-requires
     is-nothing-requires
     load-no-requires
     returns-2

@@ -2,11 +2,9 @@
 use borrow.Author.Needs.{needs}
 use mathlib.Core.Path.{_≡_, sym, _∙_}
 use mathlib.Core.Bool.{true, false}
-use native.Mathlib.Omega.{arith}
 use borrow.Author.Tests.{not-true, not-false}
 use Rattle.work.specs.Work.{isNothing}
 use Rattle.machine.specs.Machine.{soundOf}
-use Rattle.settings.specs.laws.Right.{settings-right}
 use Rattle.machine.specs.laws.Sound.{sound, running}
 use Rattle.machine.specs.laws.Run.{run-refused, run-idle, run-held, run-works}
 use denote.Ref.{now}
@@ -35,11 +33,11 @@ returns-2 c = run-idle _ _ _ (record-sound (c .before .before)) (sym (c .before 
 returns-3 : tie.Need-returns-3
 returns-3 c = run-held _ _ _ (record-sound (c .before .before .before)) (busy (c .before)) (c .if3 .taken)
 
-mul-run-work : tie.Need-mul-run-work
-mul-run-work c = let r = settings-right _ (sound (record-sound (c .before .before .before .before)) .settings) in omega (arith, r .clock-most)
+capacity-requires : tie.Need-capacity-requires
+capacity-requires c κs = sound (record-sound (c .before .before .before)) .settings
 
 run-work-requires : tie.Need-run-work-requires
-run-work-requires c κs = running (sound (record-sound (c .before .before .before .before .before))) (busy (c .before .before .before))
+run-work-requires c κs = rw (c .before .capacity .ensures) (running (sound (record-sound (c .before .before .before .before .before))) (busy (c .before .before .before)))
 
 report-of-requires : tie.Need-report-of-requires
 report-of-requires c κs = search needs
@@ -53,10 +51,11 @@ same-length c = search needs
 returns-4 : tie.Need-returns-4
 returns-4 c =
     let w = c .before .before .before .before .before .before in
+    let ran = rw (w .before .before .capacity .ensures) at (w .run-work .ensures) in
     let e = w .before .before .before in
     let s = e .before .before .before .before .before .before .before .before .args in
     rw (c .before .report-of .ensures, c .moved .ensures)
-    (run-works (s .self) (s .budget) (now (s .out)) (record-sound (e .before .before .before)) (busy (e .before)) (e .if3 .left) (w .run-work .ensures .0) (w .run-work .ensures .1))
+    (run-works (s .self) (s .budget) (now (s .out)) (record-sound (e .before .before .before)) (busy (e .before)) (e .if3 .left) (ran .0) (ran .1))
 
 pub run-spec : {M : Type 1} → statement M
 run-spec =
@@ -67,7 +66,7 @@ run-spec =
     is-nothing-requires
     returns-2
     returns-3
-    mul-run-work
+    capacity-requires
     run-work-requires
     report-of-requires
     moved-requires

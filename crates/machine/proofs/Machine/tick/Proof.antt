@@ -2,12 +2,11 @@
 use borrow.Author.Needs.{needs}
 use mathlib.Core.Path.{_≡_, sym, _∙_}
 use mathlib.Core.Bool.{true}
-use native.Mathlib.Omega.{arith}
 use borrow.Author.Tests.{not-true, not-false}
 use Rattle.machine.specs.Machine.{soundOf}
 use Rattle.machine.specs.Calls.{tickOf}
-use Rattle.settings.specs.laws.Right.{settings-right}
 use Rattle.machine.specs.laws.Sound.{sound, ready}
+use Rattle.machine.specs.laws.Calls.{tick-works}
 use Rattle.machine.proofs.Machine.tick.Statement.{statement}
 use Rattle.machine.proofs.Machine.tick.Tie as tie
 
@@ -33,8 +32,8 @@ returns-3 : tie.Need-returns-3
 unfolding tickOf
 returns-3 c = simp (record-sound (c .before .before .before), c .before .before .if2 .left, sym (c .before .is-nothing .ensures) ∙ c .if3 .taken)
 
-mul-work-tick : tie.Need-mul-work-tick
-mul-work-tick c = let r = settings-right _ (sound (record-sound (c .before .before .before .before)) .settings) in omega (arith, r .clock-most)
+capacity-requires : tie.Need-capacity-requires
+capacity-requires c κs = sound (record-sound (c .before .before .before)) .settings
 
 work-tick-requires : tie.Need-work-tick-requires
 work-tick-requires c κs = ready (sound (record-sound (c .before .before .before .before)))
@@ -43,10 +42,11 @@ moved-requires : tie.Need-moved-requires
 moved-requires c κs = search needs
 
 returns-4 : tie.Need-returns-4
-unfolding tickOf
 returns-4 c =
     let e = c .before .before .before .before in
-    simp (c .moved .ensures, c .before .before .work-tick .ensures, record-sound (e .before .before .before), e .before .before .if2 .left, sym (e .before .is-nothing .ensures) ∙ e .if3 .left)
+    let advance = rw (c .before .before .before .capacity .ensures) at (c .before .before .work-tick .ensures) in
+    rw (c .moved .ensures)
+    (tick-works _ (record-sound (e .before .before .before)) (e .before .before .if2 .left) (sym (e .before .is-nothing .ensures) ∙ e .if3 .left) advance)
 
 pub tick-spec : {M : Type 1} → statement M
 tick-spec =
@@ -57,7 +57,7 @@ tick-spec =
     returns-2
     is-nothing-requires
     returns-3
-    mul-work-tick
+    capacity-requires
     work-tick-requires
     moved-requires
     returns-4)
