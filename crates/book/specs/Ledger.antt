@@ -7,9 +7,11 @@ use Rattle.plane.specs.declared.point.Point.{Point}
 use Rattle.plane.specs.declared.travel.Travel.{Travel}
 use Rattle.divider.specs.Divider.{endTick}
 use Rattle.block.specs.declared.Block.{Block}
-use Rattle.block.specs.Block.{blockCycles}
+use Rattle.block.specs.declared.Path.{Path}
+use Rattle.block.specs.Block.{cyclesAlong, blockCycles}
 use Rattle.book.specs.Book.{InWork, Book, Call, Reply, entry}
 use Rattle.book.specs.Sums.{workingTicks}
+use Rattle.book.specs.Bounds.{EndsOn}
 
 -- in work; ended, with the point that its last working tick left; or stopped: "A block is stopped if a stop dropped it."
 pub data Fate : Type 0 where
@@ -90,3 +92,11 @@ Right q0 a = RightFate q0 a (a .fate)
 abbrev pub Every : (Account → Type 0) → List Account → Type 0
 Every P [] = Unit {0}
 Every P (a ∷ older) = P a × Every P older
+
+-- 01, Feed divider: "A block of k cycles (q for a line, the number of visited points for an arc)"
+abbrev pub CountedAlong : (start : Point) → Block → Path → Type 0
+CountedAlong start b Path.Line = Unit {0}
+CountedAlong start b (Path.Arc turn centre) = EndsOn start (b .end) turn centre (cyclesAlong start b (Path.Arc turn centre))
+
+abbrev pub Counted : Account → Type 0
+Counted a = CountedAlong (a .start) (a .block) (a .block .path)

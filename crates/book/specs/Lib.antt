@@ -1,6 +1,6 @@
--- To be believed: Book, Sums, Ledger, Bounds. Proved of them: laws.
+-- To be believed: Book, Bounds, Sums, Ledger. Proved of them: laws.
 pub mod Book
+pub mod Bounds
 pub mod Sums
 pub mod Ledger
-pub mod Bounds
 pub mod laws

@@ -6,6 +6,7 @@ pub mod Sound
 pub mod Here
 pub mod Stretch
 pub mod Call
+pub mod Counts
 pub mod Bounds
 pub mod Sums
 pub mod Ledger

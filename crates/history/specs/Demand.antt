@@ -3,17 +3,18 @@
 use mathlib.Core.Path.{_≡_}
 use mathlib.Core.List.{List, []}
 use Prim.Native.Nat.{_+_, _*_}
+use Rattle.plane.specs.Byte.{codeX, codeY}
 use Rattle.settings.specs.declared.Settings.{Settings}
 use Rattle.machine.specs.declared.Machine.{Machine}
 use Rattle.machine.specs.declared.Answered.{Answered}
 use Rattle.settings.specs.Settings.{capacityOf}
 use Rattle.book.specs.Book.{Book, Call, Reply, freshBook, replies, closing}
 use Rattle.book.specs.Bounds.{OnWork}
-use Rattle.book.specs.Ledger.{Right, Every, ledger}
-use Rattle.book.specs.Sums.{codeX, codeY, pulsesSent, cyclesSince, feedsSince}
+use Rattle.book.specs.Ledger.{Right, Counted, Every, ledger}
+use Rattle.book.specs.Sums.{pulsesSent, cyclesSince, feedsSince}
 use Rattle.history.specs.Agree.{workOf}
 use Rattle.history.specs.Contracts.{Makes}
-use Rattle.history.specs.History.{History}
+use Rattle.history.specs.History.{History, HasHistory}
 
 -- the book after the calls cs of a machine with the settings s
 abbrev pub bookAfter : Settings → List Call → Book
@@ -29,11 +30,13 @@ pub record AsDemanded (s : Settings) (cs : List Call) (rs : List Reply) (m : Mac
   pub remainder : m .remainder ≡ bookAfter s cs .remainder
   pub work : m .work ≡ workOf (bookAfter s cs .work)
   -- "On a line the point is at most half a pulse per axis from the exact point for the cycles done, and its squared distance from the line is at most
-  -- one half. On an arc it is less than half a pulse from the circle."
+  -- one half. On an arc it is less than half a pulse from the circle." And it is the point that the arc's walk has reached after the cycles done.
   pub bounds : OnWork (m .at) (bookAfter s cs .work)
   -- "A block not stopped has ended exactly when it has had the working ticks that the feed gives; the last of them leaves the point on the block's
   -- commanded end."
   pub blocks : Every (Right (capacityOf s)) (ledger (capacityOf s) (s .travel) [] freshBook cs)
+  -- the cycles by which the feed gives an arc's ticks are those of its walk to the end
+  pub counts : Every Counted (ledger (capacityOf s) (s .travel) [] freshBook cs)
   -- "What was done adds up: pulses sent on each axis since the machine was made sum to the point,"
   pub pulses-x : pulsesSent codeX rs ≡ m .at .x
   pub pulses-y : pulsesSent codeY rs ≡ m .at .y
@@ -46,3 +49,7 @@ EveryHistory =
     (asked : Settings) (made : Answered) → Makes asked made →
     (cs : List Call) (rs : List Reply) (m : Machine) → History (made .machine) cs rs m →
     AsDemanded (made .machine .settings) cs rs m
+
+-- "For every list ..": there is none that this leaves out, from whatever record
+abbrev pub EveryList : Type 0
+EveryList = (m : Machine) (cs : List Call) → HasHistory m cs

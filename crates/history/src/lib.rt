@@ -1,6 +1,1 @@
-// Histories of calls. The function does nothing: its contract is demand 3, so that the check names it as proved.
-ghost use Rattle.history.specs.Demand.{EveryHistory};
-
-pub fn every_history()
-    ensures { λ _. ⌜ EveryHistory ⌝ }
-{}
+// Histories of calls: definitions and laws, no code. Crate demands names what is proved of them.

@@ -1,5 +1,5 @@
 -- 01, "Pulses worked by hand": the starred rows, each as document 01 has it, and what it is for a row to hold.
-use mathlib.Core.Bool.{Bool, true, false, _&&_, not, Bool·beq}
+use mathlib.Core.Bool.{Bool, true, false, _&&_, Bool·beq}
 use mathlib.Core.List.{List, [], _∷_}
 use Prim.Native.Nat.{ℕ, zero, suc}
 use lib.Dec.{eqb}
@@ -19,7 +19,13 @@ use Rattle.circle.specs.Count.{cyclesOf as cycles}
 use Rattle.divider.specs.Divider.{endTick}
 use Rattle.arc.specs.declared.arc.Arc.{Arc}
 use Rattle.arc.specs.Arc.{arcAfter, arcCycles}
-use Rattle.line.specs.Line.{cyclesOf, pointOf, differ}
+use Rattle.line.specs.Line.{cyclesOf, pointOf}
+use Rattle.block.specs.declared.Block.{Block}
+use Rattle.block.specs.declared.Path.{Path}
+use Rattle.settings.specs.declared.Settings.{Settings}
+use Rattle.machine.specs.declared.Answer.{Answer}
+use Rattle.machine.specs.Machine.{freshOf}
+use Rattle.machine.specs.Calls.{loadOf}
 
 abbrev pub at : (x y : ℤ) → Point
 at x y = record { x = x; y = y }
@@ -27,8 +33,8 @@ at x y = record { x = x; y = y }
 pub data Row : Type 0 where
   -- a line of these increments takes q cycles, and after each it is at the next of the points, seen from its start
   line : (a b : ℤ) (q : ℕ) (points : List Point) → Row
-  -- to a line of these increments question 13 says no
-  noLine : (a b : ℤ) → Row
+  -- load of this block into a fresh machine with this upper X bound, its other settings standard, answers this number; 0 where it accepts it
+  load : (upper : ℕ) → Block → (number : ℕ) → Row
   -- an arc of N from a point to a point, seen from the centre, visits these points and takes as many cycles as they are
   arc : (N : ℕ) (turn : Turn) (start end : Offset) (visited : List Offset) → Row
   -- a full turn of N from a point takes so many cycles
@@ -65,9 +71,26 @@ visits N turn start (suc n) c = afterOf N turn start c ∷ visits N turn start n
 abbrev pub widest : Range
 widest = record { lower = negsuc 999999; upper = pos 1000000 }
 
+-- the number of a refusal, else 0
+abbrev pub numberOf : Answer → ℕ
+numberOf Answer.Done = 0
+numberOf (Answer.Width bits) = 0
+numberOf (Answer.Refused number) = number
+
+-- p 50, w 5,000 and the widest travel but for this upper X bound
+abbrev pub boundedBy : (upper : ℕ) → Settings
+boundedBy upper = record { scale = 50; clock = 5000; travel = record { x = record { lower = widest .lower; upper = pos upper }; y = widest } }
+
+-- blocks with feed 1
+abbrev pub lineTo : (end : Point) → Block
+lineTo end = record { path = Path.Line; end = end; feed = 1 }
+
+abbrev pub arcTo : Turn → (centre : Offset) (end : Point) → Block
+arcTo turn centre end = record { path = Path.Arc turn centre; end = end; feed = 1 }
+
 unfoldable pub holds : Row → Bool
 holds (line a b q ps) = eqb (cyclesOf (at (pos 0) (pos 0)) (at a b)) q && same (points (at a b) q 1) ps
-holds (noLine a b) = not (differ (at (pos 0) (pos 0)) (at a b))
+holds (load upper b number) = eqb (numberOf (loadOf (freshOf (boundedBy upper)) b .answer)) number
 holds (arc N turn start end ps) = let k = cycles N turn start end in eqb k (length ps) && sameSeen (visits N turn start k 1) ps
 holds (fullTurn N turn start k) = eqb (cycles N turn start start) k
 holds (endTest N end F accepted) = equalZ (excess N end) F && Bool·beq (onCircle N end) accepted
@@ -92,7 +115,7 @@ table =
     -- "Line (3, 4): (1, 1), (1, 2), (2, 2), (2, 3), (3, 4)."
     ∷ line (pos 3) (pos 4) 5 (at (pos 1) (pos 1) ∷ at (pos 1) (pos 2) ∷ at (pos 2) (pos 2) ∷ at (pos 2) (pos 3) ∷ at (pos 3) (pos 4) ∷ [])
     -- "Line (0, 0): 13."
-    ∷ noLine (pos 0) (pos 0)
+    ∷ load 1000000 (lineTo (at (pos 0) (pos 0))) 13
     -- "N 25 from (5, 0) kind 3 to (0, 5), seen from the centre: (5, 1), (5, 2), (4, 3), (3, 4), (2, 5), (1, 5), (0, 5); seven cycles, as source 003's table."
     ∷ arc 25 Counterclockwise (offset (pos 5) (pos 0)) (offset (pos 0) (pos 5))
     (offset (pos 5) (pos 1) ∷ offset (pos 5) (pos 2) ∷ offset (pos 4) (pos 3) ∷ offset (pos 3) (pos 4) ∷ offset (pos 2) (pos 5) ∷ offset (pos 1) (pos 5) ∷ offset (pos 0) (pos 5) ∷ [])
@@ -104,9 +127,17 @@ table =
     -- "N 2: end (0, 1) has F -1, accepted; (0, 2) has F 2, gives 15."
     ∷ endTest 2 (offset (pos 0) (pos 1)) (negsuc 0) true
     ∷ endTest 2 (offset (pos 0) (pos 2)) (pos 2) false
+    -- as loads at (0, 0), which the centre (-1, -1) sees at (1, 1)
+    ∷ load 1000000 (arcTo Counterclockwise (offset (negsuc 0) (negsuc 0)) (at (negsuc 0) (pos 0))) 0
+    ∷ load 1000000 (arcTo Counterclockwise (offset (negsuc 0) (negsuc 0)) (at (negsuc 0) (pos 1))) 15
     -- "From (0, 0), I 0, J 5, kind 3, to (0, 10): upper X bound 5 accepted, 14 cycles; bound 4 gives 16."
     ∷ bounded halfTurn (at (pos 0) (pos 0)) 14 5 true
     ∷ bounded halfTurn (at (pos 0) (pos 0)) 14 4 false
+    ∷ load 5 (arcTo Counterclockwise (offset (pos 0) (pos 5)) (at (pos 0) (pos 10))) 0
+    ∷ load 4 (arcTo Counterclockwise (offset (pos 0) (pos 5)) (at (pos 0) (pos 10))) 16
+    -- a clockwise arc that is not a full turn: the first one back
+    ∷ arc 25 Clockwise (offset (pos 0) (pos 5)) (offset (pos 5) (pos 0))
+    (offset (pos 1) (pos 5) ∷ offset (pos 2) (pos 5) ∷ offset (pos 3) (pos 4) ∷ offset (pos 4) (pos 3) ∷ offset (pos 5) (pos 2) ∷ offset (pos 5) (pos 1) ∷ offset (pos 5) (pos 0) ∷ [])
     -- "q0 300,000, r 0, k 1: f 150,000 ends on tick 2, 149,999 on tick 3."
     ∷ ends 300000 150000 0 1 2
     ∷ ends 300000 149999 0 1 3

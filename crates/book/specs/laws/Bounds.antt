@@ -1,19 +1,26 @@
 -- Demand 3's bounds hold at every sound book.
+use mathlib.Core.Path.{subst, sym}
 use mathlib.Core.List.{List}
 use Prim.Native.Nat.{ℕ}
 use Rattle.plane.specs.declared.point.Point.{Point}
 use Rattle.plane.specs.declared.travel.Travel.{Travel}
+use Rattle.circle.specs.Next.{Walk}
+use Rattle.circle.specs.laws.Circle.{on-circle-to}
+use Rattle.circle.specs.laws.Walk.{walk-of}
 use Rattle.line.specs.laws.Cycles.{cycles-some}
 use Rattle.line.specs.laws.Bounds.{half-pulse-x, half-pulse-y, near}
-use Rattle.arc.specs.laws.Step.{after-within}
+use Rattle.arc.specs.declared.arc.Arc.{Arc}
+use Rattle.arc.specs.Centre.{seenFrom}
+use Rattle.arc.specs.laws.Step.{after-within, seen-after}
 use Rattle.block.specs.declared.Path.{Path}
 use Rattle.block.specs.Block.{arcOf, pointAlong, blockPoint}
 use Rattle.book.specs.Book.{Job, InWork, Book, Call, freshBook, closing}
 use Rattle.book.specs.Bounds.{OnPath, OnWork, InBounds}
-use Rattle.book.specs.laws.Way.{PathRight}
 use Rattle.book.specs.laws.Settings.{SettingsRight}
+use Rattle.book.specs.laws.Way.{PathRight}
 use Rattle.book.specs.laws.Sound.{JobSound, WorkSound, Sound}
 use Rattle.book.specs.laws.Call.{history-sound}
+use Rattle.book.specs.laws.Counts.{counted-along}
 
 module _ (q0 : ℕ) (t : Travel) where
   path-bounds : (j : Job) (p : Path) → PathRight t (j .start) (j .block) p → OnPath j (pointAlong (j .start) (j .block) p (j .done)) p
@@ -22,8 +29,21 @@ module _ (q0 : ℕ) (t : Travel) where
       let start = j .start in
       let end = j .block .end in
       let some = cycles-some start end (r .apart) in
-      record { half-x = half-pulse-x start end some (j .done); half-y = half-pulse-y start end some (j .done); near = near start end some (j .done) }
-  path-bounds j (Path.Arc turn centre) r = after-within (arcOf (j .start) (j .block) turn centre) (j .start) (record { on = r .at .on; end-on = r .at .end-on }) (j .done)
+      record {
+        half-x = half-pulse-x start end some (j .done);
+        half-y = half-pulse-y start end some (j .done);
+        near =
+            near start end some (j .done);
+      }
+  path-bounds j (Path.Arc turn centre) r =
+      let a = arcOf (j .start) (j .block) turn centre in
+      let here = on-circle-to (a .square) (seenFrom (a .centre) (j .start)) (r .at .on) .circle in
+      record {
+        near = after-within a (j .start) (record { on = r .at .on; end-on = r .at .end-on }) (j .done);
+        walk = subst (Walk (a .square) turn (seenFrom (a .centre) (j .start)) (j .done)) (sym (seen-after a (j .start) (j .done)))
+            (walk-of turn (seenFrom (a .centre) (j .start)) (j .done) here);
+        ends = counted-along t (j .start) (j .block) (Path.Arc turn centre) r;
+      }
 
   job-bounds : (at : Point) (j : Job) → JobSound q0 t at j → OnPath j at (j .block .path)
   unfolding blockPoint

@@ -31,7 +31,7 @@ machineAfter m Call.Hold = holdOf m .machine
 machineAfter m Call.Release = releaseOf m .machine
 machineAfter m Call.Stop = stopOf m .machine
 
-keeps : (m : Machine) (call : Call) → soundOf m ≡ true → soundOf (machineAfter m call) ≡ true
+pub keeps : (m : Machine) (call : Call) → soundOf m ≡ true → soundOf (machineAfter m call) ≡ true
 keeps m (Call.Load b) e = load-keeps m e b
 keeps m Call.Tick e = tick-keeps m e
 keeps m Call.Hold e = hold-keeps m e

@@ -1,4 +1,4 @@
--- Every list of calls has a history from every record, so the claim is not empty.
+-- Every list of calls has a history from every record: each call's contract is an equation, which its definition meets.
 use mathlib.Core.Path.{refl, subst}
 use mathlib.Core.List.{List, [], _∷_}
 use Prim.Native.Nat.{ℕ}
@@ -9,17 +9,12 @@ use Rattle.run.specs.Run.{written}
 use Rattle.machine.specs.declared.Machine.{Machine}
 use Rattle.machine.specs.Calls.{loadOf, tickOf, holdOf, releaseOf, stopOf}
 use Rattle.machine.specs.Run.{runOf}
-use Rattle.book.specs.Book.{Call, Reply}
+use Rattle.book.specs.Book.{Call}
 use Rattle.history.specs.Reply.{runReply}
-use Rattle.history.specs.History.{History}
+use Rattle.history.specs.History.{History, HasHistory}
 
-pub record Some (m : Machine) (cs : List Call) : Type 0 where
-  pub replies : List Reply
-  pub last : Machine
-  pub history : History m cs replies last
-
--- at any lifetime, and any buffer's pointer
-pub some-history : Lfts 1 → RefT (List ℕ) → (cs : List Call) (m : Machine) → Some m cs
+-- at any lifetime, and with any buffer's pointer
+some-history : Lfts 1 → RefT (List ℕ) → (cs : List Call) (m : Machine) → HasHistory m cs
 some-history κs p [] m = record { replies = []; last = m; history = History.ends }
 some-history κs p (Call.load b ∷ cs) m =
     let s = some-history κs p cs (loadOf m b .machine) in
@@ -48,3 +43,6 @@ some-history κs p (Call.release ∷ cs) m =
 some-history κs p (Call.stop ∷ cs) m =
     let s = some-history κs p cs (stopOf m .machine) in
     record { replies = _; last = s .last; history = History.stops (stopOf m) refl (s .history) }
+
+pub every-list : (m : Machine) (cs : List Call) → HasHistory m cs
+every-list m cs = some-history ([], tt) (record { ptr = (0, 0); name = 0; now = [] }) cs m

@@ -1,0 +1,103 @@
+-- Demand 2, arcs: "The points of an accepted arc are the least-error points of its circle, in order of angle."
+use mathlib.Core.Path.{_≡_}
+use mathlib.Core.Bool.{true, false}
+use mathlib.Core.Logic.{_≢_, _↔_}
+use mathlib.Core.List.{List}
+use Prim.Native.Nat.{ℕ, _+_, _-_, _*_, _≤_, _<_}
+use lib.IntN.{ℤ, pos, natAbs, _+ℤ_, _-ℤ_, _*ℤ_}
+use lib.Signed.{_<ℤ_}
+use Rattle.whole.specs.Width.{widthOf}
+use Rattle.plane.specs.declared.point.Point.{Point}
+use Rattle.plane.specs.declared.pulse.Pulses.{Pulses}
+use Rattle.plane.specs.Pulse.{shiftedOf}
+use Rattle.plane.specs.Byte.{cycleByte}
+use Rattle.circle.specs.declared.plane.Offset.{Offset}
+use Rattle.circle.specs.declared.plane.Turn.{Turn}
+use Rattle.circle.specs.Circle.{square, Circle}
+use Rattle.circle.specs.Next.{Next, Walk, Ends}
+use Rattle.circle.specs.Step.{offset}
+use Rattle.arc.specs.declared.arc.Arc.{Arc}
+use Rattle.arc.specs.Centre.{seenFrom, backFrom}
+use Rattle.block.specs.declared.Block.{Block}
+use Rattle.block.specs.declared.Path.{Path}
+use Rattle.block.specs.Block.{squareOf}
+use Rattle.work.specs.declared.Work.{Work}
+use Rattle.work.specs.Work.{cyclesLeft}
+use Rattle.settings.specs.Settings.{capacityOf}
+use Rattle.machine.specs.declared.Machine.{Machine}
+use Rattle.machine.specs.declared.Answer.{Answer}
+use Rattle.machine.specs.declared.Answered.{Answered}
+use Rattle.machine.specs.declared.Tick.{Tick}
+use Rattle.machine.specs.declared.Ticked.{Ticked}
+use Rattle.machine.specs.Machine.{movedOf}
+use Rattle.book.specs.Sums.{cyclesMarked}
+use Rattle.history.specs.Contracts.{Loads, Ticks}
+use Rattle.demands.specs.Asked.{AllYes}
+use Rattle.demands.specs.Sound.{Sound}
+use Rattle.demands.specs.Questions.{loadQuestions}
+use Rattle.demands.specs.Runs.{TicksTo}
+
+-- ---- least error
+
+-- "That is the nearest point along the longer coordinate; no ties occur." x is the longer coordinate. The circle meets the line of points
+-- with this y at ±c, c² = N - y², and c has the sign of x. Every other whole z lies farther from c than x does: c is on x's side of the
+-- middle (x + z) / 2, and (x + z)² beside 4 c² tells on which side that is.
+pub record NearestAlong (N : ℕ) (x y : ℤ) : Type 0 where
+  -- the circle does meet that line, on either side of y's axis
+  pub meets : square y <ℤ pos N
+  -- z farther out than x: the middle lies outside the circle
+  pub outside : (z : ℤ) → pos 0 <ℤ (x *ℤ (z -ℤ x)) → (pos 4 *ℤ pos N) <ℤ (square (x +ℤ z) +ℤ (pos 4 *ℤ square y))
+  -- z farther in, also beyond y's axis: the middle lies inside the circle, or beyond that axis
+  pub inside : (z : ℤ) → (x *ℤ (z -ℤ x)) <ℤ pos 0 → pos 0 <ℤ (x *ℤ (x +ℤ z))
+      → (square (x +ℤ z) +ℤ (pos 4 *ℤ square y)) <ℤ (pos 4 *ℤ pos N)
+
+pub record LeastError (N : ℕ) (p : Offset) : Type 0 where
+  pub along-x : natAbs (p .y) ≤ natAbs (p .x) → NearestAlong N (p .x) (p .y)
+  pub along-y : natAbs (p .x) ≤ natAbs (p .y) → NearestAlong N (p .y) (p .x)
+
+-- ---- an accepted arc
+
+-- "(I, J) is the centre seen from the start; N = I² + J²."
+abbrev pub arcFrom : (start : Point) → Block → Turn → (centre : Offset) → Arc
+arcFrom start b turn centre =
+    record { centre = backFrom start centre; square = squareOf centre; turn = turn; end = b .end; feed = b .feed }
+
+pub record ArcLoaded (m : Machine) (b : Block) (turn : Turn) (centre : Offset) (r : Answered) : Type 0 where
+  -- it comes into work at the point
+  pub machine : r .machine ≡ movedOf m (m .at) (m .remainder) (Work.Arc (arcFrom (m .at) b turn centre))
+  -- "the fewest bits that hold .. for an arc its m on an axis": such a circle point there is, and only one
+  pub axis : ℕ
+  pub on-axis : (n : ℕ) → Circle (squareOf centre) (offset (pos n) (pos 0)) ↔ (n ≡ axis)
+  pub width : r .answer ≡ Answer.Width (widthOf axis)
+
+-- ---- a tick
+
+-- a cycle leads to the paper's next point, and its pulses tell the way
+pub record ArcCycle (m : Machine) (a : Arc) (r : Ticked) : Type 0 where
+  pub next : Next (a .square) (a .turn) (seenFrom (a .centre) (m .at)) (seenFrom (a .centre) (r .machine .at))
+  pub pulses : Pulses
+  pub small : (pulses .x ≤ 2) × (pulses .y ≤ 2)
+  pub moved : r .machine .at ≡ shiftedOf (m .at) pulses
+  pub remainder : r .machine .remainder + capacityOf (m .settings) ≡ m .remainder + a .feed
+  -- ".. one a cycle, to the end."
+  pub going : r .machine .at ≢ a .end → (r .tick ≡ Tick.Byte (cycleByte pulses false)) × (r .machine .work ≡ Work.Arc a)
+  pub last : r .machine .at ≡ a .end → (r .tick ≡ Tick.Byte (cycleByte pulses true)) × (r .machine .work ≡ Work.Nothing)
+
+pub record ArcTick (m : Machine) (a : Arc) (r : Ticked) : Type 0 where
+  pub waits : m .remainder + a .feed < capacityOf (m .settings)
+      → r ≡ record { tick = Tick.Byte 0; machine = movedOf m (m .at) (m .remainder + a .feed) (Work.Arc a) }
+  pub cycles : capacityOf (m .settings) ≤ m .remainder + a .feed → ArcCycle m a r
+
+pub record EveryArc : Type 0 where
+  -- "a circle point .. is the nearest point along the longer coordinate", and every such point but the centre is one
+  pub least-error : (N : ℕ) (p : Offset) → Circle N p ↔ ((1 ≤ natAbs (p .x) + natAbs (p .y)) × LeastError N p)
+  pub load : (m : Machine) (b : Block) (r : Answered) → Loads m b r → AllYes (loadQuestions m b)
+      → (turn : Turn) (centre : Offset) → b .path ≡ Path.Arc turn centre → ArcLoaded m b turn centre r
+  pub tick : (m : Machine) (a : Arc) (r : Ticked) → Ticks m r → Sound m → m .work ≡ Work.Arc a → m .held ≡ false → ArcTick m a r
+  -- the cycles left, which the feed divider counts, are those of the paper's walk to the end
+  pub left : (m : Machine) (a : Arc) → Sound m → m .work ≡ Work.Arc a
+      → Ends (a .square) (a .turn) (seenFrom (a .centre) (m .at)) (seenFrom (a .centre) (a .end)) (cyclesLeft (m .at) (m .work))
+  -- "The arc visits the circle points after the start in order of angle, one a cycle": after ticks whose bytes mark c cycles the walk has
+  -- come c points on
+  pub walk : (m m′ : Machine) (a : Arc) (bytes : List ℕ) → Sound m → m .work ≡ Work.Arc a → TicksTo m bytes m′
+      → Walk (a .square) (a .turn) (seenFrom (a .centre) (m .at)) (cyclesMarked bytes) (seenFrom (a .centre) (m′ .at))

@@ -1,0 +1,14 @@
+-- To be believed, in this order: Asked, Sound, Questions, Answers and Records (demand 1); Lines, Arcs, Runs, Texts, TickBytes (demand 2);
+-- FromC. Demand 3 is in crate history. Proved of them: laws.
+pub mod Asked
+pub mod Sound
+pub mod Questions
+pub mod Answers
+pub mod Records
+pub mod Runs
+pub mod Lines
+pub mod Arcs
+pub mod Texts
+pub mod TickBytes
+pub mod FromC
+pub mod laws

@@ -1,0 +1,70 @@
+-- Demand 2, lines: "The pulses of an accepted line are those of Koren's DDA with its register sized to the move and half filled."
+use mathlib.Core.Path.{_≡_}
+use mathlib.Core.Bool.{false}
+use Prim.Native.Nat.{ℕ, _+_, _-_, _≤_, _<_, max}
+use lib.Dec.{eqb}
+use lib.IntN.{natAbs}
+use Rattle.whole.specs.Sign.{isNegative}
+use Rattle.whole.specs.Width.{widthOf}
+use Rattle.plane.specs.declared.point.Point.{Point}
+use Rattle.plane.specs.declared.pulse.Pulses.{Pulses}
+use Rattle.plane.specs.Pulse.{codeOf, shiftedOf}
+use Rattle.plane.specs.Byte.{cycleByte}
+use Rattle.line.specs.declared.line.Line.{Line}
+use Rattle.line.specs.Line.{incrementX, incrementY, cyclesOf, lineOf}
+use Rattle.line.specs.Register.{pulsesOf}
+use Rattle.block.specs.declared.Block.{Block}
+use Rattle.block.specs.declared.Path.{Path}
+use Rattle.work.specs.declared.Work.{Work}
+use Rattle.work.specs.Work.{following}
+use Rattle.settings.specs.Settings.{capacityOf}
+use Rattle.machine.specs.declared.Machine.{Machine}
+use Rattle.machine.specs.declared.Answer.{Answer}
+use Rattle.machine.specs.declared.Answered.{Answered}
+use Rattle.machine.specs.declared.Tick.{Tick}
+use Rattle.machine.specs.declared.Ticked.{Ticked}
+use Rattle.machine.specs.Machine.{movedOf}
+use Rattle.history.specs.Contracts.{Loads, Ticks}
+use Rattle.demands.specs.Asked.{AllYes}
+use Rattle.demands.specs.Sound.{Sound}
+use Rattle.demands.specs.Questions.{loadQuestions}
+
+-- the pulses of cycle c + 1: each axis has a register of capacity q, half filled, to which each cycle adds the axis's increment
+abbrev pub registerPulses : (start end : Point) (c : ℕ) → Pulses
+registerPulses start end c =
+    let q = cyclesOf start end in
+    record {
+      x = codeOf (pulsesOf q (natAbs (incrementX start end)) c) (isNegative (incrementX start end));
+      y = codeOf (pulsesOf q (natAbs (incrementY start end)) c) (isNegative (incrementY start end));
+    }
+
+-- with one cycle more
+abbrev pub onward : Line → Line
+onward l = record { start = l .start; end = l .end; feed = l .feed; cycles = l .cycles; done = l .done + 1 }
+
+-- a working tick of a record with a line in work
+pub record LineTick (m : Machine) (l : Line) (r : Ticked) : Type 0 where
+  -- "Each working tick .. adds f to the remainder."
+  pub waits : m .remainder + l .feed < capacityOf (m .settings)
+      → r ≡ record { tick = Tick.Byte 0; machine = movedOf m (m .at) (m .remainder + l .feed) (Work.Line l) }
+  -- "If it then reaches or passes q0, q0 is taken off and one cycle is done." The byte tells the registers' pulses, the cycle, and the end
+  -- after q cycles.
+  pub cycles : capacityOf (m .settings) ≤ m .remainder + l .feed
+      → (let pulses = registerPulses (l .start) (l .end) (l .done) in
+      let last = eqb (l .done + 1) (cyclesOf (l .start) (l .end)) in
+      let rest = m .remainder + l .feed - capacityOf (m .settings) in
+      r ≡ record {
+        tick = Tick.Byte (cycleByte pulses last);
+        machine = movedOf m (shiftedOf (m .at) pulses) rest (following last (Work.Line (onward l)));
+      })
+
+pub record EveryLine : Type 0 where
+  -- an accepted line comes into work at the point with no cycle done; "Each load also answers the register width ..: the fewest bits that
+  -- hold the larger of |a|, |b|"
+  pub load : (m : Machine) (b : Block) (r : Answered) → Loads m b r → AllYes (loadQuestions m b) → b .path ≡ Path.Line
+      → r ≡ record {
+        answer = Answer.Width (widthOf (max (natAbs (incrementX (m .at) (b .end))) (natAbs (incrementY (m .at) (b .end)))));
+        machine = movedOf m (m .at) (m .remainder) (Work.Line (lineOf (m .at) (b .end) (b .feed)));
+      }
+  pub tick : (m : Machine) (l : Line) (r : Ticked) → Ticks m r → Sound m → m .work ≡ Work.Line l → m .held ≡ false
+      → LineTick m l r

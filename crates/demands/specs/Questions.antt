@@ -1,0 +1,132 @@
+-- 01, "Questions, and the number when the answer is no": what each call is asked, question by question. 1, 2, 3 and 9 are in Sound.
+use mathlib.Core.Path.{_≡_}
+use mathlib.Core.Bool.{Bool, true, false}
+use mathlib.Core.Logic.{_≢_}
+use mathlib.Core.List.{List}
+use Prim.Native.Nat.{ℕ, _*_, _%_, _≤_}
+use lib.IntN.{natAbs}
+use lib.ListN.{length}
+use Rattle.circle.specs.declared.plane.Offset.{Offset}
+use Rattle.circle.specs.declared.plane.Turn.{Turn}
+use Rattle.circle.specs.Circle.{Circle}
+use Rattle.arc.specs.Centre.{seenFrom, backFrom}
+use Rattle.block.specs.declared.Block.{Block}
+use Rattle.block.specs.declared.Path.{Path}
+use Rattle.block.specs.Block.{squareOf, arcOf}
+use Rattle.work.specs.declared.Work.{Work}
+use Rattle.settings.specs.Settings.{capacityOf}
+use Rattle.machine.specs.declared.Machine.{Machine}
+use Rattle.letters.specs.declared.letter.Letter.{Letter}
+use Rattle.letters.specs.declared.word.Word.{Word}
+use Rattle.letters.specs.declared.word.Words.{Words}
+use Rattle.letters.specs.Word.{wordAt}
+use Rattle.words.specs.declared.line.Line.{Line}
+use Rattle.words.specs.Grammar.{LineOfWords}
+use Rattle.reader.specs.declared.Motion.{Motion}
+use Rattle.reader.specs.declared.Reader.{Reader}
+use Rattle.reader.specs.Reader.{readerAfter, placed, centred, moving, motionKnown, feedKnown, isArc, blockOf}
+use Rattle.reader.specs.TextLine.{still}
+use Rattle.demands.specs.Asked.{Questions, none, question, andThen}
+use Rattle.demands.specs.Sound.{InTravel, FeedRight, VisitsInTravel, Sound}
+
+-- "Any call on a record: is it sound? 9."
+abbrev pub soundQuestion : Machine → Questions → Questions
+soundQuestion m later = question 9 (Sound m) later
+
+-- ---- load
+
+-- "is nothing in work? 10."
+abbrev pub NothingInWork : Machine → Type 0
+NothingInWork m = m .work ≡ Work.Nothing
+
+-- "Is f in 1..q0? 11."
+abbrev pub BlockFeedRight : Machine → Block → Type 0
+BlockFeedRight m b = FeedRight (capacityOf (m .settings)) (b .feed)
+
+-- "Is the end in travel? 12."
+abbrev pub EndInTravel : Machine → Block → Type 0
+EndInTravel m b = InTravel (m .settings .travel) (b .end)
+
+-- "Line: do start and end differ? 13."
+abbrev pub StartAndEndDiffer : Machine → Block → Type 0
+StartAndEndDiffer m b = m .at ≢ b .end
+
+-- "Arc: are I and J within ±1,000,000 and not both 0? 14."
+pub record CentreRight (centre : Offset) : Type 0 where
+  pub x : natAbs (centre .x) ≤ 1000000
+  pub y : natAbs (centre .y) ≤ 1000000
+  pub some : ¬ ((natAbs (centre .x) ≡ 0) × (natAbs (centre .y) ≡ 0))
+
+-- "Is the end a circle point? 15."
+abbrev pub EndOnCircle : Machine → Block → (centre : Offset) → Type 0
+EndOnCircle m b centre = Circle (squareOf centre) (seenFrom (backFrom (m .at) centre) (b .end))
+
+-- "Is every visited point in travel? 16."
+abbrev pub EveryVisitInTravel : Machine → Block → Turn → (centre : Offset) → Type 0
+EveryVisitInTravel m b turn centre = VisitsInTravel (m .settings .travel) (arcOf (m .at) b turn centre) (m .at)
+
+abbrev pub pathQuestions : Machine → Block → Path → Questions
+pathQuestions m b Path.Line = question 13 (StartAndEndDiffer m b) none
+pathQuestions m b (Path.Arc turn centre) =
+    question 14 (CentreRight centre) (question 15 (EndOnCircle m b centre) (question 16 (EveryVisitInTravel m b turn centre) none))
+
+-- "Load, after 9, in this order"
+abbrev pub blockQuestions : Machine → Block → Questions
+blockQuestions m b =
+    question 10 (NothingInWork m) (question 11 (BlockFeedRight m b) (question 12 (EndInTravel m b) (pathQuestions m b (b .path))))
+
+abbrev pub loadQuestions : Machine → Block → Questions
+loadQuestions m b = soundQuestion m (blockQuestions m b)
+
+-- ---- a text line; l is what its bytes mean, k the G and F known after it
+
+-- "No letter twice? 33."
+abbrev pub NoLetterTwice : Words → Type 0
+NoLetterTwice ws = (letter : Letter) → wordAt ws letter .twice ≡ false
+
+-- "Is G 1, 2 or 3? 34."
+abbrev pub MotionRight : Words → Type 0
+MotionRight ws = ws .g .stands ≡ true → (1 ≤ ws .g .magnitude) × (ws .g .magnitude ≤ 3)
+
+-- "Do X, Y, I, J fall on whole pulses? 35." A word is in thousandths of a millimetre, p in pulses per millimetre.
+abbrev pub OnPulse : (p : ℕ) → Word → Type 0
+OnPulse p w = w .magnitude * p % 1000 ≡ 0
+
+pub record OnPulses (p : ℕ) (ws : Words) : Type 0 where
+  pub x : OnPulse p (ws .x)
+  pub y : OnPulse p (ws .y)
+  pub i : OnPulse p (ws .i)
+  pub j : OnPulse p (ws .j)
+
+-- "If one of those four stands, are a G and an F known? 36."
+abbrev pub MotionAndFeedKnown : Reader → Words → Type 0
+MotionAndFeedKnown k ws = moving ws ≡ true → (motionKnown (k .motion) ≡ true) × (feedKnown (k .feed) ≡ true)
+
+-- "Do I or J stand only under G 2 or 3, and does a line under 2 or 3 with X or Y have I or J? 37."
+pub record CentreStands (m : Motion) (ws : Words) : Type 0 where
+  pub only : centred ws ≡ true → isArc m ≡ true
+  pub there : isArc m ≡ true → placed ws ≡ true → centred ws ≡ true
+
+-- "A line without X, Y, I, J makes no block; nor does a straight line to the point where it stands, and then 10 to 13 are not put."
+abbrev pub ifBlock : (moves stays : Bool) → Questions → Questions
+ifBlock true false qs = qs
+ifBlock true true qs = none
+ifBlock false stays qs = none
+
+abbrev pub wordQuestions : Reader → Machine → (bytes : List ℕ) → Line → Questions
+wordQuestions k m bytes l =
+    question 31 (length bytes ≤ 80)
+    (question 32 (LineOfWords bytes)
+    (question 33 (NoLetterTwice (l .words))
+    (question 34 (MotionRight (l .words))
+    (question 35 (OnPulses (m .settings .scale) (l .words))
+    (question 36 (MotionAndFeedKnown k (l .words))
+    (question 37 (CentreStands (k .motion) (l .words)) none))))))
+
+-- "Then load's questions." k is the G and F known before the line.
+abbrev pub lineQuestions : Reader → Machine → (bytes : List ℕ) → Line → Questions
+lineQuestions k m bytes l =
+    let after = readerAfter k (l .words) in
+    let b = blockOf (m .settings .scale) after (l .words) (m .at) in
+    let stays = still (b .end) (m .at) (b .path) in
+    soundQuestion m (andThen (wordQuestions after m bytes l) (ifBlock (moving (l .words)) stays (blockQuestions m b)))

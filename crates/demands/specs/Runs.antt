@@ -1,0 +1,63 @@
+-- Demand 2, runs: "A run does every tick that its budget, buffer and block allow.", for every sound record, made-up ones too.
+use mathlib.Core.Path.{_≡_}
+use mathlib.Core.Bool.{true, false}
+use mathlib.Core.Logic.{_≢_, _↔_}
+use mathlib.Core.List.{List, [], _∷_}
+use Prim.Native.Nat.{ℕ, _≤_, _<_, min}
+use lib.ListN.{length, take, drop}
+use denote.Ref.{RefT, now}
+use contract.Lifetimes.{Lfts}
+use Rattle.work.specs.declared.Work.{Work}
+use Rattle.work.specs.Work.{endOf}
+use Rattle.machine.specs.declared.Machine.{Machine}
+use Rattle.machine.specs.declared.Tick.{Tick}
+use Rattle.machine.specs.declared.Ticked.{Ticked}
+use Rattle.machine.specs.declared.Ran.{Ran}
+use Rattle.finish.specs.Finish.{lastTick}
+use Rattle.book.specs.Book.{Report, Reply}
+use Rattle.history.specs.Contracts.{Ticks, Runs}
+use Rattle.demands.specs.Sound.{Sound}
+use Rattle.demands.specs.Answers.{ranReply}
+
+-- ticks called one by one, each getting the record that the one before returned, answer these bytes and leave the record m′
+pub data TicksTo : Machine → List ℕ → Machine → Type 0 where
+  none : {m : Machine} → TicksTo m [] m
+  one : {m m′ : Machine} {bytes : List ℕ} (r : Ticked) (byte : ℕ) → Ticks m r → r .tick ≡ Tick.Byte byte
+      → TicksTo (r .machine) bytes m′ → TicksTo m (byte ∷ bytes) m′
+
+-- the report of a run that leaves the buffer as new
+abbrev pub Reports : Ran → (new : List ℕ) → Report → Type 0
+Reports r new report = ranReply r new ≡ Reply.ran report (r .ticks) (take (r .ticks) new)
+
+-- a run lent the buffer old, which it leaves as new; `lastTick m` is the working tick on which the block in work ends
+pub record Running (m : Machine) (budget : ℕ) (old new : List ℕ) (r : Ran) : Type 0 where
+  -- "It does the least of its tick budget, the buffer length and the ticks to the block's end"
+  pub ticks : r .ticks ≡ min budget (min (length old) (lastTick m))
+  -- "A run writes tick bytes into a lent buffer": they are its ticks' answers one by one, and it leaves the record that they leave
+  pub bytes : TicksTo m (take (r .ticks) new) (r .machine)
+  -- "later bytes keep their contents"
+  pub later : drop (r .ticks) new ≡ drop (r .ticks) old
+  pub long : length new ≡ length old
+  -- "else ended, spent or full, the first that is true"
+  pub ended : Reports r new Report.ended ↔ (lastTick m ≤ r .ticks)
+  pub spent : Reports r new Report.spent ↔ ((r .ticks < lastTick m) × (budget ≤ r .ticks))
+  pub full : Reports r new Report.full ↔ ((r .ticks < lastTick m) × (r .ticks < budget))
+  -- at the block's end nothing is in work, and the point is the commanded end
+  pub over : lastTick m ≤ r .ticks → (r .machine .work ≡ Work.Nothing) × (r .machine .at ≡ endOf (m .at) (m .work))
+
+-- a run without a tick
+pub record Resting (m : Machine) (old new : List ℕ) (r : Ran) (report : Report) : Type 0 where
+  pub reply : ranReply r new ≡ Reply.ran report 0 []
+  pub machine : r .machine ≡ m
+  pub buffer : new ≡ old
+
+pub record RunOf (m : Machine) (budget : ℕ) (old new : List ℕ) (r : Ran) : Type 0 where
+  -- "It answers idle or held (idle first) with 0 ticks"
+  pub idle : m .work ≡ Work.Nothing → Resting m old new r Report.idle
+  pub held : m .work ≢ Work.Nothing → m .held ≡ true → Resting m old new r Report.held
+  pub works : m .work ≢ Work.Nothing → m .held ≡ false → Running m budget old new r
+
+abbrev pub EveryRun : Type 0
+EveryRun =
+    (κs : Lfts 1) (m : Machine) (budget : ℕ) (out out′ : RefT (List ℕ)) (r : Ran) → Runs κs m budget out out′ r → Sound m
+    → RunOf m budget (now out) (now out′) r

@@ -1,0 +1,122 @@
+-- Demand 2, texts: "A job text means the blocks that document 01 gives it."
+use mathlib.Core.Path.{_≡_}
+use mathlib.Core.Bool.{Bool, true, false}
+use mathlib.Core.Logic.{_↔_}
+use mathlib.Core.List.{List, [], _∷_, _++_}
+use Prim.Native.Nat.{ℕ, _+_, _≤_, _<_}
+use lib.IntN.{pos}
+use lib.ListN.{length, take, drop}
+use denote.Ref.{RefT, now}
+use contract.Lifetimes.{Lfts}
+use Rattle.plane.specs.declared.point.Point.{Point}
+use Rattle.block.specs.declared.Block.{Block}
+use Rattle.work.specs.declared.Work.{Work}
+use Rattle.settings.specs.declared.Settings.{Settings}
+use Rattle.settings.specs.Settings.{capacityOf}
+use Rattle.machine.specs.declared.Machine.{Machine}
+use Rattle.machine.specs.Machine.{freshOf}
+use Rattle.words.specs.declared.line.Line.{Line}
+use Rattle.words.specs.Meaning.{Means}
+use Rattle.reader.specs.declared.Reader.{Reader}
+use Rattle.reader.specs.Reader.{unknown, readerAfter, moving, blockOf}
+use Rattle.reader.specs.TextLine.{still}
+use Rattle.job.specs.declared.Check.{Check}
+use Rattle.job.specs.declared.Filled.{Filled}
+use Rattle.job.specs.Text.{linesOf}
+use Rattle.job.specs.Job.{Made, End, jobOf}
+use Rattle.job.specs.Listing.{jobListing}
+use Rattle.job.specs.Check.{isOver}
+use Rattle.job.proofs.Check.start.Reads as start-reads
+use Rattle.job.proofs.Check.fill.Reads as fill-reads
+use Rattle.demands.specs.Asked.{Questions, andThen, FirstNo, AllYes}
+use Rattle.demands.specs.Sound.{settingsQuestions}
+use Rattle.demands.specs.Questions.{blockQuestions, ifBlock, wordQuestions}
+
+-- ---- one line, read at a point with nothing in work: "Each block is loaded once the one before has ended"
+
+abbrev pub standing : Settings → (at : Point) → Machine
+standing s at = record { settings = s; at = at; held = false; remainder = 0; work = Work.Nothing }
+
+-- the block that the words of a line ask for
+abbrev pub lineBlock : Settings → (at : Point) (known : Reader) → Line → Block
+lineBlock s at k l = blockOf (s .scale) (readerAfter k (l .words)) (l .words) at
+
+-- "A line without X, Y, I, J makes no block; nor does a straight line to the point where it stands"
+abbrev pub isBlock : (moves stays : Bool) → Bool
+isBlock true false = true
+isBlock true true = false
+isBlock false stays = false
+
+abbrev pub makesBlock : Settings → (at : Point) (known : Reader) → Line → Bool
+makesBlock s at k l = let b = lineBlock s at k l in isBlock (moving (l .words)) (still (b .end) at (b .path))
+
+-- 31 to 37, "Then load's questions."
+abbrev pub textQuestions : Settings → (at : Point) (known : Reader) (bytes : List ℕ) → Line → Questions
+textQuestions s at k bytes l =
+    let after = readerAfter k (l .words) in
+    let b = lineBlock s at k l in
+    let stays = still (b .end) at (b .path) in
+    andThen (wordQuestions after (standing s at) bytes l) (ifBlock (moving (l .words)) stays (blockQuestions (standing s at) b))
+
+-- ---- the lines of a text, from number n on, read at a point with a G and an F known, mean these blocks, and end so
+
+pub data TextMeans (s : Settings) : (n : ℕ) (at : Point) (known : Reader) → List (List ℕ) → List Made → End → Type 0 where
+  over : {n : ℕ} {at : Point} {k : Reader} → TextMeans s n at k [] [] End.complete
+  -- "A refused line .."
+  refused : {n : ℕ} {at : Point} {k : Reader} {bytes : List ℕ} {lines : List (List ℕ)} (l : Line) → Means bytes l → (number : ℕ)
+      → FirstNo (textQuestions s at k bytes l) number
+      → TextMeans s n at k (bytes ∷ lines) [] (End.refused n number)
+  -- "G and F count from their own line until changed"
+  nothing : {n : ℕ} {at : Point} {k : Reader} {bytes : List ℕ} {lines : List (List ℕ)} {made : List Made} {end : End} (l : Line)
+      → Means bytes l
+      → AllYes (textQuestions s at k bytes l) → makesBlock s at k l ≡ false
+      → TextMeans s (n + 1) at (readerAfter k (l .words)) lines made end
+      → TextMeans s n at k (bytes ∷ lines) made end
+  block : {n : ℕ} {at : Point} {k : Reader} {bytes : List ℕ} {lines : List (List ℕ)} {made : List Made} {end : End} (l : Line)
+      → Means bytes l
+      → AllYes (textQuestions s at k bytes l) → makesBlock s at k l ≡ true
+      → TextMeans s (n + 1) (lineBlock s at k l .end) (readerAfter k (l .words)) lines made end
+      → TextMeans s n at k (bytes ∷ lines) (record { textLine = n; start = at; block = lineBlock s at k l } ∷ made) end
+
+-- "A fresh machine stands at (0, 0)"; nothing is known before the first line
+abbrev pub LinesMean : Settings → (text : List ℕ) → List Made → End → Type 0
+LinesMean s text made end = TextMeans s 1 (record { x = pos 0; y = pos 0 }) unknown (linesOf text) made end
+
+-- "is the text at most 65,536 bytes (asked once, line 1)? 30."
+pub data MeansJob (s : Settings) (text : List ℕ) : List Made → End → Type 0 where
+  long : 65536 < length text → MeansJob s text [] (End.refused 1 30)
+  read : {made : List Made} {end : End} → length text ≤ 65536 → LinesMean s text made end → MeansJob s text made end
+
+-- ---- the listing, as it is handed out
+
+-- what a fill does to a buffer: later bytes keep their contents, and one that has room gets at least a byte until all is handed out
+pub record Filling (room : ℕ) (old new : List ℕ) (len : ℕ) (over : Bool) : Type 0 where
+  pub fits : len ≤ length old
+  pub later : drop len new ≡ drop len old
+  pub onward : room ≤ length old → over ≡ false → 1 ≤ len
+
+-- the check of a job that begins at this machine
+abbrev pub Starts : Machine → Check → Type 0
+Starts m c = start-reads.Learnt tt (m, tt) c (m, tt)
+
+-- fill, lent the text and the buffer out, may return f and leave the buffer as out′
+abbrev pub FillsCheck : Lfts 2 → Check → (text out out′ : RefT (List ℕ)) → Filled → Type 0
+FillsCheck κs c text out out′ f = fill-reads.Learnt κs (c, (text, (out, tt))) f (c, (text, (out′, tt)))
+
+-- fills of one text, one after the other, into buffers of any length and contents, until all is handed out: the bytes that they give
+pub data Listed (text : List ℕ) : Check → List ℕ → Type 0 where
+  over : {c : Check} → isOver c ≡ true → Listed text c []
+  fill : {c : Check} {bytes : List ℕ} (κs : Lfts 2) (lent out out′ : RefT (List ℕ)) (f : Filled) → now lent ≡ text
+      → FillsCheck κs c lent out out′ f → Listed text (f .check) bytes
+      → Listed text c (take (f .len) (now out′) ++ bytes)
+
+pub record EveryText : Type 0 where
+  -- a text has this meaning and no other
+  pub means : (s : Settings) (text : List ℕ) (made : List Made) (end : End)
+      → MeansJob s text made end ↔ (jobOf s text ≡ record { blocks = made; end = end })
+  -- 160 bytes hold every row
+  pub fill : (κs : Lfts 2) (c : Check) (text out out′ : RefT (List ℕ)) (f : Filled) → FillsCheck κs c text out out′ f
+      → Filling 160 (now out) (now out′) (f .len) (isOver (f .check))
+  -- "The check program": whoever fills until a check that began at a fresh machine is over has the listing of this job, to the byte
+  pub listing : (s : Settings) → AllYes (settingsQuestions s) → (c : Check) → Starts (freshOf s) c → (text bytes : List ℕ)
+      → Listed text c bytes → bytes ≡ jobListing (capacityOf s) (jobOf s text)

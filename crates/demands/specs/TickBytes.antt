@@ -1,0 +1,65 @@
+-- Demand 2, the tick bytes of a job: the answers of its ticks. "Each block is loaded once the one before has ended, remainder kept."
+use mathlib.Core.Path.{_≡_}
+use mathlib.Core.Bool.{true}
+use mathlib.Core.List.{List, [], _∷_, _++_}
+use Prim.Native.Nat.{ℕ}
+use lib.ListN.{length, take}
+use denote.Ref.{RefT, now}
+use contract.Lifetimes.{Lfts}
+use Rattle.work.specs.declared.Work.{Work}
+use Rattle.settings.specs.declared.Settings.{Settings}
+use Rattle.settings.specs.Settings.{capacityOf}
+use Rattle.machine.specs.declared.Machine.{Machine}
+use Rattle.machine.specs.declared.Answered.{Answered}
+use Rattle.machine.specs.Machine.{freshOf}
+use Rattle.book.specs.Sums.{cyclesMarked}
+use Rattle.history.specs.Contracts.{Loads}
+use Rattle.finish.specs.Finish.{lastTick}
+use Rattle.job.specs.Job.{Made, jobOf}
+use Rattle.job.specs.Listing.{allCycles, allTicks}
+use Rattle.tape.specs.declared.Tape.{Tape}
+use Rattle.tape.specs.declared.Filled.{Filled}
+use Rattle.tape.proofs.Tape.start.Reads as start-reads
+use Rattle.tape.proofs.Tape.fill.Reads as fill-reads
+use Rattle.demands.specs.Asked.{AllYes}
+use Rattle.demands.specs.Sound.{settingsQuestions}
+use Rattle.demands.specs.Runs.{TicksTo}
+use Rattle.demands.specs.Texts.{Filling}
+
+-- blocks loaded from the record m on, each at the record that the one before it left and ticked to its end, by the calls' own contracts:
+-- the bytes that they answer
+pub data BlocksTick : Machine → List Made → List ℕ → Type 0 where
+  none : {m : Machine} → BlocksTick m [] []
+  block : {m m′ : Machine} {later : List Made} {bytes rest : List ℕ} (made : Made) (r : Answered) → Loads m (made .block) r
+      → TicksTo (r .machine) bytes m′
+      → length bytes ≡ lastTick (r .machine) → m′ .work ≡ Work.Nothing → BlocksTick m′ later rest
+      → BlocksTick m (made ∷ later) (bytes ++ rest)
+
+-- ---- as they are handed out
+
+abbrev pub StartsTape : Machine → Tape → Type 0
+StartsTape m t = start-reads.Learnt tt (m, tt) t (m, tt)
+
+abbrev pub FillsTape : Lfts 2 → Tape → (text out out′ : RefT (List ℕ)) → Filled → Type 0
+FillsTape κs t text out out′ f = fill-reads.Learnt κs (t, (text, (out, tt))) f (t, (text, (out′, tt)))
+
+-- fills of one text, one after the other, into buffers of any length and contents, until all is handed out: the bytes that they give
+pub data HandedOut (text : List ℕ) : Tape → List ℕ → Type 0 where
+  over : {t : Tape} → t .over ≡ true → HandedOut text t []
+  fill : {t : Tape} {bytes : List ℕ} (κs : Lfts 2) (lent out out′ : RefT (List ℕ)) (f : Filled) → now lent ≡ text
+      → FillsTape κs t lent out out′ f → HandedOut text (f .tape) bytes
+      → HandedOut text t (take (f .len) (now out′) ++ bytes)
+
+-- the tick bytes of a text's job
+pub record JobBytes (s : Settings) (text bytes : List ℕ) : Type 0 where
+  pub blocks : BlocksTick (freshOf s) (jobOf s text .blocks) bytes
+  -- "the last line gives blocks, cycles and ticks": there are as many, and they mark as many cycles
+  pub ticks : length bytes ≡ allTicks (capacityOf s) 0 (jobOf s text .blocks)
+  pub cycles : cyclesMarked bytes ≡ allCycles (jobOf s text .blocks)
+
+pub record EveryTickByte : Type 0 where
+  pub fill : (κs : Lfts 2) (t : Tape) (text out out′ : RefT (List ℕ)) (f : Filled) → FillsTape κs t text out out′ f
+      → Filling 1 (now out) (now out′) (f .len) (f .tape .over)
+  -- whoever fills until a tape that began at a fresh machine is over has the tick bytes of the text's job
+  pub bytes : (s : Settings) → AllYes (settingsQuestions s) → (t : Tape) → StartsTape (freshOf s) t → (text bytes : List ℕ)
+      → HandedOut text t bytes → JobBytes s text bytes

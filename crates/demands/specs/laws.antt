@@ -1,0 +1,12 @@
+pub mod Asked
+pub mod Sound
+pub mod Answers
+pub mod TextLine
+pub mod Runs
+pub mod Lines
+pub mod Nearest
+pub mod Arcs
+pub mod Texts
+pub mod TickBytes
+pub mod FromC
+pub mod Claims

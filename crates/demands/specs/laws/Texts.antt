@@ -1,0 +1,170 @@
+-- The job of a text is what its lines mean, one after the other, and nothing else; the listing that is handed out is that job's.
+use mathlib.Core.Path.{_≡_, refl, sym, ap, subst, _∙_}
+use mathlib.Core.Bool.{Bool, true, false, cond, true≢false, false≢true}
+use mathlib.Core.List.{List, [], _∷_, _++_}
+use Prim.Native.Nat.{ℕ, zero, suc, _+_}
+use lib.Dec.{leb}
+use lib.ListN.{length, take}
+use lib.IntN.{pos}
+use borrow.Author.Tests.{leb-true, leb-false, le-leb, lt-leb}
+use denote.Ref.{now}
+use Rattle.plane.specs.declared.point.Point.{Point}
+use Rattle.block.specs.declared.Block.{Block}
+use Rattle.block.specs.Questions.{loadNo}
+use Rattle.settings.specs.declared.Settings.{Settings}
+use Rattle.settings.specs.Settings.{capacityOf}
+use Rattle.words.specs.declared.line.Line.{Line}
+use Rattle.words.specs.Meaning.{Means}
+use Rattle.words.specs.laws.Scan.{lineOf}
+use Rattle.words.specs.laws.Reading.{line-means}
+use Rattle.reader.specs.declared.Reader.{Reader}
+use Rattle.reader.specs.Reader.{unknown, readerAfter, moving, lineNo}
+use Rattle.reader.specs.TextLine.{still}
+use Rattle.job.specs.declared.Stage.{Stage}
+use Rattle.job.specs.declared.Check.{Check}
+use Rattle.job.specs.Text.{linesOf}
+use Rattle.job.specs.Job.{Asks, loadAsks, wordsAsk, lineAsks, Made, End, Job, onward, jobFrom, jobOf}
+use Rattle.job.specs.Listing.{listingOf}
+use Rattle.job.specs.Check.{stageOver, restAt, restOf}
+use Rattle.job.specs.laws.Asks.{asks-means}
+use Rattle.job.specs.laws.Listing.{listing-is}
+use Rattle.demands.specs.Asked.{FirstNo, AllYes}
+use Rattle.demands.specs.Texts.{standing, lineBlock, isBlock, makesBlock, textQuestions, TextMeans, MeansJob, Listed, EveryText}
+use Rattle.demands.specs.laws.Asked.{Verdict, orElse, then-asked, first-once, not-both}
+use Rattle.demands.specs.laws.Sound.{settings-pass}
+use Rattle.demands.specs.laws.TextLine.{word-verdict, blockNumber, block-asked}
+
+-- ---- one line
+
+-- what a line asks, by its questions
+data Says (s : Settings) (at : Point) (k : Reader) (bytes : List ℕ) (l : Line) : Asks → Type 0 where
+  refuses : (number : ℕ) → FirstNo (textQuestions s at k bytes l) number → Says s at k bytes l (Asks.refuses number)
+  nothing : AllYes (textQuestions s at k bytes l) → makesBlock s at k l ≡ false
+      → Says s at k bytes l (Asks.nothing (readerAfter k (l .words)))
+  makes : AllYes (textQuestions s at k bytes l) → makesBlock s at k l ≡ true
+      → Says s at k bytes l (Asks.makes (readerAfter k (l .words)) (lineBlock s at k l))
+
+-- they settle it
+says-once : (s : Settings) (at : Point) (k : Reader) (bytes : List ℕ) (l : Line) {a c : Asks} → Says s at k bytes l a
+    → Says s at k bytes l c → a ≡ c
+says-once s at k bytes l (Says.refuses n f) (Says.refuses m g) = ap Asks.refuses (first-once (textQuestions s at k bytes l) n m f g)
+says-once s at k bytes l (Says.refuses n f) (Says.nothing y e) = absurd (not-both (textQuestions s at k bytes l) n y f)
+says-once s at k bytes l (Says.refuses n f) (Says.makes y e) = absurd (not-both (textQuestions s at k bytes l) n y f)
+says-once s at k bytes l (Says.nothing y e) (Says.refuses n f) = absurd (not-both (textQuestions s at k bytes l) n y f)
+says-once s at k bytes l (Says.nothing y e) (Says.nothing z g) = refl
+says-once s at k bytes l (Says.nothing y e) (Says.makes z g) = absurd (false≢true (sym e ∙ g))
+says-once s at k bytes l (Says.makes y e) (Says.refuses n f) = absurd (not-both (textQuestions s at k bytes l) n y f)
+says-once s at k bytes l (Says.makes y e) (Says.nothing z g) = absurd (true≢false (sym e ∙ g))
+says-once s at k bytes l (Says.makes y e) (Says.makes z g) = refl
+
+module _ (s : Settings) (at : Point) (k : Reader) (bytes : List ℕ) (l : Line) (means : Means bytes l) where
+  abbrev after : Reader
+  after = readerAfter k (l .words)
+
+  abbrev b : Block
+  b = lineBlock s at k l
+
+  -- what the line asks, by its numbers
+  abbrev asksBy : (number : ℕ) (moves stays : Bool) (load : ℕ) → Asks
+  asksBy (suc number) moves stays load = Asks.refuses (suc number)
+  asksBy zero moves stays load = cond moves (cond stays (Asks.nothing after) (loadAsks after b load)) (Asks.nothing after)
+
+  asks-are : (number : ℕ)
+      → wordsAsk s at after (l .words) number ≡ asksBy number (moving (l .words)) (still (b .end) at (b .path))
+      (loadNo (capacityOf s) (s .travel) true at b)
+  asks-are zero = refl
+  asks-are (suc number) = refl
+
+  says-by : (number : ℕ) (moves stays : Bool) (load : ℕ) → makesBlock s at k l ≡ isBlock moves stays
+      → Verdict (textQuestions s at k bytes l) (orElse number (blockNumber k after (standing s at) (l .words) moves stays load))
+      → Says s at k bytes l (asksBy number moves stays load)
+  says-by (suc number) moves stays load e v = Says.refuses (suc number) (v .told)
+  says-by zero true true load e v = Says.nothing (v .told) e
+  says-by zero true false zero e v = Says.makes (v .told) e
+  says-by zero true false (suc load) e v = Says.refuses (suc load) (v .told)
+  says-by zero false stays load e v = Says.nothing (v .told) e
+
+  line-says : Says s at k bytes l (lineAsks s at k bytes)
+  line-says =
+      let number = lineNo (s .scale) after (length bytes) l in
+      let moves = moving (l .words) in
+      let stays = still (b .end) at (b .path) in
+      subst (Says s at k bytes l) (sym (asks-means s at k bytes l means ∙ asks-are number))
+      (says-by number moves stays (loadNo (capacityOf s) (s .travel) true at b) refl
+      (then-asked (word-verdict after (standing s at) bytes l means) (block-asked k after (standing s at) (l .words) moves stays)))
+
+-- ---- the lines of a text
+
+module _ (s : Settings) (n : ℕ) (at : Point) (k : Reader) (bytes : List ℕ) (lines : List (List ℕ)) where
+  abbrev Rest : Type 0
+  Rest = (at : Point) (k : Reader) → (let j = jobFrom s (n + 1) at k lines in TextMeans s (n + 1) at k lines (j .blocks) (j .end))
+
+  line-means-job : Rest → (l : Line) → Means bytes l → (a : Asks) → Says s at k bytes l a
+      → (let j = onward n at a (λ at′ k′. jobFrom s (n + 1) at′ k′ lines) in TextMeans s n at k (bytes ∷ lines) (j .blocks) (j .end))
+  line-means-job rest l means _ (Says.refuses number f) = TextMeans.refused l means number f
+  line-means-job rest l means _ (Says.nothing y e) = TextMeans.nothing l means y e (rest at (readerAfter k (l .words)))
+  line-means-job rest l means _ (Says.makes y e) = TextMeans.block l means y e (rest (lineBlock s at k l .end) (readerAfter k (l .words)))
+
+lines-mean : (s : Settings) (n : ℕ) (at : Point) (k : Reader) (lines : List (List ℕ))
+    → (let j = jobFrom s n at k lines in TextMeans s n at k lines (j .blocks) (j .end))
+unfolding jobFrom
+lines-mean s n at k [] = TextMeans.over
+lines-mean s n at k (bytes ∷ lines) =
+    line-means-job s n at k bytes lines (λ at k. lines-mean s (n + 1) at k lines) (lineOf bytes) (line-means bytes) (lineAsks s at k bytes)
+    (line-says s at k bytes (lineOf bytes) (line-means bytes))
+
+-- no other job
+lines-once : (s : Settings) {n : ℕ} {at : Point} {k : Reader} {lines : List (List ℕ)} {made : List Made} {end : End}
+    → TextMeans s n at k lines made end
+    → jobFrom s n at k lines ≡ record { blocks = made; end = end }
+unfolding jobFrom
+lines-once s TextMeans.over = refl
+lines-once s {at = at} {k = k} (TextMeans.refused {bytes = bytes} l means number f) =
+    rw (says-once s at k bytes l (line-says s at k bytes l means) (Says.refuses number f))
+lines-once s {at = at} {k = k} (TextMeans.nothing {bytes = bytes} l means y e later) =
+    rw (says-once s at k bytes l (line-says s at k bytes l means) (Says.nothing y e)) (lines-once s later)
+lines-once s {at = at} {k = k} (TextMeans.block {bytes = bytes} l means y e later) =
+    rw (says-once s at k bytes l (line-says s at k bytes l means) (Says.makes y e), lines-once s later)
+
+module _ (s : Settings) (text : List ℕ) where
+  text-means : (let j = jobOf s text in MeansJob s text (j .blocks) (j .end))
+  unfolding jobOf
+  text-means = by (leb (length text) 65536) refl
+    where
+      by : (short : Bool) → leb (length text) 65536 ≡ short
+          → (let j = cond short (jobFrom s 1 (record { x = pos 0; y = pos 0 }) unknown (linesOf text))
+          (record { blocks = []; end = End.refused 1 30 }) in
+          MeansJob s text (j .blocks) (j .end))
+      by true e = MeansJob.read (leb-true (length text) 65536 e) (lines-mean s 1 (record { x = pos 0; y = pos 0 }) unknown (linesOf text))
+      by false e = MeansJob.long (leb-false (length text) 65536 e)
+
+  text-once : {made : List Made} {end : End} → MeansJob s text made end → jobOf s text ≡ record { blocks = made; end = end }
+  unfolding jobOf
+  text-once (MeansJob.long h) = rw (lt-leb (length text) 65536 h)
+  text-once (MeansJob.read h lines) = rw (le-leb (length text) 65536 h) (lines-once s lines)
+
+-- ---- the listing
+
+nothing-left : (g : Stage) (c : Check) (text : List ℕ) → stageOver g ≡ true → restAt g c text ≡ []
+nothing-left Stage.Header c text e = absurd (false≢true e)
+nothing-left Stage.Lines c text e = absurd (false≢true e)
+nothing-left Stage.Over c text e = refl
+
+lists-rest : {text : List ℕ} {c : Check} {bytes : List ℕ} → Listed text c bytes → bytes ≡ restOf c text
+unfolding restOf
+lists-rest {text} {c} (Listed.over e) = sym (nothing-left (c .stage) c text e)
+lists-rest {text} {c} (Listed.fill {bytes = bytes} κs lent out out′ f is h later) =
+    ap (λ (rest : List ℕ). take (f .len) (now out′) ++ rest) (lists-rest later)
+    ∙ subst (λ (t : List ℕ). take (f .len) (now out′) ++ restOf (f .check) t ≡ restOf c t) is (h .bytes)
+
+pub every-text : EveryText
+unfolding listingOf
+every-text =
+    record {
+      means = λ s text made end. (
+        text-once s text,
+        λ e. subst (λ (j : Job). MeansJob s text (j .blocks) (j .end)) e (text-means s text),
+      );
+      fill = λ κs c text out out′ f h. record { fits = h .room; later = h .later; onward = h .onward };
+      listing = λ s pass c e text bytes l. lists-rest l ∙ ap (λ (c : Check). restOf c text) e ∙ listing-is s (settings-pass s .1 pass) text;
+    }

@@ -1,0 +1,118 @@
+-- The tick bytes that are handed out are those of the job's blocks, loaded and ticked one after the other.
+use mathlib.Core.Path.{_≡_, refl, sym, ap, subst, _∙_}
+use mathlib.Core.Bool.{Bool, true, false, cond}
+use mathlib.Core.List.{List, [], _∷_, _++_}
+use Prim.Native.Nat.{ℕ, _+_}
+use native.Mathlib.Omega.{arith}
+use lib.Dec.{leb}
+use lib.IntN.{pos}
+use lib.ListN.{length, take, drop}
+use denote.Ref.{now}
+use Rattle.block.specs.declared.Block.{Block}
+use Rattle.settings.specs.declared.Settings.{Settings}
+use Rattle.settings.specs.Settings.{settingsNo}
+use Rattle.machine.specs.declared.Machine.{Machine}
+use Rattle.machine.specs.declared.Ran.{Ran}
+use Rattle.machine.specs.Machine.{movedOf, freshOf}
+use Rattle.machine.specs.Calls.{loadOf}
+use Rattle.machine.specs.Run.{Run, runOf}
+use Rattle.finish.specs.Finish.{lastTick}
+use Rattle.finish.specs.laws.Bounds.{last-tick, latest}
+use Rattle.finish.specs.laws.Record.{AtWork, AtRest, at-work}
+use Rattle.finish.specs.laws.Loaded.{loaded-at-work}
+use Rattle.reader.specs.declared.Reader.{Reader}
+use Rattle.reader.specs.declared.«text_line».ReadLine.{ReadLine}
+use Rattle.reader.specs.Reader.{unknown}
+use Rattle.job.specs.Text.{linesOf}
+use Rattle.job.specs.Job.{Asks, Made, End, onward, jobFrom, jobOf}
+use Rattle.job.specs.Calls.{enough}
+use Rattle.job.specs.Check.{unless}
+use Rattle.job.specs.laws.Ended.{Accepted, endedOf, ended-rests, ended-run}
+use Rattle.job.specs.laws.Listing.{fresh-rests}
+use Rattle.job.specs.laws.Asks.{Read-as, line-asks}
+use Rattle.tape.specs.declared.Tape.{Tape}
+use Rattle.tape.specs.Tape.{runThen, isRefused, bytesFrom, tickBytesOf, restOf}
+use Rattle.tape.specs.laws.Pieces.{still-idle, nothing-left}
+use Rattle.tape.specs.laws.Told.{tape-tells, bytes-told}
+use Rattle.demands.specs.Runs.{TicksTo}
+use Rattle.demands.specs.TickBytes.{BlocksTick, HandedOut, JobBytes, EveryTickByte}
+use Rattle.demands.specs.laws.Sound.{settings-pass}
+use Rattle.demands.specs.laws.Runs.{strip-counts, strip-ticks, run-at-work}
+
+-- ---- a run to the block's end, tick by tick
+
+record ToEnd (m : Machine) (x : Run) : Type 0 where
+  ticks : TicksTo m (x .bytes) (x .ran .machine)
+  many : length (x .bytes) ≡ lastTick m
+
+run-to-end : (m : Machine) → AtWork m → ToEnd m (runOf m enough enough)
+run-to-end m a =
+    let c = strip-counts enough (lastTick m) (at-work a) (last-tick (at-work a)) in
+    subst (ToEnd m) (sym (run-at-work m a enough enough))
+    (record { ticks = strip-ticks enough m a; many = omega (arith, c .ticks, latest (at-work a)) })
+
+-- ---- the blocks of a job
+
+module _ (m : Machine) (n : ℕ) (b : Block) (i : AtRest m) (ok : Accepted m b) (rest : Machine → List ℕ) where
+  block-ticks : {later : List Made} → BlocksTick (endedOf m b .machine) later (rest (endedOf m b .machine))
+      → BlocksTick m (record { textLine = n; start = m .at; block = b } ∷ later) (runThen (loadOf m b .machine) rest)
+  unfolding movedOf
+  block-ticks later =
+      let x = runOf (loadOf m b .machine) enough enough in
+      let left : x .ran .machine ≡ endedOf m b .machine = ap (λ (r : Ran). r .machine) (ended-run m i b ok) in
+      let e = run-to-end (loadOf m b .machine) (loaded-at-work m i b (rw (i .idle) ok)) in
+      rw left
+      (BlocksTick.block (record { textLine = n; start = m .at; block = b }) (loadOf m b) refl
+      (subst (TicksTo (loadOf m b .machine) (x .bytes)) left (e .ticks)) (e .many) refl later)
+
+abbrev Ticked : List (List ℕ) → Type 0
+Ticked ls = (n : ℕ) (m : Machine) (k : Reader) → AtRest m → BlocksTick m (jobFrom (m .settings) n (m .at) k ls .blocks) (bytesFrom m k ls)
+
+by-line : (m : Machine) (n : ℕ) (k : Reader) (ls : List (List ℕ)) → AtRest m → Ticked ls → {a : Asks} {r : ReadLine} → Read-as m k a r
+    → BlocksTick m (onward n (m .at) a (λ at k′. jobFrom (m .settings) (n + 1) at k′ ls) .blocks)
+    (unless (isRefused (r .answer)) (runThen (r .machine) (λ m′. bytesFrom m′ (r .reader) ls)))
+unfolding movedOf
+by-line m n k ls i rest (Read-as.nothing known) =
+    rw (nothing-left m (λ (m′ : Machine). bytesFrom m′ known ls) (still-idle m (i .idle))) (rest (n + 1) m known i)
+by-line m n k ls i rest (Read-as.makes known b ok) =
+    block-ticks m n b i ok (λ m′. bytesFrom m′ known ls) (rest (n + 1) (endedOf m b .machine) known (ended-rests m i b ok))
+by-line m n k ls i rest (Read-as.refuses number) = BlocksTick.none
+
+lines-tick : (ls : List (List ℕ)) → Ticked ls
+unfolding bytesFrom jobFrom
+lines-tick [] n m k i = BlocksTick.none
+lines-tick (l ∷ ls) n m k i = by-line m n k ls i (lines-tick ls) (line-asks m k (i .sound) (i .idle) l)
+
+text-ticks : (s : Settings) → settingsNo s ≡ 0 → (text : List ℕ) → BlocksTick (freshOf s) (jobOf s text .blocks) (tickBytesOf s text)
+unfolding tickBytesOf jobOf freshOf
+text-ticks s passed text = by (leb (length text) 65536)
+  where
+    by : (short : Bool)
+        → BlocksTick (freshOf s)
+        (cond short (jobFrom s 1 (record { x = pos 0; y = pos 0 }) unknown (linesOf text))
+        (record { blocks = []; end = End.refused 1 30 }) .blocks)
+        (cond short (bytesFrom (freshOf s) unknown (linesOf (drop 0 text))) [])
+    by true = lines-tick (linesOf text) 1 (freshOf s) unknown (fresh-rests s passed)
+    by false = BlocksTick.none
+
+-- ---- handed out
+
+hands-rest : {text : List ℕ} {t : Tape} {bytes : List ℕ} → HandedOut text t bytes → bytes ≡ restOf t text
+unfolding restOf
+hands-rest (HandedOut.over e) = rw e
+hands-rest {text} {t} (HandedOut.fill κs lent out out′ f is h later) =
+    ap (λ (rest : List ℕ). take (f .len) (now out′) ++ rest) (hands-rest later)
+    ∙ subst (λ (s : List ℕ). take (f .len) (now out′) ++ restOf (f .tape) s ≡ restOf t s) is (h .bytes)
+
+job-bytes : (s : Settings) → settingsNo s ≡ 0 → (text : List ℕ) {bytes : List ℕ} → bytes ≡ tickBytesOf s text → JobBytes s text bytes
+job-bytes s passed text told =
+    let c = bytes-told s passed text in
+    record { blocks = rw told (text-ticks s passed text); ticks = rw told (c .ticks); cycles = rw told (c .cycles) }
+
+pub every-tick-byte : EveryTickByte
+every-tick-byte =
+    record {
+      fill = λ κs t text out out′ f h. record { fits = h .room; later = h .later; onward = h .onward };
+      bytes = λ s pass t e text bytes h.
+          job-bytes s (settings-pass s .1 pass) text (hands-rest h ∙ ap (λ (t : Tape). restOf t text) e ∙ tape-tells s text);
+    }

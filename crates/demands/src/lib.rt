@@ -1,0 +1,60 @@
+// What the user demands, claim by claim. The functions do nothing: each contract is a claim, so that the check names it as proved.
+ghost use Rattle.history.specs.Demand.{EveryHistory, EveryList};
+ghost use Rattle.demands.specs.Answers.{EveryAnswer};
+ghost use Rattle.demands.specs.Arcs.{EveryArc};
+ghost use Rattle.demands.specs.FromC.{EveryCallFromC};
+ghost use Rattle.demands.specs.Lines.{EveryLine};
+ghost use Rattle.demands.specs.Records.{EveryRecord};
+ghost use Rattle.demands.specs.Runs.{EveryRun};
+ghost use Rattle.demands.specs.Texts.{EveryText};
+ghost use Rattle.demands.specs.TickBytes.{EveryTickByte};
+
+// Demand 1: what each call refuses, and for which cause.
+pub fn every_answer()
+    ensures { λ _. ⌜ EveryAnswer ⌝ }
+{}
+
+// Demand 1, question 9: which records are sound.
+pub fn every_record()
+    ensures { λ _. ⌜ EveryRecord ⌝ }
+{}
+
+// Demand 2: lines.
+pub fn every_line()
+    ensures { λ _. ⌜ EveryLine ⌝ }
+{}
+
+// Demand 2: arcs.
+pub fn every_arc()
+    ensures { λ _. ⌜ EveryArc ⌝ }
+{}
+
+// Demand 2: runs.
+pub fn every_run()
+    ensures { λ _. ⌜ EveryRun ⌝ }
+{}
+
+// Demand 2: texts, and their listing.
+pub fn every_text()
+    ensures { λ _. ⌜ EveryText ⌝ }
+{}
+
+// Demand 2: the tick bytes of a text.
+pub fn every_tick_byte()
+    ensures { λ _. ⌜ EveryTickByte ⌝ }
+{}
+
+// Demand 3, whole.
+pub fn every_history()
+    ensures { λ _. ⌜ EveryHistory ⌝ }
+{}
+
+// Demand 3 leaves no list of calls out: each has a history from every record.
+pub fn every_list()
+    ensures { λ _. ⌜ EveryList ⌝ }
+{}
+
+// The demands from C: its calls are the machine's.
+pub fn every_call_from_c()
+    ensures { λ _. ⌜ EveryCallFromC ⌝ }
+{}
