@@ -1,0 +1,1 @@
+-- No definition of its own: what each function tells a caller stands in crates export and checkexport.
