@@ -50,7 +50,7 @@ fn near_circle(n: u64, a: u64, b: u64) -> bool
 }
 
 // Whether n is in 1..2,000,000,000,000 and p a circle point of n, for any values.
-// A circle point's coordinates are at most 1,414,214: larger ones are refused before they are squared.
+// Coordinates beyond 2,000,000 are refused before they are squared; those of a circle point are at most 1,414,214.
 pub fn on_circle(n: u64, p: Offset) -> bool
     ensures { λ r. ⌜ r ≡ onCircle n p ⌝ }
 {
