@@ -1,6 +1,6 @@
 -- Demand 2, arcs: "The points of an accepted arc are the least-error points of its circle, in order of angle."
 use mathlib.Core.Path.{_≡_}
-use mathlib.Core.Bool.{true, false}
+use mathlib.Core.Bool.{Bool, true, false}
 use mathlib.Core.Logic.{_≢_, _↔_}
 use mathlib.Core.List.{List}
 use Prim.Native.Nat.{ℕ, _+_, _-_, _*_, _≤_, _<_}
@@ -72,18 +72,28 @@ pub record ArcLoaded (m : Machine) (b : Block) (turn : Turn) (centre : Offset) (
 
 -- ---- a tick
 
+-- the record after a cycle that leads to the point at: "If it then reaches or passes q0, q0 is taken off and one cycle is done."
+abbrev pub arcCycled : Machine → (feed : ℕ) (at : Point) → Pulses → (ended : Bool) → Work → Ticked
+arcCycled m feed at pulses ended work =
+    record {
+      tick = Tick.Byte (cycleByte pulses ended);
+      machine = movedOf m at (m .remainder + feed - capacityOf (m .settings)) work;
+    }
+
 -- a cycle leads to the paper's next point, and its pulses tell the way
 pub record ArcCycle (m : Machine) (a : Arc) (r : Ticked) : Type 0 where
-  pub next : Next (a .square) (a .turn) (seenFrom (a .centre) (m .at)) (seenFrom (a .centre) (r .machine .at))
+  pub at : Point
+  pub next : Next (a .square) (a .turn) (seenFrom (a .centre) (m .at)) (seenFrom (a .centre) at)
   pub pulses : Pulses
   pub small : (pulses .x ≤ 2) × (pulses .y ≤ 2)
-  pub moved : r .machine .at ≡ shiftedOf (m .at) pulses
-  pub remainder : r .machine .remainder + capacityOf (m .settings) ≡ m .remainder + a .feed
+  pub moved : at ≡ shiftedOf (m .at) pulses
   -- ".. one a cycle, to the end."
-  pub going : r .machine .at ≢ a .end → (r .tick ≡ Tick.Byte (cycleByte pulses false)) × (r .machine .work ≡ Work.Arc a)
-  pub last : r .machine .at ≡ a .end → (r .tick ≡ Tick.Byte (cycleByte pulses true)) × (r .machine .work ≡ Work.Nothing)
+  pub going : at ≢ a .end → r ≡ arcCycled m (a .feed) at pulses false (Work.Arc a)
+  pub last : at ≡ a .end → r ≡ arcCycled m (a .feed) at pulses true Work.Nothing
 
+-- a working tick of a record with an arc in work. "Every arc cycle costs q0."
 pub record ArcTick (m : Machine) (a : Arc) (r : Ticked) : Type 0 where
+  -- "Each working tick .. adds f to the remainder."
   pub waits : m .remainder + a .feed < capacityOf (m .settings)
       → r ≡ record { tick = Tick.Byte 0; machine = movedOf m (m .at) (m .remainder + a .feed) (Work.Arc a) }
   pub cycles : capacityOf (m .settings) ≤ m .remainder + a .feed → ArcCycle m a r

@@ -1,10 +1,11 @@
--- To be believed, in this order: Asked, Sound, Questions, Answers and Records (demand 1); Lines, Arcs, Runs, Texts, TickBytes (demand 2);
--- FromC. Demand 3 is in crate history. Proved of them: laws.
+-- To be believed, in this order: Asked, Sound, Questions, Answers, Records and Calls (demand 1); Lines, Arcs, Runs, Texts and TickBytes
+-- (demand 2); FromC. Demand 3 is in crate history. Proved of them: laws.
 pub mod Asked
 pub mod Sound
 pub mod Questions
 pub mod Answers
 pub mod Records
+pub mod Calls
 pub mod Runs
 pub mod Lines
 pub mod Arcs

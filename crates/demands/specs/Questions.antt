@@ -107,12 +107,6 @@ pub record CentreStands (m : Motion) (ws : Words) : Type 0 where
   pub only : centred ws ≡ true → isArc m ≡ true
   pub there : isArc m ≡ true → placed ws ≡ true → centred ws ≡ true
 
--- "A line without X, Y, I, J makes no block; nor does a straight line to the point where it stands, and then 10 to 13 are not put."
-abbrev pub ifBlock : (moves stays : Bool) → Questions → Questions
-ifBlock true false qs = qs
-ifBlock true true qs = none
-ifBlock false stays qs = none
-
 abbrev pub wordQuestions : Reader → Machine → (bytes : List ℕ) → Line → Questions
 wordQuestions k m bytes l =
     question 31 (length bytes ≤ 80)
@@ -123,10 +117,29 @@ wordQuestions k m bytes l =
     (question 36 (MotionAndFeedKnown k (l .words))
     (question 37 (CentreStands (k .motion) (l .words)) none))))))
 
--- "Then load's questions." k is the G and F known before the line.
+-- ---- the block of a text line; k is the G and F known before the line, and "G and F count from their own line"
+
+abbrev pub lineBlock : Reader → Machine → Line → Block
+lineBlock k m l = blockOf (m .settings .scale) (readerAfter k (l .words)) (l .words) (m .at)
+
+-- "A line without X, Y, I, J makes no block; nor does a straight line to the point where it stands, and then 10 to 13 are not put."
+abbrev pub isBlock : (moves stays : Bool) → Bool
+isBlock true false = true
+isBlock true true = false
+isBlock false stays = false
+
+abbrev pub makesBlock : Reader → Machine → Line → Bool
+makesBlock k m l = let b = lineBlock k m l in isBlock (moving (l .words)) (still (b .end) (m .at) (b .path))
+
+abbrev pub ifBlock : (makes : Bool) → Questions → Questions
+ifBlock true qs = qs
+ifBlock false qs = none
+
+-- 31 to 37. "Then load's questions."
+abbrev pub textQuestions : Reader → Machine → (bytes : List ℕ) → Line → Questions
+textQuestions k m bytes l =
+    andThen (wordQuestions (readerAfter k (l .words)) m bytes l) (ifBlock (makesBlock k m l) (blockQuestions m (lineBlock k m l)))
+
+-- "Any call on a record: is it sound? 9."
 abbrev pub lineQuestions : Reader → Machine → (bytes : List ℕ) → Line → Questions
-lineQuestions k m bytes l =
-    let after = readerAfter k (l .words) in
-    let b = blockOf (m .settings .scale) after (l .words) (m .at) in
-    let stays = still (b .end) (m .at) (b .path) in
-    soundQuestion m (andThen (wordQuestions after m bytes l) (ifBlock (moving (l .words)) stays (blockQuestions m b)))
+lineQuestions k m bytes l = soundQuestion m (textQuestions k m bytes l)

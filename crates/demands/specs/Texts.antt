@@ -9,7 +9,6 @@ use lib.ListN.{length, take, drop}
 use denote.Ref.{RefT, now}
 use contract.Lifetimes.{Lfts}
 use Rattle.plane.specs.declared.point.Point.{Point}
-use Rattle.block.specs.declared.Block.{Block}
 use Rattle.work.specs.declared.Work.{Work}
 use Rattle.settings.specs.declared.Settings.{Settings}
 use Rattle.settings.specs.Settings.{capacityOf}
@@ -18,8 +17,7 @@ use Rattle.machine.specs.Machine.{freshOf}
 use Rattle.words.specs.declared.line.Line.{Line}
 use Rattle.words.specs.Meaning.{Means}
 use Rattle.reader.specs.declared.Reader.{Reader}
-use Rattle.reader.specs.Reader.{unknown, readerAfter, moving, blockOf}
-use Rattle.reader.specs.TextLine.{still}
+use Rattle.reader.specs.Reader.{unknown, readerAfter}
 use Rattle.job.specs.declared.Check.{Check}
 use Rattle.job.specs.declared.Filled.{Filled}
 use Rattle.job.specs.Text.{linesOf}
@@ -28,35 +26,14 @@ use Rattle.job.specs.Listing.{jobListing}
 use Rattle.job.specs.Check.{isOver}
 use Rattle.job.proofs.Check.start.Reads as start-reads
 use Rattle.job.proofs.Check.fill.Reads as fill-reads
-use Rattle.demands.specs.Asked.{Questions, andThen, FirstNo, AllYes}
+use Rattle.demands.specs.Asked.{FirstNo, AllYes}
 use Rattle.demands.specs.Sound.{settingsQuestions}
-use Rattle.demands.specs.Questions.{blockQuestions, ifBlock, wordQuestions}
+use Rattle.demands.specs.Questions.{lineBlock, makesBlock, textQuestions}
 
 -- ---- one line, read at a point with nothing in work: "Each block is loaded once the one before has ended"
 
 abbrev pub standing : Settings → (at : Point) → Machine
 standing s at = record { settings = s; at = at; held = false; remainder = 0; work = Work.Nothing }
-
--- the block that the words of a line ask for
-abbrev pub lineBlock : Settings → (at : Point) (known : Reader) → Line → Block
-lineBlock s at k l = blockOf (s .scale) (readerAfter k (l .words)) (l .words) at
-
--- "A line without X, Y, I, J makes no block; nor does a straight line to the point where it stands"
-abbrev pub isBlock : (moves stays : Bool) → Bool
-isBlock true false = true
-isBlock true true = false
-isBlock false stays = false
-
-abbrev pub makesBlock : Settings → (at : Point) (known : Reader) → Line → Bool
-makesBlock s at k l = let b = lineBlock s at k l in isBlock (moving (l .words)) (still (b .end) at (b .path))
-
--- 31 to 37, "Then load's questions."
-abbrev pub textQuestions : Settings → (at : Point) (known : Reader) (bytes : List ℕ) → Line → Questions
-textQuestions s at k bytes l =
-    let after = readerAfter k (l .words) in
-    let b = lineBlock s at k l in
-    let stays = still (b .end) at (b .path) in
-    andThen (wordQuestions after (standing s at) bytes l) (ifBlock (moving (l .words)) stays (blockQuestions (standing s at) b))
 
 -- ---- the lines of a text, from number n on, read at a point with a G and an F known, mean these blocks, and end so
 
@@ -64,19 +41,19 @@ pub data TextMeans (s : Settings) : (n : ℕ) (at : Point) (known : Reader) → 
   over : {n : ℕ} {at : Point} {k : Reader} → TextMeans s n at k [] [] End.complete
   -- "A refused line .."
   refused : {n : ℕ} {at : Point} {k : Reader} {bytes : List ℕ} {lines : List (List ℕ)} (l : Line) → Means bytes l → (number : ℕ)
-      → FirstNo (textQuestions s at k bytes l) number
+      → FirstNo (textQuestions k (standing s at) bytes l) number
       → TextMeans s n at k (bytes ∷ lines) [] (End.refused n number)
   -- "G and F count from their own line until changed"
   nothing : {n : ℕ} {at : Point} {k : Reader} {bytes : List ℕ} {lines : List (List ℕ)} {made : List Made} {end : End} (l : Line)
       → Means bytes l
-      → AllYes (textQuestions s at k bytes l) → makesBlock s at k l ≡ false
+      → AllYes (textQuestions k (standing s at) bytes l) → makesBlock k (standing s at) l ≡ false
       → TextMeans s (n + 1) at (readerAfter k (l .words)) lines made end
       → TextMeans s n at k (bytes ∷ lines) made end
   block : {n : ℕ} {at : Point} {k : Reader} {bytes : List ℕ} {lines : List (List ℕ)} {made : List Made} {end : End} (l : Line)
       → Means bytes l
-      → AllYes (textQuestions s at k bytes l) → makesBlock s at k l ≡ true
-      → TextMeans s (n + 1) (lineBlock s at k l .end) (readerAfter k (l .words)) lines made end
-      → TextMeans s n at k (bytes ∷ lines) (record { textLine = n; start = at; block = lineBlock s at k l } ∷ made) end
+      → AllYes (textQuestions k (standing s at) bytes l) → makesBlock k (standing s at) l ≡ true
+      → TextMeans s (n + 1) (lineBlock k (standing s at) l .end) (readerAfter k (l .words)) lines made end
+      → TextMeans s n at k (bytes ∷ lines) (record { textLine = n; start = at; block = lineBlock k (standing s at) l } ∷ made) end
 
 -- "A fresh machine stands at (0, 0)"; nothing is known before the first line
 abbrev pub LinesMean : Settings → (text : List ℕ) → List Made → End → Type 0

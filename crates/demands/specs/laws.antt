@@ -9,4 +9,5 @@ pub mod Arcs
 pub mod Texts
 pub mod TickBytes
 pub mod FromC
+pub mod Calls
 pub mod Claims

@@ -2,6 +2,7 @@
 ghost use Rattle.history.specs.Demand.{EveryHistory, EveryList};
 ghost use Rattle.demands.specs.Answers.{EveryAnswer};
 ghost use Rattle.demands.specs.Arcs.{EveryArc};
+ghost use Rattle.demands.specs.Calls.{EveryCall};
 ghost use Rattle.demands.specs.FromC.{EveryCallFromC};
 ghost use Rattle.demands.specs.Lines.{EveryLine};
 ghost use Rattle.demands.specs.Records.{EveryRecord};
@@ -17,6 +18,11 @@ pub fn every_answer()
 // Demand 1, question 9: which records are sound.
 pub fn every_record()
     ensures { λ _. ⌜ EveryRecord ⌝ }
+{}
+
+// Demand 1, where no question refuses: what make, hold, release, stop, a tick at rest and a text line do.
+pub fn every_call()
+    ensures { λ _. ⌜ EveryCall ⌝ }
 {}
 
 // Demand 2: lines.

@@ -1,7 +1,7 @@
 -- An arc's load, its ticks and its walk, by the paper's circle points.
 use mathlib.Core.Path.{_≡_, refl, sym, ap, subst, _∙_}
 use mathlib.Core.Bool.{Bool, true, false, cond, _||_}
-use mathlib.Core.Logic.{_⊎_, inl, inr}
+use mathlib.Core.Logic.{_≢_, _⊎_, inl, inr}
 use mathlib.Core.List.{List}
 use Prim.Native.Nat.{ℕ, zero, suc, _+_, _-_, _≤_}
 use native.Mathlib.Omega.{arith}
@@ -51,7 +51,7 @@ use Rattle.demands.specs.Asked.{AllYes}
 use Rattle.demands.specs.Sound.{Sound}
 use Rattle.demands.specs.Questions.{CentreRight, pathQuestions, loadQuestions}
 use Rattle.demands.specs.Runs.{TicksTo}
-use Rattle.demands.specs.Arcs.{ArcLoaded, ArcCycle, ArcTick, EveryArc}
+use Rattle.demands.specs.Arcs.{ArcLoaded, arcCycled, ArcCycle, ArcTick, EveryArc}
 use Rattle.demands.specs.laws.Sound.{sound-is}
 use Rattle.demands.specs.laws.Answers.{centre-is}
 use Rattle.demands.specs.laws.Nearest.{least-error}
@@ -131,29 +131,21 @@ module _ (m : Machine) (a : Arc) (here : Circle (a .square) (seenFrom (a .centre
         machine = movedOf m there (m .remainder + a .feed - q0) (following ended (Work.Arc a));
       }
 
-  cycle-given : q0 ≤ m .remainder + a .feed → (ended : Bool) → equalPoint there (a .end) ≡ ended → ArcCycle m a (given ended)
-  unfolding movedOf
-  cycle-given over true e =
-      let end = equal-point there (a .end) e in
+  cycle-given : (ended : Bool) → equalPoint there (a .end) ≡ ended → ArcCycle m a (given ended)
+  cycle-given ended e =
       record {
+        at = there;
         next = next-is a (m .at) here;
         pulses = pulsesBetween (m .at) there;
         small = (change-small _ _, change-small _ _);
         moved = next-moved a (m .at) here;
-        remainder = omega arith;
-        going = λ f. absurd (f end);
-        last = λ q. (refl, refl);
+        going = λ f. by ended e f;
+        last = λ q. ap given (sym e ∙ ap (λ (p : Point). equalPoint p (a .end)) q ∙ equal-itself (a .end));
       }
-  cycle-given over false e =
-      record {
-        next = next-is a (m .at) here;
-        pulses = pulsesBetween (m .at) there;
-        small = (change-small _ _, change-small _ _);
-        moved = next-moved a (m .at) here;
-        remainder = omega arith;
-        going = λ f. (refl, refl);
-        last = λ q. absurd (subst T (sym (equal-itself (a .end)) ∙ ap (λ (p : Point). equalPoint p (a .end)) (sym q) ∙ e) tt);
-      }
+    where
+      by : (ended : Bool) → equalPoint there (a .end) ≡ ended → there ≢ a .end → given ended ≡ given false
+      by true e f = absurd (f (equal-point there (a .end) e))
+      by false e f = refl
 
   tick-given : q0 ≤ m .remainder + a .feed
       → working m (advanceOf q0 (m .at) (m .remainder) (Work.Arc a)) ≡ given (equalPoint there (a .end))
@@ -168,7 +160,7 @@ arc-tick m a r h s work free =
     record {
       waits = λ below. t ∙ ap (working m) (idle-tick (capacityOf (m .settings)) (m .at) (m .remainder) (Work.Arc a) below);
       cycles = λ over. subst (ArcCycle m a) (sym (t ∙ tick-given m a (w .point) over))
-          (cycle-given m a (w .point) over (equalPoint (arcAfter a (m .at) 1) (a .end)) refl);
+          (cycle-given m a (w .point) (equalPoint (arcAfter a (m .at) 1) (a .end)) refl);
     }
 
 -- ---- the cycles left
@@ -204,7 +196,7 @@ resting a m r byte e b g =
     let none : 0 ≡ byte = ap byteOf (sym (ap (λ (r : Ticked). r .tick) e) ∙ b) in
     stays (sym (ap cycleMark none)) (ap (λ (r : Ticked). r .machine .at) e) (subst (λ (r : Ticked). Going a (r .machine)) (sym e) g)
 
-idle-rest : (m : Machine) → Sound m → m .work ≡ Work.Nothing → tickOf m ≡ ticks (Tick.Byte 0) m
+pub idle-rest : (m : Machine) → Sound m → m .work ≡ Work.Nothing → tickOf m ≡ ticks (Tick.Byte 0) m
 unfolding tickOf
 idle-rest m s e = rw (sound-is m .1 s, ap isNothing e) (by (m .held))
   where
@@ -214,7 +206,7 @@ idle-rest m s e = rw (sound-is m .1 s, ap isNothing e) (by (m .held))
     by true = refl
     by false = refl
 
-held-rest : (m : Machine) → Sound m → m .held ≡ true → tickOf m ≡ ticks (Tick.Byte 0) m
+pub held-rest : (m : Machine) → Sound m → m .held ≡ true → tickOf m ≡ ticks (Tick.Byte 0) m
 unfolding tickOf
 held-rest m s e = rw (sound-is m .1 s, e)
 
@@ -224,22 +216,26 @@ marks p ended small = told-codes p ended (small .0) (small .1) .cycle
 -- a working tick of an arc
 working-step : (m : Machine) (a : Arc) (r : Ticked) (byte : ℕ) → ArcTick m a r → r .tick ≡ Tick.Byte byte → Steps a m byte (r .machine)
 unfolding movedOf
-working-step m a r byte t b = by (leb (capacityOf (m .settings)) (m .remainder + a .feed)) refl (equalPoint (r .machine .at) (a .end)) refl
+working-step m a r byte t b = by (leb (capacityOf (m .settings)) (m .remainder + a .feed)) refl
   where
-    by : (due : Bool) → leb (capacityOf (m .settings)) (m .remainder + a .feed) ≡ due → (end : Bool)
-        → equalPoint (r .machine .at) (a .end) ≡ end → Steps a m byte (r .machine)
-    by false e end f =
+    stepped : (c : ArcCycle m a r) (ended : Bool) (work : Work) → r ≡ arcCycled m (a .feed) (c .at) (c .pulses) ended work
+        → (work ≡ Work.Arc a) ⊎ (work ≡ Work.Nothing) → Steps a m byte (r .machine)
+    stepped c ended work k going =
+        let mark = ap cycleMark (ap byteOf (sym b ∙ ap (λ (r : Ticked). r .tick) k)) ∙ marks (c .pulses) ended (c .small) in
+        subst (λ (r : Ticked). Steps a m byte (r .machine)) (sym k) (steps mark (c .next) going)
+
+    cycled : (c : ArcCycle m a r) (end : Bool) → equalPoint (c .at) (a .end) ≡ end → Steps a m byte (r .machine)
+    cycled c true f = stepped c true Work.Nothing (c .last (equal-point _ _ f)) (inr refl)
+    cycled c false f =
+        stepped c false (Work.Arc a)
+        (c .going (λ q. subst T (sym (equal-itself (a .end)) ∙ ap (λ (p : Point). equalPoint p (a .end)) (sym q) ∙ f) tt)) (inl refl)
+
+    by : (due : Bool) → leb (capacityOf (m .settings)) (m .remainder + a .feed) ≡ due → Steps a m byte (r .machine)
+    by false e =
         let k = t .waits (leb-false _ _ e) in
         let none : 0 ≡ byte = ap byteOf (sym (ap (λ (r : Ticked). r .tick) k) ∙ b) in
         stays (sym (ap cycleMark none)) (ap (λ (r : Ticked). r .machine .at) k) (inl (ap (λ (r : Ticked). r .machine .work) k))
-    by true e true f =
-        let c = t .cycles (leb-true _ _ e) in
-        let k = c .last (equal-point _ _ f) in
-        steps (ap cycleMark (ap byteOf (sym b ∙ k .0)) ∙ marks (c .pulses) true (c .small)) (c .next) (inr (k .1))
-    by true e false f =
-        let c = t .cycles (leb-true _ _ e) in
-        let k = c .going (λ q. subst T (sym (equal-itself (a .end)) ∙ ap (λ (p : Point). equalPoint p (a .end)) (sym q) ∙ f) tt) in
-        steps (ap cycleMark (ap byteOf (sym b ∙ k .0)) ∙ marks (c .pulses) false (c .small)) (c .next) (inl (k .1))
+    by true e = let c = t .cycles (leb-true _ _ e) in cycled c (equalPoint (c .at) (a .end)) refl
 
 one-step : (a : Arc) (m : Machine) (r : Ticked) (byte : ℕ) → Ticks m r → Sound m → r .tick ≡ Tick.Byte byte → Going a m
     → Steps a m byte (r .machine)

@@ -4,6 +4,7 @@ use mathlib.Core.Bool.{Bool, true, false, cond, not, _||_, true≢false, false�
 use mathlib.Core.Logic.{_↔_}
 use mathlib.Core.List.{List}
 use Prim.Native.Nat.{ℕ, zero, suc}
+use native.Mathlib.Omega.{arith}
 use borrow.Author.Tests.{leb-true, le-leb, eqb-true, eq-eqb}
 use lib.Dec.{leb}
 use lib.ListN.{length}
@@ -31,12 +32,13 @@ use Rattle.reader.specs.declared.«text_line».ReadLine.{ReadLine}
 use Rattle.reader.specs.Reader.{readerAfter, motionRight, onPulse, allOnPulse, placed, centred, moving, allKnown, isArc, centreRight, lineNo, blockOf}
 use Rattle.reader.specs.TextLine.{reads, still, loaded, takenOf, readWith}
 use Rattle.reader.specs.laws.TextLine.{read-means}
-use Rattle.demands.specs.Asked.{Answers}
-use Rattle.demands.specs.Questions.{blockQuestions, NoLetterTwice, MotionRight, OnPulse, OnPulses, MotionAndFeedKnown, CentreStands, ifBlock, wordQuestions, lineQuestions}
+use Rattle.demands.specs.Asked.{Answers, AllYes}
+use Rattle.demands.specs.Questions.{blockQuestions, NoLetterTwice, MotionRight, OnPulse, OnPulses, MotionAndFeedKnown, CentreStands, isBlock, ifBlock, wordQuestions, lineQuestions}
 use Rattle.demands.specs.Answers.{readReply, ReadsLine}
-use Rattle.demands.specs.laws.Asked.{Verdict, asked, none-asked, orElse, then-asked, Says, judged}
+use Rattle.demands.specs.Calls.{LineTaken}
+use Rattle.demands.specs.laws.Asked.{Verdict, asked, none-asked, orElse, then-asked, passed, Says, judged}
 use Rattle.demands.specs.laws.Sound.{in-range, sound-is}
-use Rattle.demands.specs.laws.Answers.{block-verdict}
+use Rattle.demands.specs.laws.Answers.{block-verdict, load-is}
 
 -- ---- tests
 
@@ -159,7 +161,7 @@ module _ (k k′ : Reader) (m : Machine) (ws : Words) where
   blockNumber true true n = 0
   blockNumber false stays n = 0
 
-  pub block-asked : (moves stays : Bool) → Verdict (ifBlock moves stays (blockQuestions m b)) (blockNumber moves stays loadNumber)
+  pub block-asked : (moves stays : Bool) → Verdict (ifBlock (isBlock moves stays) (blockQuestions m b)) (blockNumber moves stays loadNumber)
   block-asked true false = block-verdict m b
   block-asked true true = none-asked
   block-asked false stays = none-asked
@@ -234,3 +236,68 @@ line-answers κs k m bytes r h l means =
         rw (line-is k k′ m ws e number)
         (judged inner v (line-says k k′ m ws number moves stays _) (line-kept k k′ m ws number moves stays _))
     by false e v = judged 9 v refl (λ some. (refl, refl))
+
+-- ---- a line that no question refuses
+
+module _ (k k′ : Reader) (m : Machine) (ws : Words) where
+  -- by its numbers: without a block, and with one
+  by-nothing : (number : ℕ) (moves stays : Bool) (n : ℕ) → orElse number (blockNumber k k′ m ws moves stays n) ≡ 0
+      → isBlock moves stays ≡ false
+      → lineBy k k′ m ws number moves stays n ≡ reads Read.Nothing k′ m
+  by-nothing (suc number) moves stays n z e = absurd (omega arith)
+  by-nothing zero true true n z e = refl
+  by-nothing zero true false n z e = absurd (false≢true (sym e))
+  by-nothing zero false stays n z e = refl
+
+  by-block : (number : ℕ) (moves stays : Bool) (n : ℕ) → orElse number (blockNumber k k′ m ws moves stays n) ≡ 0
+      → isBlock moves stays ≡ true
+      → (n ≡ 0) ×
+      (lineBy k k′ m ws number moves stays n ≡ loaded k k′ m (loadWith m (b k k′ m ws) 0 .machine) (loadWith m (b k k′ m ws) 0 .answer))
+  by-block (suc number) moves stays n z e = absurd (omega arith)
+  by-block zero true true n z e = absurd (false≢true e)
+  by-block zero true false zero z e = (refl, refl)
+  by-block zero true false (suc n) z e = absurd (omega arith)
+  by-block zero false stays n z e = absurd (false≢true e)
+
+pub line-taken : (κs : Lfts 1) (k : Reader) (m : Machine) (bytes : RefT (List ℕ)) (r : ReadLine) → ReadsLine κs k m bytes r → (l : Line)
+    → Means (now bytes) l → AllYes (lineQuestions k m (now bytes) l) → LineTaken k m l r
+line-taken κs k m bytes r h l means all =
+    record {
+      no-block = λ e. is ∙ by-nothing k k′ m ws number moves stays load none e;
+      block = λ e.
+          let t = by-block k k′ m ws number moves stays load none e in
+          let a : loadOf m (b k k′ m ws) ≡ loadWith m (b k k′ m ws) 0 = load-is m (b k k′ m ws)
+          ∙ ap (λ (n : ℕ). loadWith m (b k k′ m ws) (ask (soundOf m) n 9)) (t .0)
+          ∙ ap (λ (s : Bool). loadWith m (b k k′ m ws) (ask s 0 9)) sound in
+          (loadWith m (b k k′ m ws) 0, _, sym a, refl, is ∙ t .1);
+    }
+  where
+    ws : Words
+    ws = l .words
+
+    k′ : Reader
+    k′ = readerAfter k ws
+
+    moves : Bool
+    moves = moving ws
+
+    stays : Bool
+    stays = still (b k k′ m ws .end) (m .at) (b k k′ m ws .path)
+
+    number : ℕ
+    number = lineNo (m .settings .scale) k′ (length (now bytes)) l
+
+    load : ℕ
+    load = loadNumber k k′ m ws
+
+    sound : soundOf m ≡ true
+    sound = sound-is m .1 (all .0)
+
+    none : orElse number (blockNumber k k′ m ws moves stays load) ≡ 0
+    none = passed (then-asked (word-verdict k′ m (now bytes) l means) (block-asked k k′ m ws moves stays)) .1 (all .1)
+
+    is : r ≡ lineBy k k′ m ws number moves stays load
+    is =
+        h ∙ read-means k m (now bytes) l means
+        ∙ ap (λ (s : Bool). cond s (readWith k k′ m ws number) (reads (Read.Refused 9) k m)) sound
+        ∙ line-is k k′ m ws sound number

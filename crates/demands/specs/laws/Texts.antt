@@ -29,7 +29,8 @@ use Rattle.job.specs.Check.{stageOver, restAt, restOf}
 use Rattle.job.specs.laws.Asks.{asks-means}
 use Rattle.job.specs.laws.Listing.{listing-is}
 use Rattle.demands.specs.Asked.{FirstNo, AllYes}
-use Rattle.demands.specs.Texts.{standing, lineBlock, isBlock, makesBlock, textQuestions, TextMeans, MeansJob, Listed, EveryText}
+use Rattle.demands.specs.Questions.{lineBlock, isBlock, makesBlock, textQuestions}
+use Rattle.demands.specs.Texts.{standing, TextMeans, MeansJob, Listed, EveryText}
 use Rattle.demands.specs.laws.Asked.{Verdict, orElse, then-asked, first-once, not-both}
 use Rattle.demands.specs.laws.Sound.{settings-pass}
 use Rattle.demands.specs.laws.TextLine.{word-verdict, blockNumber, block-asked}
@@ -38,22 +39,23 @@ use Rattle.demands.specs.laws.TextLine.{word-verdict, blockNumber, block
 
 -- what a line asks, by its questions
 data Says (s : Settings) (at : Point) (k : Reader) (bytes : List ℕ) (l : Line) : Asks → Type 0 where
-  refuses : (number : ℕ) → FirstNo (textQuestions s at k bytes l) number → Says s at k bytes l (Asks.refuses number)
-  nothing : AllYes (textQuestions s at k bytes l) → makesBlock s at k l ≡ false
+  refuses : (number : ℕ) → FirstNo (textQuestions k (standing s at) bytes l) number → Says s at k bytes l (Asks.refuses number)
+  nothing : AllYes (textQuestions k (standing s at) bytes l) → makesBlock k (standing s at) l ≡ false
       → Says s at k bytes l (Asks.nothing (readerAfter k (l .words)))
-  makes : AllYes (textQuestions s at k bytes l) → makesBlock s at k l ≡ true
-      → Says s at k bytes l (Asks.makes (readerAfter k (l .words)) (lineBlock s at k l))
+  makes : AllYes (textQuestions k (standing s at) bytes l) → makesBlock k (standing s at) l ≡ true
+      → Says s at k bytes l (Asks.makes (readerAfter k (l .words)) (lineBlock k (standing s at) l))
 
 -- they settle it
 says-once : (s : Settings) (at : Point) (k : Reader) (bytes : List ℕ) (l : Line) {a c : Asks} → Says s at k bytes l a
     → Says s at k bytes l c → a ≡ c
-says-once s at k bytes l (Says.refuses n f) (Says.refuses m g) = ap Asks.refuses (first-once (textQuestions s at k bytes l) n m f g)
-says-once s at k bytes l (Says.refuses n f) (Says.nothing y e) = absurd (not-both (textQuestions s at k bytes l) n y f)
-says-once s at k bytes l (Says.refuses n f) (Says.makes y e) = absurd (not-both (textQuestions s at k bytes l) n y f)
-says-once s at k bytes l (Says.nothing y e) (Says.refuses n f) = absurd (not-both (textQuestions s at k bytes l) n y f)
+says-once s at k bytes l (Says.refuses n f) (Says.refuses m g) =
+    ap Asks.refuses (first-once (textQuestions k (standing s at) bytes l) n m f g)
+says-once s at k bytes l (Says.refuses n f) (Says.nothing y e) = absurd (not-both (textQuestions k (standing s at) bytes l) n y f)
+says-once s at k bytes l (Says.refuses n f) (Says.makes y e) = absurd (not-both (textQuestions k (standing s at) bytes l) n y f)
+says-once s at k bytes l (Says.nothing y e) (Says.refuses n f) = absurd (not-both (textQuestions k (standing s at) bytes l) n y f)
 says-once s at k bytes l (Says.nothing y e) (Says.nothing z g) = refl
 says-once s at k bytes l (Says.nothing y e) (Says.makes z g) = absurd (false≢true (sym e ∙ g))
-says-once s at k bytes l (Says.makes y e) (Says.refuses n f) = absurd (not-both (textQuestions s at k bytes l) n y f)
+says-once s at k bytes l (Says.makes y e) (Says.refuses n f) = absurd (not-both (textQuestions k (standing s at) bytes l) n y f)
 says-once s at k bytes l (Says.makes y e) (Says.nothing z g) = absurd (true≢false (sym e ∙ g))
 says-once s at k bytes l (Says.makes y e) (Says.makes z g) = refl
 
@@ -62,7 +64,7 @@ module _ (s : Settings) (at : Point) (k : Reader) (bytes : List ℕ) (l : Line) 
   after = readerAfter k (l .words)
 
   abbrev b : Block
-  b = lineBlock s at k l
+  b = lineBlock k (standing s at) l
 
   -- what the line asks, by its numbers
   abbrev asksBy : (number : ℕ) (moves stays : Bool) (load : ℕ) → Asks
@@ -75,8 +77,8 @@ module _ (s : Settings) (at : Point) (k : Reader) (bytes : List ℕ) (l : Line) 
   asks-are zero = refl
   asks-are (suc number) = refl
 
-  says-by : (number : ℕ) (moves stays : Bool) (load : ℕ) → makesBlock s at k l ≡ isBlock moves stays
-      → Verdict (textQuestions s at k bytes l) (orElse number (blockNumber k after (standing s at) (l .words) moves stays load))
+  says-by : (number : ℕ) (moves stays : Bool) (load : ℕ) → makesBlock k (standing s at) l ≡ isBlock moves stays
+      → Verdict (textQuestions k (standing s at) bytes l) (orElse number (blockNumber k after (standing s at) (l .words) moves stays load))
       → Says s at k bytes l (asksBy number moves stays load)
   says-by (suc number) moves stays load e v = Says.refuses (suc number) (v .told)
   says-by zero true true load e v = Says.nothing (v .told) e
@@ -103,7 +105,8 @@ module _ (s : Settings) (n : ℕ) (at : Point) (k : Reader) (bytes : List ℕ) (
       → (let j = onward n at a (λ at′ k′. jobFrom s (n + 1) at′ k′ lines) in TextMeans s n at k (bytes ∷ lines) (j .blocks) (j .end))
   line-means-job rest l means _ (Says.refuses number f) = TextMeans.refused l means number f
   line-means-job rest l means _ (Says.nothing y e) = TextMeans.nothing l means y e (rest at (readerAfter k (l .words)))
-  line-means-job rest l means _ (Says.makes y e) = TextMeans.block l means y e (rest (lineBlock s at k l .end) (readerAfter k (l .words)))
+  line-means-job rest l means _ (Says.makes y e) =
+      TextMeans.block l means y e (rest (lineBlock k (standing s at) l .end) (readerAfter k (l .words)))
 
 lines-mean : (s : Settings) (n : ℕ) (at : Point) (k : Reader) (lines : List (List ℕ))
     → (let j = jobFrom s n at k lines in TextMeans s n at k lines (j .blocks) (j .end))
