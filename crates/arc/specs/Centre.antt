@@ -22,11 +22,12 @@ roomOf t centre =
       down = centre .y -ℤ t .y .lower;
     }
 
--- ---- what the code asks, so that no sum or difference overflows
-
+-- within ±bound
 pub record Near (bound : ℕ) (p : Point) : Type 0 where
   pub x : natAbs (p .x) ≤ bound
   pub y : natAbs (p .y) ≤ bound
+
+-- ---- what the code asks, so that no sum or difference overflows
 
 pub record Reach (o : Offset) : Type 0 where
   pub x : natAbs (o .x) ≤ 4000000

@@ -23,7 +23,7 @@ use Rattle.reader.proofs.«text_line».«read_line».Reads as line-reads
 use Rattle.book.specs.Book.{Reply}
 use Rattle.history.specs.Contracts.{Makes, Loads, Ticks, Runs, Holds, Releases, Stops}
 use Rattle.history.specs.Reply.{answerReply, tickReply, runReply}
-use Rattle.demands.specs.Asked.{none, Answers}
+use Rattle.demands.specs.Asked.{none, AsAsked}
 use Rattle.demands.specs.Sound.{settingsQuestions}
 use Rattle.demands.specs.Questions.{soundQuestion, loadQuestions, lineQuestions}
 
@@ -64,17 +64,17 @@ pub record EveryAnswer : Type 0 where
   pub comes : Comes
   -- "A refused make answers the number and the fresh machine with p 50, w 5,000 and the widest travel."
   pub make : (s : Settings) (r : Answered) → Makes s r
-      → Answers (settingsQuestions s) (answerReply (r .answer)) (r .machine ≡ freshOf standardSettings)
+      → AsAsked (settingsQuestions s) (answerReply (r .answer)) (r .machine ≡ freshOf standardSettings)
   pub load : (m : Machine) (b : Block) (r : Answered) → Loads m b r
-      → Answers (loadQuestions m b) (answerReply (r .answer)) (r .machine ≡ m)
-  pub tick : (m : Machine) (r : Ticked) → Ticks m r → Answers (soundQuestion m none) (tickReply (r .tick)) (r .machine ≡ m)
+      → AsAsked (loadQuestions m b) (answerReply (r .answer)) (r .machine ≡ m)
+  pub tick : (m : Machine) (r : Ticked) → Ticks m r → AsAsked (soundQuestion m none) (tickReply (r .tick)) (r .machine ≡ m)
   pub run : (κs : Lfts 1) (m : Machine) (budget : ℕ) (out out′ : RefT (List ℕ)) (r : Ran) → Runs κs m budget out out′ r
-      → Answers (soundQuestion m none) (ranReply r (now out′)) (Untouched m (now out) (now out′) r)
-  pub hold : (m : Machine) (r : Answered) → Holds m r → Answers (soundQuestion m none) (answerReply (r .answer)) (r .machine ≡ m)
+      → AsAsked (soundQuestion m none) (ranReply r (now out′)) (Untouched m (now out) (now out′) r)
+  pub hold : (m : Machine) (r : Answered) → Holds m r → AsAsked (soundQuestion m none) (answerReply (r .answer)) (r .machine ≡ m)
   pub release : (m : Machine) (r : Answered) → Releases m r
-      → Answers (soundQuestion m none) (answerReply (r .answer)) (r .machine ≡ m)
-  pub stop : (m : Machine) (r : Answered) → Stops m r → Answers (soundQuestion m none) (answerReply (r .answer)) (r .machine ≡ m)
+      → AsAsked (soundQuestion m none) (answerReply (r .answer)) (r .machine ≡ m)
+  pub stop : (m : Machine) (r : Answered) → Stops m r → AsAsked (soundQuestion m none) (answerReply (r .answer)) (r .machine ≡ m)
   -- "A refused line leaves the known G and F and the machine as before it."
   pub line : (κs : Lfts 1) (k : Reader) (m : Machine) (bytes : RefT (List ℕ)) (r : ReadLine) → ReadsLine κs k m bytes r
       → (l : Line) → Means (now bytes) l
-      → Answers (lineQuestions k m (now bytes) l) (readReply (r .answer)) ((r .reader ≡ k) × (r .machine ≡ m))
+      → AsAsked (lineQuestions k m (now bytes) l) (readReply (r .answer)) ((r .reader ≡ k) × (r .machine ≡ m))

@@ -17,10 +17,10 @@ use Rattle.circle.specs.Circle.{square, Circle}
 use Rattle.circle.specs.Next.{Next, Walk, Ends}
 use Rattle.circle.specs.Step.{offset}
 use Rattle.arc.specs.declared.arc.Arc.{Arc}
-use Rattle.arc.specs.Centre.{seenFrom, backFrom}
+use Rattle.arc.specs.Centre.{seenFrom}
 use Rattle.block.specs.declared.Block.{Block}
 use Rattle.block.specs.declared.Path.{Path}
-use Rattle.block.specs.Block.{squareOf}
+use Rattle.block.specs.Block.{squareOf, arcOf}
 use Rattle.work.specs.declared.Work.{Work}
 use Rattle.work.specs.Work.{cyclesLeft}
 use Rattle.settings.specs.Settings.{capacityOf}
@@ -57,14 +57,9 @@ pub record LeastError (N : ℕ) (p : Offset) : Type 0 where
 
 -- ---- an accepted arc
 
--- "(I, J) is the centre seen from the start; N = I² + J²."
-abbrev pub arcFrom : (start : Point) → Block → Turn → (centre : Offset) → Arc
-arcFrom start b turn centre =
-    record { centre = backFrom start centre; square = squareOf centre; turn = turn; end = b .end; feed = b .feed }
-
 pub record ArcLoaded (m : Machine) (b : Block) (turn : Turn) (centre : Offset) (r : Answered) : Type 0 where
-  -- it comes into work at the point
-  pub machine : r .machine ≡ movedOf m (m .at) (m .remainder) (Work.Arc (arcFrom (m .at) b turn centre))
+  -- "(I, J) is the centre seen from the start; N = I² + J²." The start is the machine's point.
+  pub machine : r .machine ≡ movedOf m (m .at) (m .remainder) (Work.Arc (arcOf (m .at) b turn centre))
   -- "the fewest bits that hold .. for an arc its m on an axis": such a circle point there is, and only one
   pub axis : ℕ
   pub on-axis : (n : ℕ) → Circle (squareOf centre) (offset (pos n) (pos 0)) ↔ (n ≡ axis)
@@ -72,7 +67,7 @@ pub record ArcLoaded (m : Machine) (b : Block) (turn : Turn) (centre : Offset) (
 
 -- ---- a tick
 
--- the record after a cycle that leads to the point at: "If it then reaches or passes q0, q0 is taken off and one cycle is done."
+-- answer and record of a cycle that leads to the point at: "If it then reaches or passes q0, q0 is taken off and one cycle is done."
 abbrev pub arcCycled : Machine → (feed : ℕ) (at : Point) → Pulses → (ended : Bool) → Work → Ticked
 arcCycled m feed at pulses ended work =
     record {
@@ -105,7 +100,7 @@ pub record EveryArc : Type 0 where
       → (turn : Turn) (centre : Offset) → b .path ≡ Path.Arc turn centre → ArcLoaded m b turn centre r
   pub tick : (m : Machine) (a : Arc) (r : Ticked) → Ticks m r → Sound m → m .work ≡ Work.Arc a → m .held ≡ false → ArcTick m a r
   -- the cycles left, which the feed divider counts, are those of the paper's walk to the end
-  pub left : (m : Machine) (a : Arc) → Sound m → m .work ≡ Work.Arc a
+  pub cycles-left : (m : Machine) (a : Arc) → Sound m → m .work ≡ Work.Arc a
       → Ends (a .square) (a .turn) (seenFrom (a .centre) (m .at)) (seenFrom (a .centre) (a .end)) (cyclesLeft (m .at) (m .work))
   -- "The arc visits the circle points after the start in order of angle, one a cycle": after ticks whose bytes mark c cycles the walk has
   -- come c points on

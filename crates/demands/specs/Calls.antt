@@ -1,10 +1,9 @@
--- What the calls do where no question refuses them, for every sound record: make, hold, release, stop, a tick that does not work, and a text
--- line. A load and a working tick are in Lines and Arcs, a run in Runs.
+-- What the calls do where no question refuses them, for every sound record: make, hold, release, stop, a tick that does not work, and a
+-- text line. A load and a working tick are in Lines and Arcs, a run in Runs.
 use mathlib.Core.Path.{_≡_}
-use mathlib.Core.Bool.{Bool, true, false}
+use mathlib.Core.Bool.{true, false}
 use mathlib.Core.List.{List}
 use Prim.Native.Nat.{ℕ}
-use lib.IntN.{pos}
 use denote.Ref.{RefT, now}
 use contract.Lifetimes.{Lfts}
 use Rattle.work.specs.declared.Work.{Work}
@@ -14,6 +13,8 @@ use Rattle.machine.specs.declared.Answer.{Answer}
 use Rattle.machine.specs.declared.Answered.{Answered}
 use Rattle.machine.specs.declared.Tick.{Tick}
 use Rattle.machine.specs.declared.Ticked.{Ticked}
+use Rattle.machine.specs.Machine.{freshOf, movedOf}
+use Rattle.machine.specs.Calls.{answers, ticks, markedOf}
 use Rattle.words.specs.declared.line.Line.{Line}
 use Rattle.words.specs.Meaning.{Means}
 use Rattle.reader.specs.declared.Reader.{Reader}
@@ -26,25 +27,10 @@ use Rattle.demands.specs.Sound.{Sound, settingsQuestions}
 use Rattle.demands.specs.Questions.{lineBlock, makesBlock, lineQuestions}
 use Rattle.demands.specs.Answers.{ReadsLine}
 
-abbrev pub done : Machine → Answered
-done m = record { answer = Answer.Done; machine = m }
-
--- "A fresh machine stands at (0, 0), idle, not held, remainder 0."
-abbrev pub fresh : Settings → Machine
-fresh s = record { settings = s; at = record { x = pos 0; y = pos 0 }; held = false; remainder = 0; work = Work.Nothing }
-
--- "Hold and release only set a mark."
-abbrev pub marked : Bool → Machine → Machine
-marked held m = record { settings = m .settings; at = m .at; held = held; remainder = m .remainder; work = m .work }
-
--- "Stop drops the block in work, keeps the point and the mark and sets the remainder to 0, also when idle."
-abbrev pub stopped : Machine → Machine
-stopped m = record { settings = m .settings; at = m .at; held = m .held; remainder = 0; work = Work.Nothing }
-
 -- a text line that no question refuses
 pub record LineTaken (k : Reader) (m : Machine) (l : Line) (r : ReadLine) : Type 0 where
-  -- "A line without X, Y, I, J makes no block; nor does a straight line to the point where it stands": the machine stays. "G and F count from
-  -- their own line until changed."
+  -- "A line without X, Y, I, J makes no block; nor does a straight line to the point where it stands": the machine stays. "G and F count
+  -- from their own line until changed".
   pub no-block : makesBlock k m l ≡ false → r ≡ record { answer = Read.Nothing; reader = readerAfter k (l .words); machine = m }
   -- any other is a load of its block
   pub block : makesBlock k m l ≡ true
@@ -52,12 +38,15 @@ pub record LineTaken (k : Reader) (m : Machine) (l : Line) (r : ReadLine) : Type
       × (r ≡ record { answer = Read.Loaded bits; reader = readerAfter k (l .words); machine = a .machine })
 
 pub record EveryCall : Type 0 where
-  pub make : (s : Settings) (r : Answered) → Makes s r → AllYes (settingsQuestions s) → r ≡ done (fresh s)
-  pub hold : (m : Machine) (r : Answered) → Holds m r → Sound m → r ≡ done (marked true m)
-  pub release : (m : Machine) (r : Answered) → Releases m r → Sound m → r ≡ done (marked false m)
-  pub stop : (m : Machine) (r : Answered) → Stops m r → Sound m → r ≡ done (stopped m)
+  -- "A fresh machine stands at (0, 0), idle, not held, remainder 0."
+  pub make : (s : Settings) (r : Answered) → Makes s r → AllYes (settingsQuestions s) → r ≡ answers Answer.Done (freshOf s)
+  -- "Hold and release only set a mark." "These three answer done, or 9."
+  pub hold : (m : Machine) (r : Answered) → Holds m r → Sound m → r ≡ answers Answer.Done (markedOf m true)
+  pub release : (m : Machine) (r : Answered) → Releases m r → Sound m → r ≡ answers Answer.Done (markedOf m false)
+  -- "Stop drops the block in work, keeps the point and the mark and sets the remainder to 0, also when idle."
+  pub stop : (m : Machine) (r : Answered) → Stops m r → Sound m → r ≡ answers Answer.Done (movedOf m (m .at) 0 Work.Nothing)
   -- "Idle or held gives 0 and changes nothing."
-  pub idle : (m : Machine) (r : Ticked) → Ticks m r → Sound m → m .work ≡ Work.Nothing → r ≡ record { tick = Tick.Byte 0; machine = m }
-  pub held : (m : Machine) (r : Ticked) → Ticks m r → Sound m → m .held ≡ true → r ≡ record { tick = Tick.Byte 0; machine = m }
+  pub idle : (m : Machine) (r : Ticked) → Ticks m r → Sound m → m .work ≡ Work.Nothing → r ≡ ticks (Tick.Byte 0) m
+  pub held : (m : Machine) (r : Ticked) → Ticks m r → Sound m → m .held ≡ true → r ≡ ticks (Tick.Byte 0) m
   pub line : (κs : Lfts 1) (k : Reader) (m : Machine) (bytes : RefT (List ℕ)) (r : ReadLine) → ReadsLine κs k m bytes r
       → (l : Line) → Means (now bytes) l → AllYes (lineQuestions k m (now bytes) l) → LineTaken k m l r

@@ -1,10 +1,10 @@
 -- The demands from C, where the caller owns the record as 18 words: on the words of a sound record each call is the machine's own, so that
 -- what is claimed of the machine's calls is claimed of these; all other words get 9 and stay as they are.
 use mathlib.Core.Path.{_≡_}
-use mathlib.Core.List.{List, _++_}
-use Prim.Native.Nat.{ℕ, _≤_}
+use mathlib.Core.List.{List, [], _++_}
+use Prim.Native.Nat.{ℕ}
 use lib.IntN.{ℤ, pos, negsuc}
-use lib.ListN.{length, take}
+use lib.ListN.{take}
 use denote.Ref.{RefT, now}
 use contract.Lifetimes.{Lfts}
 use Rattle.circle.specs.declared.plane.Turn.{Turn}
@@ -19,7 +19,9 @@ use Rattle.history.specs.Contracts.{Makes, Loads, Ticks, Runs, Holds, Releases,
 use Rattle.job.specs.Job.{jobOf}
 use Rattle.job.specs.Listing.{jobListing}
 use Rattle.job.specs.declared.Check.{Check}
-use Rattle.layout.specs.Words.{encodeOf, settingsOf}
+use Rattle.job.specs.declared.Filled.{Filled}
+use Rattle.job.specs.Check.{isOver}
+use Rattle.layout.specs.Words.{encodeOf, settingsOf, markWord}
 use Rattle.export.specs.declared.call.Call.{Call}
 use Rattle.export.specs.Calls.{answerNumber, tickNumber, reportNumber, makeNumber, arcPath, blockOf}
 use Rattle.capi.proofs.vz_make.Reads as make-reads
@@ -31,12 +33,13 @@ use Rattle.capi.proofs.vz_run.Reads as run-reads
 use Rattle.capi.proofs.vz_hold.Reads as hold-reads
 use Rattle.capi.proofs.vz_release.Reads as release-reads
 use Rattle.capi.proofs.vz_stop.Reads as stop-reads
-use Rattle.checkexport.specs.Words.{encodeOf as checkWords}
+use Rattle.checkexport.specs.Words.{checkIn, encodeOf as checkWords}
 use Rattle.checkexport.specs.Calls.{Refuses}
 use Rattle.capi.proofs.vz_check_start.Reads as start-reads
 use Rattle.capi.proofs.vz_check_fill.Reads as fill-reads
 use Rattle.demands.specs.Asked.{AllYes}
 use Rattle.demands.specs.Sound.{Sound, settingsQuestions}
+use Rattle.demands.specs.Texts.{FrontOf, Starts, FillsCheck}
 
 -- ---- the machine's own call on the record m: it may give the answer n, as C has it, and the record m′
 
@@ -78,20 +81,31 @@ abbrev pub MadeWords : Settings → (n : ℤ) (after : List ℤ) → Type 0
 MadeWords s n after =
     (r : Answered) × Makes s r × (n ≡ makeNumber (r .answer)) × Sound (r .machine) × (after ≡ encodeOf (r .machine))
 
--- ---- the check of a job, as 26 words
+-- ---- the check of a job, as 26 words; `checkIn` is the check that words tell, and its words are those of no other
+
+-- the words of a check that begins at the machine that a make answers
+abbrev pub StartedWords : Settings → (n : ℤ) (after : List ℤ) → Type 0
+StartedWords s n after =
+    (r : Answered) × Makes s r × (n ≡ makeNumber (r .answer)) × (c : Check) × Starts (r .machine) c × (after ≡ checkWords c)
 
 -- a fill of the words, lent the text, may answer n
 abbrev pub FillsFromC : Lfts 4 → (words words′ : RefT (List ℤ)) (text out out′ : RefT (List ℕ)) (len len′ : RefT ℕ) (n : ℤ) → Type 0
 FillsFromC κs words words′ text out out′ len len′ n =
     fill-reads.Learnt κs (words, (text, (out, (len, tt)))) n (words′, (text, (out′, (len′, tt))))
 
--- fills of one text, one after the other, until one answers 1: the bytes that they give
-pub data ListedFromC (text : List ℕ) : List ℤ → List ℕ → Type 0 where
-  last : (κs : Lfts 4) (words words′ : RefT (List ℤ)) (lent out out′ : RefT (List ℕ)) (len len′ : RefT ℕ) → now lent ≡ text
-      → FillsFromC κs words words′ lent out out′ len len′ (pos 1) → ListedFromC text (now words) (take (now len′) (now out′))
-  more : {bytes : List ℕ} (κs : Lfts 4) (words words′ : RefT (List ℤ)) (lent out out′ : RefT (List ℕ)) (len len′ : RefT ℕ)
-      → now lent ≡ text → FillsFromC κs words words′ lent out out′ len len′ (pos 0) → ListedFromC text (now words′) bytes
-      → ListedFromC text (now words) (take (now len′) (now out′) ++ bytes)
+-- the check's own fill: 1 once all is handed out, else 0
+abbrev pub OwnFill : Check → (text out out′ : RefT (List ℕ)) (n : ℤ) (len : ℕ) (after : List ℤ) → Type 0
+OwnFill c text out out′ n len after =
+    (f : Filled) × ((κs : Lfts 2) → FillsCheck κs c text out out′ f) × (n ≡ markWord (isOver (f .check))) × (len ≡ f .len)
+    × (after ≡ checkWords (f .check))
+
+-- fills of one text, one after the other, lead from the words ws to these, and hand these bytes out; n is what the last answered
+pub data RowsOutToC (text : List ℕ) (ws : List ℤ) : List ℕ → (n : ℤ) → List ℤ → Type 0 where
+  none : RowsOutToC text ws [] (pos 0) ws
+  fill : {bytes : List ℕ} {n : ℤ} {after : List ℤ} → RowsOutToC text ws bytes n after → (κs : Lfts 4) (words words′ : RefT (List ℤ))
+      (lent out out′ : RefT (List ℕ)) (len len′ : RefT ℕ) (n′ : ℤ) → now words ≡ after → now lent ≡ text
+      → FillsFromC κs words words′ lent out out′ len len′ n′
+      → RowsOutToC text ws (bytes ++ take (now len′) (now out′)) n′ (now words′)
 
 pub record EveryCallFromC : Type 0 where
   pub make : (κs : Lfts 1) (words words′ : RefT (List ℤ)) (p w xlo xhi ylo yhi n : ℤ)
@@ -117,15 +131,19 @@ pub record EveryCallFromC : Type 0 where
   pub run : (κs : Lfts 3) (words words′ : RefT (List ℤ)) (budget : ℕ) (out out′ : RefT (List ℕ)) (ticks ticks′ : RefT ℕ) (n : ℤ)
       → run-reads.Learnt κs (words, (budget, (out, (ticks, tt)))) n (words′, (budget, (out′, (ticks′, tt))))
       → RunOnWords (now words) budget out out′ n (now ticks′) (now words′)
-  -- "The check program", from C: whoever fills the words of a start until the answer is 1 has the listing, to the byte
+  pub start : (κs : Lfts 1) (words words′ : RefT (List ℤ)) (p w xlo xhi ylo yhi n : ℤ)
+      → start-reads.Learnt κs (words, (p, (w, (xlo, (xhi, (ylo, (yhi, tt))))))) n (words′, (p, (w, (xlo, (xhi, (ylo, (yhi, tt)))))))
+      → StartedWords (settingsOf p w xlo xhi ylo yhi) n (now words′)
+  pub fill : (κs : Lfts 4) (words words′ : RefT (List ℤ)) (text out out′ : RefT (List ℕ)) (len len′ : RefT ℕ) (n : ℤ)
+      → FillsFromC κs words words′ text out out′ len len′ n → now words ≡ checkWords (checkIn (now words))
+      → OwnFill (checkIn (now words)) text out out′ n (now len′) (now words′)
+  -- all other words get 9, and nothing is written
+  pub no-check : (κs : Lfts 4) (words words′ : RefT (List ℤ)) (text out out′ : RefT (List ℕ)) (len len′ : RefT ℕ) (n : ℤ)
+      → FillsFromC κs words words′ text out out′ len len′ n → ¬ (now words ≡ checkWords (checkIn (now words)))
+      → Refuses (now words) (now out) n (now len′) (now words′) (now out′)
+  -- "The check program", from C: whoever fills the words of a start gets the listing, to the byte, and the answer 1 at its end
   pub listing : (κs : Lfts 1) (words words′ : RefT (List ℤ)) (p w xlo xhi ylo yhi n : ℤ)
       → start-reads.Learnt κs (words, (p, (w, (xlo, (xhi, (ylo, (yhi, tt))))))) n (words′, (p, (w, (xlo, (xhi, (ylo, (yhi, tt)))))))
       → (let s = settingsOf p w xlo xhi ylo yhi in AllYes (settingsQuestions s)
-      → (text bytes : List ℕ) → ListedFromC text (now words′) bytes → bytes ≡ jobListing (capacityOf s) (jobOf s text))
-  -- 0 says that more is to come: a buffer that holds a row has got at least a byte
-  pub onward : (κs : Lfts 4) (words words′ : RefT (List ℤ)) (text out out′ : RefT (List ℕ)) (len len′ : RefT ℕ)
-      → FillsFromC κs words words′ text out out′ len len′ (pos 0) → 160 ≤ length (now out) → 1 ≤ now len′
-  -- words that no check has get 9, and nothing is written
-  pub no-check : (κs : Lfts 4) (words words′ : RefT (List ℤ)) (text out out′ : RefT (List ℕ)) (len len′ : RefT ℕ) (n : ℤ)
-      → FillsFromC κs words words′ text out out′ len len′ n → ((c : Check) → ¬ (now words ≡ checkWords c))
-      → Refuses (now words) (now out) n (now len′) (now words′) (now out′)
+      → (text bytes : List ℕ) (last : ℤ) (after : List ℤ) → RowsOutToC text (now words′) bytes last after
+      → FrontOf (jobListing (capacityOf s) (jobOf s text)) bytes (last ≡ pos 1))

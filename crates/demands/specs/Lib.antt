@@ -1,4 +1,4 @@
--- To be believed, in this order: Asked, Sound, Questions, Answers, Records and Calls (demand 1); Lines, Arcs, Runs, Texts and TickBytes
+-- To be believed, in this order: Asked, Sound, Questions, Answers, Records and Calls (demand 1); Runs, Lines, Arcs, Texts and TickBytes
 -- (demand 2); FromC. Demand 3 is in crate history. Proved of them: laws.
 pub mod Asked
 pub mod Sound

@@ -39,8 +39,8 @@ registerPulses start end c =
     }
 
 -- with one cycle more
-abbrev pub onward : Line → Line
-onward l = record { start = l .start; end = l .end; feed = l .feed; cycles = l .cycles; done = l .done + 1 }
+abbrev pub oneMore : Line → Line
+oneMore l = record { start = l .start; end = l .end; feed = l .feed; cycles = l .cycles; done = l .done + 1 }
 
 -- a working tick of a record with a line in work
 pub record LineTick (m : Machine) (l : Line) (r : Ticked) : Type 0 where
@@ -55,7 +55,7 @@ pub record LineTick (m : Machine) (l : Line) (r : Ticked) : Type 0 where
       let rest = m .remainder + l .feed - capacityOf (m .settings) in
       r ≡ record {
         tick = Tick.Byte (cycleByte pulses last);
-        machine = movedOf m (shiftedOf (m .at) pulses) rest (following last (Work.Line (onward l)));
+        machine = movedOf m (shiftedOf (m .at) pulses) rest (following last (Work.Line (oneMore l)));
       })
 
 pub record EveryLine : Type 0 where

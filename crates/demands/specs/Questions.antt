@@ -1,4 +1,5 @@
--- 01, "Questions, and the number when the answer is no": what each call is asked, question by question. 1, 2, 3 and 9 are in Sound.
+-- 01, "Questions, and the number when the answer is no": what each call is asked, question by question. 1, 2, 3 and the list behind 9 are
+-- in Sound; 30, which is asked of a whole text, is in Texts.
 use mathlib.Core.Path.{_≡_}
 use mathlib.Core.Bool.{Bool, true, false}
 use mathlib.Core.Logic.{_≢_}
@@ -78,7 +79,7 @@ blockQuestions m b =
 abbrev pub loadQuestions : Machine → Block → Questions
 loadQuestions m b = soundQuestion m (blockQuestions m b)
 
--- ---- a text line; l is what its bytes mean, k the G and F known after it
+-- ---- a text line; l is what its bytes mean, after the G and F known with it
 
 -- "No letter twice? 33."
 abbrev pub NoLetterTwice : Words → Type 0
@@ -99,25 +100,25 @@ pub record OnPulses (p : ℕ) (ws : Words) : Type 0 where
   pub j : OnPulse p (ws .j)
 
 -- "If one of those four stands, are a G and an F known? 36."
-abbrev pub MotionAndFeedKnown : Reader → Words → Type 0
-MotionAndFeedKnown k ws = moving ws ≡ true → (motionKnown (k .motion) ≡ true) × (feedKnown (k .feed) ≡ true)
+abbrev pub MotionAndFeedKnown : (after : Reader) → Words → Type 0
+MotionAndFeedKnown after ws = moving ws ≡ true → (motionKnown (after .motion) ≡ true) × (feedKnown (after .feed) ≡ true)
 
 -- "Do I or J stand only under G 2 or 3, and does a line under 2 or 3 with X or Y have I or J? 37."
 pub record CentreStands (m : Motion) (ws : Words) : Type 0 where
   pub only : centred ws ≡ true → isArc m ≡ true
   pub there : isArc m ≡ true → placed ws ≡ true → centred ws ≡ true
 
-abbrev pub wordQuestions : Reader → Machine → (bytes : List ℕ) → Line → Questions
-wordQuestions k m bytes l =
+abbrev pub wordQuestions : (after : Reader) → Machine → (bytes : List ℕ) → Line → Questions
+wordQuestions after m bytes l =
     question 31 (length bytes ≤ 80)
     (question 32 (LineOfWords bytes)
     (question 33 (NoLetterTwice (l .words))
     (question 34 (MotionRight (l .words))
     (question 35 (OnPulses (m .settings .scale) (l .words))
-    (question 36 (MotionAndFeedKnown k (l .words))
-    (question 37 (CentreStands (k .motion) (l .words)) none))))))
+    (question 36 (MotionAndFeedKnown after (l .words))
+    (question 37 (CentreStands (after .motion) (l .words)) none))))))
 
--- ---- the block of a text line; k is the G and F known before the line, and "G and F count from their own line"
+-- ---- the block of a text line; k is the G and F known before it. "G and F count from their own line"
 
 abbrev pub lineBlock : Reader → Machine → Line → Block
 lineBlock k m l = blockOf (m .settings .scale) (readerAfter k (l .words)) (l .words) (m .at)

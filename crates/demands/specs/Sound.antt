@@ -74,7 +74,8 @@ pub record LineSound (q0 : ℕ) (t : Travel) (at : Point) (l : Line) : Type 0 wh
   pub cycles : l .cycles ≡ cyclesOf (l .start) (l .end)
 
 -- "an arc in work has feed in 1..q0, N in 1..2,000,000,000,000, point and end both circle points of N about a centre within ±2,000,000, and
--- every point still to visit in travel. Point equal to end then means a full turn not begun."
+-- every point still to visit in travel. Point equal to end then means a full turn not begun.": `Ends` counts at least one cycle, so that
+-- all points are still to visit there
 pub record ArcSound (q0 : ℕ) (t : Travel) (at : Point) (a : Arc) : Type 0 where
   pub feed : FeedRight q0 (a .feed)
   pub square : (1 ≤ a .square) × (a .square ≤ 2000000000000)

@@ -18,6 +18,7 @@ use Rattle.words.specs.declared.line.Line.{Line}
 use Rattle.words.specs.Meaning.{Means}
 use Rattle.reader.specs.declared.Reader.{Reader}
 use Rattle.reader.specs.Reader.{unknown, readerAfter}
+use Rattle.book.specs.Ledger.{CountedAlong}
 use Rattle.job.specs.declared.Check.{Check}
 use Rattle.job.specs.declared.Filled.{Filled}
 use Rattle.job.specs.Text.{linesOf}
@@ -26,43 +27,48 @@ use Rattle.job.specs.Listing.{jobListing}
 use Rattle.job.specs.Check.{isOver}
 use Rattle.job.proofs.Check.start.Reads as start-reads
 use Rattle.job.proofs.Check.fill.Reads as fill-reads
+use Rattle.job.proofs.Check.is_over.Reads as over-reads
 use Rattle.demands.specs.Asked.{FirstNo, AllYes}
 use Rattle.demands.specs.Sound.{settingsQuestions}
 use Rattle.demands.specs.Questions.{lineBlock, makesBlock, textQuestions}
 
--- ---- one line, read at a point with nothing in work: "Each block is loaded once the one before has ended"
+-- ---- one line, read at a point with nothing in work: "Each block is loaded once the one before has ended". No question looks at the mark
+-- or at the remainder, which is kept from block to block.
 
 abbrev pub standing : Settings → (at : Point) → Machine
 standing s at = record { settings = s; at = at; held = false; remainder = 0; work = Work.Nothing }
 
 -- ---- the lines of a text, from number n on, read at a point with a G and an F known, mean these blocks, and end so
 
-pub data TextMeans (s : Settings) : (n : ℕ) (at : Point) (known : Reader) → List (List ℕ) → List Made → End → Type 0 where
-  over : {n : ℕ} {at : Point} {k : Reader} → TextMeans s n at k [] [] End.complete
-  -- "A refused line .."
+pub data LinesMean (s : Settings) : (n : ℕ) (at : Point) (known : Reader) → List (List ℕ) → List Made → End → Type 0 where
+  over : {n : ℕ} {at : Point} {k : Reader} → LinesMean s n at k [] [] End.complete
+  -- "At a refusal the rows so far stand", and no line after it is read
   refused : {n : ℕ} {at : Point} {k : Reader} {bytes : List ℕ} {lines : List (List ℕ)} (l : Line) → Means bytes l → (number : ℕ)
       → FirstNo (textQuestions k (standing s at) bytes l) number
-      → TextMeans s n at k (bytes ∷ lines) [] (End.refused n number)
+      → LinesMean s n at k (bytes ∷ lines) [] (End.refused n number)
   -- "G and F count from their own line until changed"
   nothing : {n : ℕ} {at : Point} {k : Reader} {bytes : List ℕ} {lines : List (List ℕ)} {made : List Made} {end : End} (l : Line)
       → Means bytes l
       → AllYes (textQuestions k (standing s at) bytes l) → makesBlock k (standing s at) l ≡ false
-      → TextMeans s (n + 1) at (readerAfter k (l .words)) lines made end
-      → TextMeans s n at k (bytes ∷ lines) made end
+      → LinesMean s (n + 1) at (readerAfter k (l .words)) lines made end
+      → LinesMean s n at k (bytes ∷ lines) made end
   block : {n : ℕ} {at : Point} {k : Reader} {bytes : List ℕ} {lines : List (List ℕ)} {made : List Made} {end : End} (l : Line)
       → Means bytes l
       → AllYes (textQuestions k (standing s at) bytes l) → makesBlock k (standing s at) l ≡ true
-      → TextMeans s (n + 1) (lineBlock k (standing s at) l .end) (readerAfter k (l .words)) lines made end
-      → TextMeans s n at k (bytes ∷ lines) (record { textLine = n; start = at; block = lineBlock k (standing s at) l } ∷ made) end
+      → LinesMean s (n + 1) (lineBlock k (standing s at) l .end) (readerAfter k (l .words)) lines made end
+      → LinesMean s n at k (bytes ∷ lines) (record { textLine = n; start = at; block = lineBlock k (standing s at) l } ∷ made) end
 
--- "A fresh machine stands at (0, 0)"; nothing is known before the first line
-abbrev pub LinesMean : Settings → (text : List ℕ) → List Made → End → Type 0
-LinesMean s text made end = TextMeans s 1 (record { x = pos 0; y = pos 0 }) unknown (linesOf text) made end
+-- what a text means. "A fresh machine stands at (0, 0)", and nothing is known before its first line.
+pub data TextMeans (s : Settings) (text : List ℕ) : List Made → End → Type 0 where
+  -- "is the text at most 65,536 bytes (asked once, line 1)? 30."
+  long : 65536 < length text → TextMeans s text [] (End.refused 1 30)
+  read : {made : List Made} {end : End} → length text ≤ 65536
+      → LinesMean s 1 (record { x = pos 0; y = pos 0 }) unknown (linesOf text) made end → TextMeans s text made end
 
--- "is the text at most 65,536 bytes (asked once, line 1)? 30."
-pub data MeansJob (s : Settings) (text : List ℕ) : List Made → End → Type 0 where
-  long : 65536 < length text → MeansJob s text [] (End.refused 1 30)
-  read : {made : List Made} {end : End} → length text ≤ 65536 → LinesMean s text made end → MeansJob s text made end
+-- the cycles that the listing shows of a block: of an arc those of its walk to the end
+abbrev pub EveryCounted : List Made → Type 0
+EveryCounted [] = Unit {0}
+EveryCounted (b ∷ later) = CountedAlong (b .start) (b .block) (b .block .path) × EveryCounted later
 
 -- ---- the listing, as it is handed out
 
@@ -70,7 +76,13 @@ pub data MeansJob (s : Settings) (text : List ℕ) : List Made → End → Type 
 pub record Filling (room : ℕ) (old new : List ℕ) (len : ℕ) (over : Bool) : Type 0 where
   pub fits : len ≤ length old
   pub later : drop len new ≡ drop len old
-  pub onward : room ≤ length old → over ≡ false → 1 ≤ len
+  pub progress : room ≤ length old → over ≡ false → 1 ≤ len
+
+-- what has been handed out is the front of the whole, and all of it once the end is told
+pub record FrontOf (whole bytes : List ℕ) (EndTold : Type 0) : Type 0 where
+  pub rest : List ℕ
+  pub front : bytes ++ rest ≡ whole
+  pub all : EndTold → rest ≡ []
 
 -- the check of a job that begins at this machine
 abbrev pub Starts : Machine → Check → Type 0
@@ -80,20 +92,24 @@ Starts m c = start-reads.Learnt tt (m, tt) c (m, tt)
 abbrev pub FillsCheck : Lfts 2 → Check → (text out out′ : RefT (List ℕ)) → Filled → Type 0
 FillsCheck κs c text out out′ f = fill-reads.Learnt κs (c, (text, (out, tt))) f (c, (text, (out′, tt)))
 
--- fills of one text, one after the other, into buffers of any length and contents, until all is handed out: the bytes that they give
-pub data Listed (text : List ℕ) : Check → List ℕ → Type 0 where
-  over : {c : Check} → isOver c ≡ true → Listed text c []
-  fill : {c : Check} {bytes : List ℕ} (κs : Lfts 2) (lent out out′ : RefT (List ℕ)) (f : Filled) → now lent ≡ text
-      → FillsCheck κs c lent out out′ f → Listed text (f .check) bytes
-      → Listed text c (take (f .len) (now out′) ++ bytes)
+-- is_over may answer r
+abbrev pub TellsOver : Check → Bool → Type 0
+TellsOver c r = over-reads.Learnt tt (c, tt) r (c, tt)
+
+-- fills of one text, one after the other, into buffers of any length and contents, lead from the check c to d and hand these bytes out
+pub data RowsOut (text : List ℕ) (c : Check) : List ℕ → Check → Type 0 where
+  none : RowsOut text c [] c
+  fill : {bytes : List ℕ} {d : Check} → RowsOut text c bytes d → (κs : Lfts 2) (lent out out′ : RefT (List ℕ)) (f : Filled)
+      → now lent ≡ text → FillsCheck κs d lent out out′ f → RowsOut text c (bytes ++ take (f .len) (now out′)) (f .check)
 
 pub record EveryText : Type 0 where
-  -- a text has this meaning and no other
+  -- `jobOf` is what a text means, and it means nothing else
   pub means : (s : Settings) (text : List ℕ) (made : List Made) (end : End)
-      → MeansJob s text made end ↔ (jobOf s text ≡ record { blocks = made; end = end })
+      → TextMeans s text made end ↔ (jobOf s text ≡ record { blocks = made; end = end })
+  pub counts : (s : Settings) (text : List ℕ) → EveryCounted (jobOf s text .blocks)
   -- 160 bytes hold every row
   pub fill : (κs : Lfts 2) (c : Check) (text out out′ : RefT (List ℕ)) (f : Filled) → FillsCheck κs c text out out′ f
       → Filling 160 (now out) (now out′) (f .len) (isOver (f .check))
-  -- "The check program": whoever fills until a check that began at a fresh machine is over has the listing of this job, to the byte
-  pub listing : (s : Settings) → AllYes (settingsQuestions s) → (c : Check) → Starts (freshOf s) c → (text bytes : List ℕ)
-      → Listed text c bytes → bytes ≡ jobListing (capacityOf s) (jobOf s text)
+  -- "The check program": whoever fills a check that began at a fresh machine gets the listing of this job, to the byte
+  pub listing : (s : Settings) → AllYes (settingsQuestions s) → (c : Check) → Starts (freshOf s) c → (text bytes : List ℕ) (d : Check)
+      → RowsOut text c bytes d → FrontOf (jobListing (capacityOf s) (jobOf s text)) bytes (TellsOver d true)

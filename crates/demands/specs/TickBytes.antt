@@ -6,10 +6,12 @@ use Prim.Native.Nat.{ℕ}
 use lib.ListN.{length, take}
 use denote.Ref.{RefT, now}
 use contract.Lifetimes.{Lfts}
+use Rattle.block.specs.Block.{blockWidth}
 use Rattle.work.specs.declared.Work.{Work}
 use Rattle.settings.specs.declared.Settings.{Settings}
 use Rattle.settings.specs.Settings.{capacityOf}
 use Rattle.machine.specs.declared.Machine.{Machine}
+use Rattle.machine.specs.declared.Answer.{Answer}
 use Rattle.machine.specs.declared.Answered.{Answered}
 use Rattle.machine.specs.Machine.{freshOf}
 use Rattle.book.specs.Sums.{cyclesMarked}
@@ -24,16 +26,23 @@ use Rattle.tape.proofs.Tape.fill.Reads as fill-reads
 use Rattle.demands.specs.Asked.{AllYes}
 use Rattle.demands.specs.Sound.{settingsQuestions}
 use Rattle.demands.specs.Runs.{TicksTo}
-use Rattle.demands.specs.Texts.{Filling}
+use Rattle.demands.specs.Texts.{Filling, FrontOf}
 
--- blocks loaded from the record m on, each at the record that the one before it left and ticked to its end, by the calls' own contracts:
--- the bytes that they answer
+-- blocks loaded from the record m on, each at the record that the one before it left, accepted with its width, and ticked to its end, by
+-- the calls' own contracts: the bytes that they answer
 pub data BlocksTick : Machine → List Made → List ℕ → Type 0 where
   none : {m : Machine} → BlocksTick m [] []
-  block : {m m′ : Machine} {later : List Made} {bytes rest : List ℕ} (made : Made) (r : Answered) → Loads m (made .block) r
-      → TicksTo (r .machine) bytes m′
-      → length bytes ≡ lastTick (r .machine) → m′ .work ≡ Work.Nothing → BlocksTick m′ later rest
-      → BlocksTick m (made ∷ later) (bytes ++ rest)
+  block : {m m′ : Machine} {later : List Made} {bytes rest : List ℕ} (made : Made) (r : Answered) → made .start ≡ m .at
+      → Loads m (made .block) r → r .answer ≡ Answer.Width (blockWidth (made .start) (made .block))
+      → TicksTo (r .machine) bytes m′ → length bytes ≡ lastTick (r .machine) → m′ .work ≡ Work.Nothing
+      → BlocksTick m′ later rest → BlocksTick m (made ∷ later) (bytes ++ rest)
+
+-- the tick bytes of a text's job
+pub record JobBytes (s : Settings) (text bytes : List ℕ) : Type 0 where
+  pub blocks : BlocksTick (freshOf s) (jobOf s text .blocks) bytes
+  -- "the last line gives blocks, cycles and ticks": there are as many, and they mark as many cycles
+  pub ticks : length bytes ≡ allTicks (capacityOf s) 0 (jobOf s text .blocks)
+  pub cycles : cyclesMarked bytes ≡ allCycles (jobOf s text .blocks)
 
 -- ---- as they are handed out
 
@@ -43,23 +52,16 @@ StartsTape m t = start-reads.Learnt tt (m, tt) t (m, tt)
 abbrev pub FillsTape : Lfts 2 → Tape → (text out out′ : RefT (List ℕ)) → Filled → Type 0
 FillsTape κs t text out out′ f = fill-reads.Learnt κs (t, (text, (out, tt))) f (t, (text, (out′, tt)))
 
--- fills of one text, one after the other, into buffers of any length and contents, until all is handed out: the bytes that they give
-pub data HandedOut (text : List ℕ) : Tape → List ℕ → Type 0 where
-  over : {t : Tape} → t .over ≡ true → HandedOut text t []
-  fill : {t : Tape} {bytes : List ℕ} (κs : Lfts 2) (lent out out′ : RefT (List ℕ)) (f : Filled) → now lent ≡ text
-      → FillsTape κs t lent out out′ f → HandedOut text (f .tape) bytes
-      → HandedOut text t (take (f .len) (now out′) ++ bytes)
-
--- the tick bytes of a text's job
-pub record JobBytes (s : Settings) (text bytes : List ℕ) : Type 0 where
-  pub blocks : BlocksTick (freshOf s) (jobOf s text .blocks) bytes
-  -- "the last line gives blocks, cycles and ticks": there are as many, and they mark as many cycles
-  pub ticks : length bytes ≡ allTicks (capacityOf s) 0 (jobOf s text .blocks)
-  pub cycles : cyclesMarked bytes ≡ allCycles (jobOf s text .blocks)
+-- fills of one text, one after the other, into buffers of any length and contents, lead from the tape t to u and hand these bytes out
+pub data BytesOut (text : List ℕ) (t : Tape) : List ℕ → Tape → Type 0 where
+  none : BytesOut text t [] t
+  fill : {bytes : List ℕ} {u : Tape} → BytesOut text t bytes u → (κs : Lfts 2) (lent out out′ : RefT (List ℕ)) (f : Filled)
+      → now lent ≡ text → FillsTape κs u lent out out′ f → BytesOut text t (bytes ++ take (f .len) (now out′)) (f .tape)
 
 pub record EveryTickByte : Type 0 where
   pub fill : (κs : Lfts 2) (t : Tape) (text out out′ : RefT (List ℕ)) (f : Filled) → FillsTape κs t text out out′ f
       → Filling 1 (now out) (now out′) (f .len) (f .tape .over)
-  -- whoever fills until a tape that began at a fresh machine is over has the tick bytes of the text's job
-  pub bytes : (s : Settings) → AllYes (settingsQuestions s) → (t : Tape) → StartsTape (freshOf s) t → (text bytes : List ℕ)
-      → HandedOut text t bytes → JobBytes s text bytes
+  -- whoever fills a tape that began at a fresh machine gets the tick bytes of the text's job
+  pub bytes : (s : Settings) → AllYes (settingsQuestions s) → (t : Tape) → StartsTape (freshOf s) t → (text : List ℕ)
+      → (whole : List ℕ) × JobBytes s text whole
+      × ((bytes : List ℕ) (u : Tape) → BytesOut text t bytes u → FrontOf whole bytes (u .over ≡ true))

@@ -1,4 +1,4 @@
--- What a call answers, in the book's words. Each answer of the code has its reply here and nowhere else.
+-- What a call answers, in the book's words: the reply of each answer of the machine. That of a text line is in crate demands.
 use mathlib.Core.List.{List}
 use Prim.Native.Nat.{ℕ}
 use Rattle.machine.specs.declared.Answer.{Answer}

@@ -42,7 +42,7 @@ use Rattle.machine.specs.Run.{reportOf, ranOver, noTick, runOf}
 use Rattle.book.specs.Book.{Reply}
 use Rattle.history.specs.Reply.{answerReply, tickReply, runReply}
 use Rattle.history.specs.Contracts.{Makes, Loads, Ticks, Runs, Holds, Releases, Stops}
-use Rattle.demands.specs.Asked.{none, Answers}
+use Rattle.demands.specs.Asked.{none, AsAsked}
 use Rattle.demands.specs.Sound.{settingsQuestions}
 use Rattle.demands.specs.Answers.{ranReply}
 use Rattle.demands.specs.Questions.{soundQuestion, CentreRight, EndOnCircle, pathQuestions, blockQuestions, loadQuestions}
@@ -60,7 +60,7 @@ make-kept s zero some = absurd (some refl)
 make-kept s (suc n) some = refl
 
 pub make-answers : (s : Settings) (r : Answered) → Makes s r
-    → Answers (settingsQuestions s) (answerReply (r .answer)) (r .machine ≡ freshOf standardSettings)
+    → AsAsked (settingsQuestions s) (answerReply (r .answer)) (r .machine ≡ freshOf standardSettings)
 unfolding makeOf
 make-answers s r e =
     let n = settingsNo s in
@@ -138,7 +138,7 @@ module _ (m : Machine) (b : Block) where
   unfolding loadOf
   load-is = load-by (soundOf m) loadNumber
 
-  pub load-answers : (r : Answered) → Loads m b r → Answers (loadQuestions m b) (answerReply (r .answer)) (r .machine ≡ m)
+  pub load-answers : (r : Answered) → Loads m b r → AsAsked (loadQuestions m b) (answerReply (r .answer)) (r .machine ≡ m)
   load-answers r e = rw (e ∙ load-is) (judged load-number load-verdict (load-says load-number) (load-kept load-number))
 
 -- ---- the other calls on a record
@@ -148,13 +148,13 @@ module _ (m : Machine) where
   sound-verdict = asked (soundOf m) 8 (sound-is m) (λ _. none-asked)
 
   -- a call that answers 9 where the record is not sound, and else no refusal
-  by-sound : {A : Type 0} (reply : A → Reply) (Unchanged : A → Type 0) (accepted refused : A) → isRefused (reply accepted) ≡ false
-      → reply refused ≡ Reply.refused 9 → Unchanged refused
-      → (r : A) → r ≡ cond (soundOf m) accepted refused → Answers (soundQuestion m none) (reply r) (Unchanged r)
-  by-sound reply Unchanged accepted refused yes-says no-says same r e = rw e (by (soundOf m) sound-verdict)
+  by-sound : {A : Type 0} (reply : A → Reply) (Kept : A → Type 0) (accepted refused : A) → isRefused (reply accepted) ≡ false
+      → reply refused ≡ Reply.refused 9 → Kept refused
+      → (r : A) → r ≡ cond (soundOf m) accepted refused → AsAsked (soundQuestion m none) (reply r) (Kept r)
+  by-sound reply Kept accepted refused yes-says no-says same r e = rw e (by (soundOf m) sound-verdict)
     where
       by : (sound : Bool) → Verdict (soundQuestion m none) (ask sound 0 9)
-          → (let r = cond sound accepted refused in Answers (soundQuestion m none) (reply r) (Unchanged r))
+          → (let r = cond sound accepted refused in AsAsked (soundQuestion m none) (reply r) (Kept r))
       by true v = judged 0 v yes-says (λ some. absurd (some refl))
       by false v = judged 9 v no-says (λ some. same)
 
@@ -164,20 +164,20 @@ module _ (m : Machine) where
   abbrev says : Answered → Reply
   says r = answerReply (r .answer)
 
-  pub hold-answers : (r : Answered) → Holds m r → Answers (soundQuestion m none) (answerReply (r .answer)) (r .machine ≡ m)
+  pub hold-answers : (r : Answered) → Holds m r → AsAsked (soundQuestion m none) (answerReply (r .answer)) (r .machine ≡ m)
   unfolding holdOf
   hold-answers r e = by-sound says Same (answers Answer.Done (markedOf m true)) (answers (Answer.Refused 9) m) refl refl refl r e
 
-  pub release-answers : (r : Answered) → Releases m r → Answers (soundQuestion m none) (answerReply (r .answer)) (r .machine ≡ m)
+  pub release-answers : (r : Answered) → Releases m r → AsAsked (soundQuestion m none) (answerReply (r .answer)) (r .machine ≡ m)
   unfolding releaseOf
   release-answers r e = by-sound says Same (answers Answer.Done (markedOf m false)) (answers (Answer.Refused 9) m) refl refl refl r e
 
-  pub stop-answers : (r : Answered) → Stops m r → Answers (soundQuestion m none) (answerReply (r .answer)) (r .machine ≡ m)
+  pub stop-answers : (r : Answered) → Stops m r → AsAsked (soundQuestion m none) (answerReply (r .answer)) (r .machine ≡ m)
   unfolding stopOf
   stop-answers r e =
       by-sound says Same (answers Answer.Done (movedOf m (m .at) 0 Work.Nothing)) (answers (Answer.Refused 9) m) refl refl refl r e
 
-  pub tick-answers : (r : Ticked) → Ticks m r → Answers (soundQuestion m none) (tickReply (r .tick)) (r .machine ≡ m)
+  pub tick-answers : (r : Ticked) → Ticks m r → AsAsked (soundQuestion m none) (tickReply (r .tick)) (r .machine ≡ m)
   unfolding tickOf
   tick-answers r e =
       by-sound (λ r. tickReply (r .tick)) (λ r. r .machine ≡ m) _ (ticks (Tick.Refused 9) m)
@@ -192,7 +192,7 @@ module _ (m : Machine) where
       by false = refl
 
   pub run-answers : (κs : Lfts 1) (budget : ℕ) (out out′ : RefT (List ℕ)) (r : Ran) → Runs κs m budget out out′ r
-      → Answers (soundQuestion m none) (ranReply r (now out′)) ((r .machine ≡ m) × (r .ticks ≡ 0) × (now out′ ≡ now out))
+      → AsAsked (soundQuestion m none) (ranReply r (now out′)) ((r .machine ≡ m) × (r .ticks ≡ 0) × (now out′ ≡ now out))
   unfolding runOf written
   run-answers κs budget out out′ r h =
       rw (h .1, h .0)

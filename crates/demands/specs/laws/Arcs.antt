@@ -279,4 +279,4 @@ arc-walk m m′ a bytes s work t =
     (walks a (seenFrom (a .centre) (m .at)) t 0 s (inl work) refl)
 
 pub every-arc : EveryArc
-every-arc = record { least-error = least-error; load = arc-loaded; tick = arc-tick; left = arc-left; walk = arc-walk }
+every-arc = record { least-error = least-error; load = arc-loaded; tick = arc-tick; cycles-left = arc-left; walk = arc-walk }

@@ -6,7 +6,7 @@ use Prim.Native.Nat.{ℕ, zero, suc}
 use native.Mathlib.Omega.{arith}
 use Rattle.block.specs.Questions.{ask}
 use Rattle.book.specs.Book.{Reply}
-use Rattle.demands.specs.Asked.{Questions, none, question, andThen, FirstNo, AllYes, Answers}
+use Rattle.demands.specs.Asked.{Questions, none, question, andThen, FirstNo, AllYes, AsAsked}
 
 -- 0 says that every question has a yes, another number that its question is the first with a no
 abbrev pub Tells : Questions → ℕ → Type 0
@@ -87,19 +87,19 @@ abbrev pub Says : ℕ → Reply → Type 0
 Says zero r = isRefused r ≡ false
 Says (suc n) r = r ≡ Reply.refused (suc n)
 
-pub judged : {qs : Questions} {reply : Reply} {Unchanged : Type 0} (n : ℕ) → Verdict qs n → Says n reply → ((n ≡ 0 → ⊥) → Unchanged)
-    → Answers qs reply Unchanged
-judged {qs} {reply} zero v s kept =
+pub judged : {qs : Questions} {reply : Reply} {Kept : Type 0} (n : ℕ) → Verdict qs n → Says n reply → ((n ≡ 0 → ⊥) → Kept)
+    → AsAsked qs reply Kept
+judged {qs} {reply} zero v s stays =
     let never : (k : ℕ) → reply ≡ Reply.refused k → ⊥ = λ k e. false≢true (sym s ∙ ap isRefused e) in
     record {
       cause = λ k. (λ e. absurd (never k e), λ f. absurd (not-both qs k (v .told) f));
-      unchanged = λ k e. absurd (never k e);
+      kept = λ k e. absurd (never k e);
       accepted = (λ f. v .told, λ a. never);
     }
-judged {qs} {reply} (suc n) v s kept =
+judged {qs} {reply} (suc n) v s stays =
     record {
       cause = λ k.
           (λ e. subst (FirstNo qs) (ap numberOf (sym s ∙ e)) (v .told), λ f. s ∙ ap Reply.refused (first-once qs (suc n) k (v .told) f));
-      unchanged = λ k e. kept (λ z. omega arith);
+      kept = λ k e. stays (λ z. omega arith);
       accepted = (λ f. absurd (f (suc n) s), λ a. absurd (not-both qs (suc n) a (v .told)));
     }

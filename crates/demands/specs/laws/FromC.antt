@@ -1,11 +1,12 @@
 -- The calls from C are the machine's own on the words of a sound record, since words and sound records tell each other.
 use mathlib.Core.Path.{_≡_, refl, sym, ap, subst, _∙_}
-use mathlib.Core.Bool.{Bool, true, false, true≢false}
-use mathlib.Core.List.{List}
-use Prim.Native.Nat.{ℕ, _≤_}
+use mathlib.Core.Bool.{Bool, true, false}
+use mathlib.Core.List.{List, [], _++_, append-assoc}
+use Prim.Native.Nat.{ℕ}
 use lib.IntN.{ℤ, pos, negsuc}
-use lib.ListN.{length}
+use lib.ListN.{length, take}
 use denote.Ref.{RefT, now}
+use contract.Lifetimes.{Lfts}
 use Rattle.settings.specs.declared.Settings.{Settings}
 use Rattle.machine.specs.declared.Machine.{Machine}
 use Rattle.machine.specs.Machine.{soundOf}
@@ -13,9 +14,13 @@ use Rattle.machine.specs.Calls.{makeOf, loadOf, tickOf, holdOf, releaseOf, stop
 use Rattle.machine.specs.Run.{runOf}
 use Rattle.keeps.specs.laws.Make.{make-keeps}
 use Rattle.keeps.specs.laws.Calls.{run-keeps}
+use Rattle.job.specs.declared.Stage.{Stage}
+use Rattle.job.specs.declared.Check.{Check}
 use Rattle.job.specs.Listing.{listingOf}
+use Rattle.job.specs.Check.{startOf, stageOver, restAt, restOf}
 use Rattle.layout.specs.declared.decode.Decoded.{Decoded}
 use Rattle.layout.specs.Words.{encodeOf, decodeOf, markWord}
+use Rattle.layout.specs.laws.Same.{same-words, other-words}
 use Rattle.layout.specs.laws.Record.{encode-decode, decode-encode}
 use Rattle.export.specs.declared.call.Call.{Call}
 use Rattle.export.specs.declared.call.Told.{Told}
@@ -23,14 +28,16 @@ use Rattle.export.specs.Calls.{tells, callOf, toldOf, madeOf, ToldRun, tellsRun
 use Rattle.export.specs.laws.Calls.{told-call, told-run}
 use Rattle.export.specs.laws.Refused.{no-record, no-record-run, not-sound, not-sound-run}
 use Rattle.export.specs.laws.Again.{machineAfter, keeps}
-use Rattle.checkexport.specs.Words.{encodeOf as checkWords, decodeOf as decodeCheck}
-use Rattle.checkexport.specs.Calls.{TellsFill, Refuses, Listed}
-use Rattle.checkexport.specs.laws.Calls.{refused-told}
-use Rattle.checkexport.specs.laws.Inverse as check-inverse
-use Rattle.checkexport.specs.laws.Again.{start-listed}
+use Rattle.checkexport.specs.declared.decode.Decoded.{Decoded as CheckDecoded}
+use Rattle.checkexport.specs.Words.{checkIn, encodeOf as checkWords, decodeOf as decodeCheck}
+use Rattle.checkexport.specs.Calls.{startWords, TellsFill, Refuses}
+use Rattle.checkexport.specs.laws.Calls.{rows-told, refused-told}
+use Rattle.checkexport.specs.laws.Start.{start-back, start-lists}
+use Rattle.checkexport.specs.laws.Again.{Told as CheckTold, start-told, hands, fill-told}
 use Rattle.demands.specs.Asked.{AllYes}
 use Rattle.demands.specs.Sound.{Sound, settingsQuestions}
-use Rattle.demands.specs.FromC.{Own, NoRecord, OnWords, RunOnWords, MadeWords, ListedFromC, EveryCallFromC}
+use Rattle.demands.specs.Texts.{FrontOf}
+use Rattle.demands.specs.FromC.{Own, NoRecord, OnWords, RunOnWords, MadeWords, StartedWords, OwnFill, RowsOutToC, EveryCallFromC}
 use Rattle.demands.specs.laws.Sound.{sound-is, settings-pass}
 
 -- ---- words and records
@@ -124,38 +131,75 @@ made-words s n after h =
 
 -- ---- the check
 
-listed : {text : List ℕ} {ws : List ℤ} {bytes : List ℕ} → ListedFromC text ws bytes → Listed text ws bytes
-listed (ListedFromC.last κs words words′ lent out out′ len len′ is h) =
-    Listed.last (subst (λ (t : List ℕ). TellsFill (now words) t (now out) (pos 1) (now len′) (now words′) (now out′)) is h)
-listed (ListedFromC.more κs words words′ lent out out′ len len′ is h later) =
-    Listed.more (subst (λ (t : List ℕ). TellsFill (now words) t (now out) (pos 0) (now len′) (now words′) (now out′)) is h) (listed later)
+told-fill : (κs : Lfts 4) (words words′ : RefT (List ℤ)) (text out out′ : RefT (List ℕ)) (len len′ : RefT ℕ) (n : ℤ)
+    → TellsFill (now words) (now text) (now out) n (now len′) (now words′) (now out′) → decodeCheck (now words) .ok ≡ true
+    → OwnFill (checkIn (now words)) text out out′ n (now len′) (now words′)
+unfolding decodeCheck
+told-fill κs words words′ text out out′ len len′ n f ok =
+    let h = rows-told ok f in
+    (record { len = now len′; check = h .next }, λ κs. h .fills, h .over, refl, h .words)
+
+decodes : (ws : List ℤ) → ws ≡ checkWords (checkIn ws) → decodeCheck ws .ok ≡ true
+unfolding decodeCheck
+decodes ws e = sym (same-words e)
+
+no-check : {before : List ℤ} {text old : List ℕ} {n : ℤ} {len : ℕ} {after : List ℤ} {new : List ℕ}
+    → TellsFill before text old n len after new
+    → ¬ (before ≡ checkWords (checkIn before)) → Refuses before old n len after new
+unfolding decodeCheck
+no-check f other = refused-told (sym (other-words other)) f
+
+-- fills from the words of a start: the check that they have come to, and what it has still to hand out
+record Come (whole text bytes : List ℕ) (n : ℤ) (after : List ℤ) : Type 0 where
+  check : Check
+  told : CheckTold after check
+  front : bytes ++ restOf check text ≡ whole
+  ended : n ≡ pos 1 → restOf check text ≡ []
+
+ended-rest : (g : Stage) (c : Check) (text : List ℕ) → pos 1 ≡ markWord (stageOver g) → restAt g c text ≡ []
+ended-rest Stage.Header c text e = cc
+ended-rest Stage.Lines c text e = cc
+ended-rest Stage.Over c text e = refl
+
+zero-one : (whole : List ℕ) → pos 0 ≡ pos 1 → whole ≡ []
+zero-one whole e = cc
+
+come : {text : List ℕ} {ws : List ℤ} (c : Check) → CheckTold ws c → {bytes : List ℕ} {n : ℤ} {after : List ℤ}
+    → RowsOutToC text ws bytes n after
+    → Come (restOf c text) text bytes n after
+unfolding restOf
+come {text} c t RowsOutToC.none = record { check = c; told = t; front = refl; ended = zero-one (restOf c text) }
+come {text} c t (RowsOutToC.fill {bytes = bytes} before κs words words′ lent out out′ len len′ n′ at is h) =
+    let b = come c t before in
+    let f = subst (λ (t : List ℕ). TellsFill (now words) t (now out) n′ (now len′) (now words′) (now out′)) is h in
+    let here = subst (λ (ws : List ℤ). CheckTold ws (b .check)) (sym at) (b .told) in
+    let g = hands here f in
+    record {
+      check = g .next;
+      told = fill-told here f;
+      front =
+          append-assoc bytes (take (now len′) (now out′)) (restOf (g .next) text)
+          ∙ ap (λ (rest : List ℕ). bytes ++ rest) (g .fills .bytes)
+          ∙ b .front;
+      ended = λ one. ended-rest (g .next .stage) (g .next) text (sym one ∙ g .over);
+    }
 
 made-done : (s : Settings) → AllYes (settingsQuestions s) → madeOf s .answer ≡ pos 0
 unfolding madeOf makeOf
 made-done s pass = rw (settings-pass s .1 pass)
 
-no-check : {before : List ℤ} {text old : List ℕ} {n : ℤ} {len : ℕ} {after : List ℤ} {new : List ℕ}
-    → TellsFill before text old n len after new
-    → ((c : _) → ¬ (before ≡ checkWords c)) → Refuses before old n len after new
-no-check {before} {text} {old} {n} {len} {after} {new} f none = by (decodeCheck before .ok) refl
-  where
-    by : (ok : Bool) → decodeCheck before .ok ≡ ok → Refuses before old n len after new
-    by true e = absurd (none (decodeCheck before .check) (sym (check-inverse.encode-decode before e)))
-    by false e = refused-told e f
+start-rest : (s : Settings) → AllYes (settingsQuestions s) → (text : List ℕ) → restOf (startOf (makeOf s .machine)) text ≡ listingOf s text
+start-rest s pass text = ap (λ (d : CheckDecoded). restOf (d .check) text) (sym (start-back s)) ∙ start-lists s (made-done s pass) text
 
-going : (over : Bool) → pos 0 ≡ markWord over → over ≡ false
-going true e = cc
-going false e = refl
+from-start : (s : Settings) → AllYes (settingsQuestions s) → (text bytes : List ℕ) (n : ℤ) (after : List ℤ)
+    → RowsOutToC text (startWords s) bytes n after → FrontOf (listingOf s text) bytes (n ≡ pos 1)
+from-start s pass text bytes n after rows =
+    let k = come (startOf (makeOf s .machine)) (start-told s) rows in
+    record { rest = restOf (k .check) text; front = k .front ∙ start-rest s pass text; all = k .ended }
 
--- 0 is no refusal
-abbrev isCount : ℤ → Bool
-isCount (pos n) = true
-isCount (negsuc n) = false
-
-onward : {before : List ℤ} {text old : List ℕ} {len : ℕ} {after : List ℤ} {new : List ℕ} → TellsFill before text old (pos 0) len after new
-    → 160 ≤ length old → 1 ≤ len
-onward (TellsFill.check ok h) room = h .fills .onward room (going _ (h .over))
-onward (TellsFill.no-check bad h) room = absurd (true≢false (ap isCount (h .nine)))
+started : (s : Settings) (n : ℤ) (after : List ℤ) → n ≡ madeOf s .answer → after ≡ startWords s → StartedWords s n after
+unfolding madeOf
+started s n after answer words = (makeOf s, refl, answer, startOf (makeOf s .machine), refl, words)
 
 pub every-call-from-c : EveryCallFromC
 unfolding listingOf
@@ -170,8 +214,9 @@ every-call-from-c =
       release = λ κs words words′ n h. on-words Call.Release (now words) n (now words′) h;
       stop = λ κs words words′ n h. on-words Call.Stop (now words) n (now words′) h;
       run = λ κs words words′ budget out out′ ticks ticks′ n h. run-on-words (now words) budget out out′ n (now ticks′) (now words′) h;
-      listing = λ κs words words′ p w xlo xhi ylo yhi n h pass text bytes l.
-          start-listed _ (made-done _ pass) text (listed (subst (λ (ws : List ℤ). ListedFromC text ws bytes) (h .1) l));
-      onward = λ κs words words′ text out out′ len len′ h. onward h;
-      no-check = λ κs words words′ text out out′ len len′ n h none. no-check h none;
+      start = λ κs words words′ p w xlo xhi ylo yhi n h. started _ n (now words′) (h .0) (h .1);
+      fill = λ κs words words′ text out out′ len len′ n h e. told-fill κs words words′ text out out′ len len′ n h (decodes (now words) e);
+      no-check = λ κs words words′ text out out′ len len′ n h other. no-check h other;
+      listing = λ κs words words′ p w xlo xhi ylo yhi n h pass text bytes last after rows.
+          from-start _ pass text bytes last after (subst (λ (ws : List ℤ). RowsOutToC text ws bytes last after) (h .1) rows);
     }

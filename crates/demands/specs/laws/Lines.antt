@@ -30,7 +30,7 @@ use Rattle.history.specs.Contracts.{Loads, Ticks}
 use Rattle.demands.specs.Asked.{AllYes}
 use Rattle.demands.specs.Sound.{WorkSound, Sound}
 use Rattle.demands.specs.Questions.{loadQuestions}
-use Rattle.demands.specs.Lines.{registerPulses, onward, EveryLine}
+use Rattle.demands.specs.Lines.{registerPulses, oneMore, EveryLine}
 use Rattle.demands.specs.laws.Asked.{passed}
 use Rattle.demands.specs.laws.Sound.{sound-is}
 use Rattle.demands.specs.laws.Answers.{load-verdict, load-is}
@@ -65,7 +65,7 @@ line-cycle : (at : Point) (l : Line) → l .start ≢ l .end → at ≡ pointOf 
     → (let pulses = registerPulses (l .start) (l .end) (l .done) in
     let last = eqb (l .done + 1) (cyclesOf (l .start) (l .end)) in
     cycleOf at
-    (Work.Line l) ≡ record { at = shiftedOf at pulses; byte = cycleByte pulses last; work = following last (Work.Line (onward l)) })
+    (Work.Line l) ≡ record { at = shiftedOf at pulses; byte = cycleByte pulses last; work = following last (Work.Line (oneMore l)) })
 unfolding cycleOf lineCycle steppedOf
 line-cycle at l apart point own =
     let some = cycles-some (l .start) (l .end) apart in
@@ -76,7 +76,8 @@ line-cycle at l apart point own =
     ∙ ap (given pulses (shiftedOf at pulses)) own
   where
     given : Pulses → Point → ℕ → Cycle
-    given p n q = let last = eqb (l .done + 1) q in record { at = n; byte = cycleByte p last; work = following last (Work.Line (onward l)) }
+    given p n q = let last =
+        eqb (l .done + 1) q in record { at = n; byte = cycleByte p last; work = following last (Work.Line (oneMore l)) }
 
 pub every-line : EveryLine
 unfolding lineWidth

@@ -32,7 +32,7 @@ use Rattle.reader.specs.declared.«text_line».ReadLine.{ReadLine}
 use Rattle.reader.specs.Reader.{readerAfter, motionRight, onPulse, allOnPulse, placed, centred, moving, allKnown, isArc, centreRight, lineNo, blockOf}
 use Rattle.reader.specs.TextLine.{reads, still, loaded, takenOf, readWith}
 use Rattle.reader.specs.laws.TextLine.{read-means}
-use Rattle.demands.specs.Asked.{Answers, AllYes}
+use Rattle.demands.specs.Asked.{AsAsked, AllYes}
 use Rattle.demands.specs.Questions.{blockQuestions, NoLetterTwice, MotionRight, OnPulse, OnPulses, MotionAndFeedKnown, CentreStands, isBlock, ifBlock, wordQuestions, lineQuestions}
 use Rattle.demands.specs.Answers.{readReply, ReadsLine}
 use Rattle.demands.specs.Calls.{LineTaken}
@@ -205,7 +205,7 @@ module _ (k k′ : Reader) (m : Machine) (ws : Words) where
 
 pub line-answers : (κs : Lfts 1) (k : Reader) (m : Machine) (bytes : RefT (List ℕ)) (r : ReadLine) → ReadsLine κs k m bytes r → (l : Line)
     → Means (now bytes) l
-    → Answers (lineQuestions k m (now bytes) l) (readReply (r .answer)) ((r .reader ≡ k) × (r .machine ≡ m))
+    → AsAsked (lineQuestions k m (now bytes) l) (readReply (r .answer)) ((r .reader ≡ k) × (r .machine ≡ m))
 line-answers κs k m bytes r h l means =
     rw (h ∙ read-means k m (now bytes) l means)
     (by (soundOf m) refl
@@ -231,7 +231,7 @@ line-answers κs k m bytes r h l means =
 
     by : (sound : Bool) → soundOf m ≡ sound → Verdict (lineQuestions k m (now bytes) l) (ask sound inner 9)
         → (let r = cond sound (readWith k k′ m ws number) (reads (Read.Refused 9) k m) in
-        Answers (lineQuestions k m (now bytes) l) (readReply (r .answer)) ((r .reader ≡ k) × (r .machine ≡ m)))
+        AsAsked (lineQuestions k m (now bytes) l) (readReply (r .answer)) ((r .reader ≡ k) × (r .machine ≡ m)))
     by true e v =
         rw (line-is k k′ m ws e number)
         (judged inner v (line-says k k′ m ws number moves stays _) (line-kept k k′ m ws number moves stays _))

@@ -1,7 +1,7 @@
 -- The job of a text is what its lines mean, one after the other, and nothing else; the listing that is handed out is that job's.
 use mathlib.Core.Path.{_≡_, refl, sym, ap, subst, _∙_}
 use mathlib.Core.Bool.{Bool, true, false, cond, true≢false, false≢true}
-use mathlib.Core.List.{List, [], _∷_, _++_}
+use mathlib.Core.List.{List, [], _∷_, _++_, append-assoc}
 use Prim.Native.Nat.{ℕ, zero, suc, _+_}
 use lib.Dec.{leb}
 use lib.ListN.{length, take}
@@ -9,10 +9,19 @@ use lib.IntN.{pos}
 use borrow.Author.Tests.{leb-true, leb-false, le-leb, lt-leb}
 use denote.Ref.{now}
 use Rattle.plane.specs.declared.point.Point.{Point}
+use Rattle.circle.specs.laws.Circle.{on-circle-to}
+use Rattle.circle.specs.laws.Walk.{ends}
+use Rattle.arc.specs.Centre.{seenFrom, backFrom}
+use Rattle.arc.specs.Arc.{arcCycles}
 use Rattle.block.specs.declared.Block.{Block}
+use Rattle.block.specs.declared.Path.{Path}
+use Rattle.block.specs.Block.{arcOf}
+use Rattle.block.specs.laws.Begin.{offset-right, start-on}
 use Rattle.block.specs.Questions.{loadNo}
 use Rattle.settings.specs.declared.Settings.{Settings}
 use Rattle.settings.specs.Settings.{capacityOf}
+use Rattle.machine.specs.declared.Machine.{Machine}
+use Rattle.book.specs.Ledger.{CountedAlong}
 use Rattle.words.specs.declared.line.Line.{Line}
 use Rattle.words.specs.Meaning.{Means}
 use Rattle.words.specs.laws.Scan.{lineOf}
@@ -25,14 +34,15 @@ use Rattle.job.specs.declared.Check.{Check}
 use Rattle.job.specs.Text.{linesOf}
 use Rattle.job.specs.Job.{Asks, loadAsks, wordsAsk, lineAsks, Made, End, Job, onward, jobFrom, jobOf}
 use Rattle.job.specs.Listing.{listingOf}
-use Rattle.job.specs.Check.{stageOver, restAt, restOf}
+use Rattle.job.specs.Check.{stageOver, isOver, restAt, restOf}
 use Rattle.job.specs.laws.Asks.{asks-means}
 use Rattle.job.specs.laws.Listing.{listing-is}
-use Rattle.demands.specs.Asked.{FirstNo, AllYes}
-use Rattle.demands.specs.Questions.{lineBlock, isBlock, makesBlock, textQuestions}
-use Rattle.demands.specs.Texts.{standing, TextMeans, MeansJob, Listed, EveryText}
+use Rattle.demands.specs.Asked.{Questions, none, question, andThen, FirstNo, AllYes}
+use Rattle.demands.specs.Questions.{pathQuestions, blockQuestions, wordQuestions, lineBlock, isBlock, makesBlock, ifBlock, textQuestions}
+use Rattle.demands.specs.Texts.{standing, LinesMean, TextMeans, EveryCounted, RowsOut, EveryText}
 use Rattle.demands.specs.laws.Asked.{Verdict, orElse, then-asked, first-once, not-both}
 use Rattle.demands.specs.laws.Sound.{settings-pass}
+use Rattle.demands.specs.laws.Answers.{centre-is}
 use Rattle.demands.specs.laws.TextLine.{word-verdict, blockNumber, block-asked}
 
 -- ---- one line
@@ -99,52 +109,52 @@ module _ (s : Settings) (at : Point) (k : Reader) (bytes : List ℕ) (l : Line) 
 
 module _ (s : Settings) (n : ℕ) (at : Point) (k : Reader) (bytes : List ℕ) (lines : List (List ℕ)) where
   abbrev Rest : Type 0
-  Rest = (at : Point) (k : Reader) → (let j = jobFrom s (n + 1) at k lines in TextMeans s (n + 1) at k lines (j .blocks) (j .end))
+  Rest = (at : Point) (k : Reader) → (let j = jobFrom s (n + 1) at k lines in LinesMean s (n + 1) at k lines (j .blocks) (j .end))
 
   line-means-job : Rest → (l : Line) → Means bytes l → (a : Asks) → Says s at k bytes l a
-      → (let j = onward n at a (λ at′ k′. jobFrom s (n + 1) at′ k′ lines) in TextMeans s n at k (bytes ∷ lines) (j .blocks) (j .end))
-  line-means-job rest l means _ (Says.refuses number f) = TextMeans.refused l means number f
-  line-means-job rest l means _ (Says.nothing y e) = TextMeans.nothing l means y e (rest at (readerAfter k (l .words)))
+      → (let j = onward n at a (λ at′ k′. jobFrom s (n + 1) at′ k′ lines) in LinesMean s n at k (bytes ∷ lines) (j .blocks) (j .end))
+  line-means-job rest l means _ (Says.refuses number f) = LinesMean.refused l means number f
+  line-means-job rest l means _ (Says.nothing y e) = LinesMean.nothing l means y e (rest at (readerAfter k (l .words)))
   line-means-job rest l means _ (Says.makes y e) =
-      TextMeans.block l means y e (rest (lineBlock k (standing s at) l .end) (readerAfter k (l .words)))
+      LinesMean.block l means y e (rest (lineBlock k (standing s at) l .end) (readerAfter k (l .words)))
 
 lines-mean : (s : Settings) (n : ℕ) (at : Point) (k : Reader) (lines : List (List ℕ))
-    → (let j = jobFrom s n at k lines in TextMeans s n at k lines (j .blocks) (j .end))
+    → (let j = jobFrom s n at k lines in LinesMean s n at k lines (j .blocks) (j .end))
 unfolding jobFrom
-lines-mean s n at k [] = TextMeans.over
+lines-mean s n at k [] = LinesMean.over
 lines-mean s n at k (bytes ∷ lines) =
     line-means-job s n at k bytes lines (λ at k. lines-mean s (n + 1) at k lines) (lineOf bytes) (line-means bytes) (lineAsks s at k bytes)
     (line-says s at k bytes (lineOf bytes) (line-means bytes))
 
 -- no other job
 lines-once : (s : Settings) {n : ℕ} {at : Point} {k : Reader} {lines : List (List ℕ)} {made : List Made} {end : End}
-    → TextMeans s n at k lines made end
+    → LinesMean s n at k lines made end
     → jobFrom s n at k lines ≡ record { blocks = made; end = end }
 unfolding jobFrom
-lines-once s TextMeans.over = refl
-lines-once s {at = at} {k = k} (TextMeans.refused {bytes = bytes} l means number f) =
+lines-once s LinesMean.over = refl
+lines-once s {at = at} {k = k} (LinesMean.refused {bytes = bytes} l means number f) =
     rw (says-once s at k bytes l (line-says s at k bytes l means) (Says.refuses number f))
-lines-once s {at = at} {k = k} (TextMeans.nothing {bytes = bytes} l means y e later) =
+lines-once s {at = at} {k = k} (LinesMean.nothing {bytes = bytes} l means y e later) =
     rw (says-once s at k bytes l (line-says s at k bytes l means) (Says.nothing y e)) (lines-once s later)
-lines-once s {at = at} {k = k} (TextMeans.block {bytes = bytes} l means y e later) =
+lines-once s {at = at} {k = k} (LinesMean.block {bytes = bytes} l means y e later) =
     rw (says-once s at k bytes l (line-says s at k bytes l means) (Says.makes y e), lines-once s later)
 
 module _ (s : Settings) (text : List ℕ) where
-  text-means : (let j = jobOf s text in MeansJob s text (j .blocks) (j .end))
+  text-means : (let j = jobOf s text in TextMeans s text (j .blocks) (j .end))
   unfolding jobOf
   text-means = by (leb (length text) 65536) refl
     where
       by : (short : Bool) → leb (length text) 65536 ≡ short
           → (let j = cond short (jobFrom s 1 (record { x = pos 0; y = pos 0 }) unknown (linesOf text))
           (record { blocks = []; end = End.refused 1 30 }) in
-          MeansJob s text (j .blocks) (j .end))
-      by true e = MeansJob.read (leb-true (length text) 65536 e) (lines-mean s 1 (record { x = pos 0; y = pos 0 }) unknown (linesOf text))
-      by false e = MeansJob.long (leb-false (length text) 65536 e)
+          TextMeans s text (j .blocks) (j .end))
+      by true e = TextMeans.read (leb-true (length text) 65536 e) (lines-mean s 1 (record { x = pos 0; y = pos 0 }) unknown (linesOf text))
+      by false e = TextMeans.long (leb-false (length text) 65536 e)
 
-  text-once : {made : List Made} {end : End} → MeansJob s text made end → jobOf s text ≡ record { blocks = made; end = end }
+  text-once : {made : List Made} {end : End} → TextMeans s text made end → jobOf s text ≡ record { blocks = made; end = end }
   unfolding jobOf
-  text-once (MeansJob.long h) = rw (lt-leb (length text) 65536 h)
-  text-once (MeansJob.read h lines) = rw (le-leb (length text) 65536 h) (lines-once s lines)
+  text-once (TextMeans.long h) = rw (lt-leb (length text) 65536 h)
+  text-once (TextMeans.read h lines) = rw (le-leb (length text) 65536 h) (lines-once s lines)
 
 -- ---- the listing
 
@@ -153,12 +163,48 @@ nothing-left Stage.Header c text e = absurd (false≢true e)
 nothing-left Stage.Lines c text e = absurd (false≢true e)
 nothing-left Stage.Over c text e = refl
 
-lists-rest : {text : List ℕ} {c : Check} {bytes : List ℕ} → Listed text c bytes → bytes ≡ restOf c text
+rows-rest : {text : List ℕ} {c : Check} {bytes : List ℕ} {d : Check} → RowsOut text c bytes d → bytes ++ restOf d text ≡ restOf c text
+rows-rest RowsOut.none = refl
+rows-rest {text} {c} (RowsOut.fill {bytes = bytes} {d = d} before κs lent out out′ f is h) =
+    append-assoc bytes (take (f .len) (now out′)) (restOf (f .check) text)
+    ∙ ap (λ (rest : List ℕ). bytes ++ rest)
+    (subst (λ (t : List ℕ). take (f .len) (now out′) ++ restOf (f .check) t ≡ restOf d t) is (h .bytes))
+    ∙ rows-rest before
+
+over-rest : (d : Check) (text : List ℕ) → isOver d ≡ true → restOf d text ≡ []
 unfolding restOf
-lists-rest {text} {c} (Listed.over e) = sym (nothing-left (c .stage) c text e)
-lists-rest {text} {c} (Listed.fill {bytes = bytes} κs lent out out′ f is h later) =
-    ap (λ (rest : List ℕ). take (f .len) (now out′) ++ rest) (lists-rest later)
-    ∙ subst (λ (t : List ℕ). take (f .len) (now out′) ++ restOf (f .check) t ≡ restOf c t) is (h .bytes)
+over-rest d text e = nothing-left (d .stage) d text e
+
+-- ---- the cycles that it shows
+
+-- the questions of the block, where the line makes one
+block-yes : (qs : Questions) (block : Bool) (bs : Questions) → block ≡ true → AllYes (andThen qs (ifBlock block bs)) → AllYes bs
+block-yes none true bs e all = all
+block-yes none false bs e all = absurd (false≢true e)
+block-yes (question number holds qs) block bs e all = block-yes qs block bs e (all .1)
+
+path-counted : (m : Machine) (b : Block) (p : Path) → AllYes (pathQuestions m b p) → CountedAlong (m .at) b p
+unfolding arcOf arcCycles
+path-counted m b Path.Line all = tt
+path-counted m b (Path.Arc turn centre) all =
+    let right = offset-right centre (centre-is centre .1 (all .0)) in
+    let here = on-circle-to _ _ (start-on (m .at) centre right) .circle in
+    ends turn (seenFrom (backFrom (m .at) centre) (b .end)) (all .1 .0) (seenFrom (backFrom (m .at) centre) (m .at)) here
+
+lines-counted : (s : Settings) {n : ℕ} {at : Point} {k : Reader} {lines : List (List ℕ)} {made : List Made} {end : End}
+    → LinesMean s n at k lines made end → EveryCounted made
+lines-counted s LinesMean.over = tt
+lines-counted s (LinesMean.refused l means number f) = tt
+lines-counted s (LinesMean.nothing l means y e later) = lines-counted s later
+lines-counted s {at = at} {k = k} (LinesMean.block {bytes = bytes} l means y e later) =
+    let m = standing s at in
+    let b = lineBlock k m l in
+    let yes-all = block-yes (wordQuestions (readerAfter k (l .words)) m bytes l) (makesBlock k m l) (blockQuestions m b) e y in
+    (path-counted m b (b .path) (yes-all .1 .1 .1), lines-counted s later)
+
+text-counted : (s : Settings) (text : List ℕ) {made : List Made} {end : End} → TextMeans s text made end → EveryCounted made
+text-counted s text (TextMeans.long h) = tt
+text-counted s text (TextMeans.read h lines) = lines-counted s lines
 
 pub every-text : EveryText
 unfolding listingOf
@@ -166,8 +212,14 @@ every-text =
     record {
       means = λ s text made end. (
         text-once s text,
-        λ e. subst (λ (j : Job). MeansJob s text (j .blocks) (j .end)) e (text-means s text),
+        λ e. subst (λ (j : Job). TextMeans s text (j .blocks) (j .end)) e (text-means s text),
       );
-      fill = λ κs c text out out′ f h. record { fits = h .room; later = h .later; onward = h .onward };
-      listing = λ s pass c e text bytes l. lists-rest l ∙ ap (λ (c : Check). restOf c text) e ∙ listing-is s (settings-pass s .1 pass) text;
+      counts = λ s text. text-counted s text (text-means s text);
+      fill = λ κs c text out out′ f h. record { fits = h .room; later = h .later; progress = h .onward };
+      listing = λ s pass c e text bytes d rows.
+          record {
+            rest = restOf d text;
+            front = rows-rest rows ∙ ap (λ (c : Check). restOf c text) e ∙ listing-is s (settings-pass s .1 pass) text;
+            all = λ told. over-rest d text (sym told);
+          };
     }

@@ -1,7 +1,7 @@
 -- The tick bytes that are handed out are those of the job's blocks, loaded and ticked one after the other.
 use mathlib.Core.Path.{_≡_, refl, sym, ap, subst, _∙_}
 use mathlib.Core.Bool.{Bool, true, false, cond}
-use mathlib.Core.List.{List, [], _∷_, _++_}
+use mathlib.Core.List.{List, [], _∷_, _++_, append-assoc}
 use Prim.Native.Nat.{ℕ, _+_}
 use native.Mathlib.Omega.{arith}
 use lib.Dec.{leb}
@@ -9,9 +9,13 @@ use lib.IntN.{pos}
 use lib.ListN.{length, take, drop}
 use denote.Ref.{now}
 use Rattle.block.specs.declared.Block.{Block}
+use Rattle.block.specs.Block.{blockWidth}
+use Rattle.work.specs.Work.{begunOf}
 use Rattle.settings.specs.declared.Settings.{Settings}
 use Rattle.settings.specs.Settings.{settingsNo}
 use Rattle.machine.specs.declared.Machine.{Machine}
+use Rattle.machine.specs.declared.Answer.{Answer}
+use Rattle.machine.specs.declared.Answered.{Answered}
 use Rattle.machine.specs.declared.Ran.{Ran}
 use Rattle.machine.specs.Machine.{movedOf, freshOf}
 use Rattle.machine.specs.Calls.{loadOf}
@@ -29,13 +33,13 @@ use Rattle.job.specs.Calls.{enough}
 use Rattle.job.specs.Check.{unless}
 use Rattle.job.specs.laws.Ended.{Accepted, endedOf, ended-rests, ended-run}
 use Rattle.job.specs.laws.Listing.{fresh-rests}
-use Rattle.job.specs.laws.Asks.{Read-as, line-asks}
+use Rattle.job.specs.laws.Asks.{Read-as, line-asks, load-accepted}
 use Rattle.tape.specs.declared.Tape.{Tape}
 use Rattle.tape.specs.Tape.{runThen, isRefused, bytesFrom, tickBytesOf, restOf}
 use Rattle.tape.specs.laws.Pieces.{still-idle, nothing-left}
 use Rattle.tape.specs.laws.Told.{tape-tells, bytes-told}
 use Rattle.demands.specs.Runs.{TicksTo}
-use Rattle.demands.specs.TickBytes.{BlocksTick, HandedOut, JobBytes, EveryTickByte}
+use Rattle.demands.specs.TickBytes.{BlocksTick, JobBytes, BytesOut, EveryTickByte}
 use Rattle.demands.specs.laws.Sound.{settings-pass}
 use Rattle.demands.specs.laws.Runs.{strip-counts, strip-ticks, run-at-work}
 
@@ -54,6 +58,11 @@ run-to-end m a =
 -- ---- the blocks of a job
 
 module _ (m : Machine) (n : ℕ) (b : Block) (i : AtRest m) (ok : Accepted m b) (rest : Machine → List ℕ) where
+  -- the load answers the block's width
+  width-told : loadOf m b .answer ≡ Answer.Width (blockWidth (m .at) b)
+  unfolding begunOf
+  width-told = ap (λ (a : Answered). a .answer) (load-accepted m (i .sound) (i .idle) b ok)
+
   block-ticks : {later : List Made} → BlocksTick (endedOf m b .machine) later (rest (endedOf m b .machine))
       → BlocksTick m (record { textLine = n; start = m .at; block = b } ∷ later) (runThen (loadOf m b .machine) rest)
   unfolding movedOf
@@ -61,9 +70,9 @@ module _ (m : Machine) (n : ℕ) (b : Block) (i : AtRest m) (ok : Accepted m b) 
       let x = runOf (loadOf m b .machine) enough enough in
       let left : x .ran .machine ≡ endedOf m b .machine = ap (λ (r : Ran). r .machine) (ended-run m i b ok) in
       let e = run-to-end (loadOf m b .machine) (loaded-at-work m i b (rw (i .idle) ok)) in
+      let ticks = subst (TicksTo (loadOf m b .machine) (x .bytes)) left (e .ticks) in
       rw left
-      (BlocksTick.block (record { textLine = n; start = m .at; block = b }) (loadOf m b) refl
-      (subst (TicksTo (loadOf m b .machine) (x .bytes)) left (e .ticks)) (e .many) refl later)
+      (BlocksTick.block (record { textLine = n; start = m .at; block = b }) (loadOf m b) refl refl width-told ticks (e .many) refl later)
 
 abbrev Ticked : List (List ℕ) → Type 0
 Ticked ls = (n : ℕ) (m : Machine) (k : Reader) → AtRest m → BlocksTick m (jobFrom (m .settings) n (m .at) k ls .blocks) (bytesFrom m k ls)
@@ -97,22 +106,35 @@ text-ticks s passed text = by (leb (length text) 65536)
 
 -- ---- handed out
 
-hands-rest : {text : List ℕ} {t : Tape} {bytes : List ℕ} → HandedOut text t bytes → bytes ≡ restOf t text
-unfolding restOf
-hands-rest (HandedOut.over e) = rw e
-hands-rest {text} {t} (HandedOut.fill κs lent out out′ f is h later) =
-    ap (λ (rest : List ℕ). take (f .len) (now out′) ++ rest) (hands-rest later)
-    ∙ subst (λ (s : List ℕ). take (f .len) (now out′) ++ restOf (f .tape) s ≡ restOf t s) is (h .bytes)
+bytes-rest : {text : List ℕ} {t : Tape} {bytes : List ℕ} {u : Tape} → BytesOut text t bytes u → bytes ++ restOf u text ≡ restOf t text
+bytes-rest BytesOut.none = refl
+bytes-rest {text} {t} (BytesOut.fill {bytes = bytes} {u = u} before κs lent out out′ f is h) =
+    append-assoc bytes (take (f .len) (now out′)) (restOf (f .tape) text)
+    ∙ ap (λ (rest : List ℕ). bytes ++ rest)
+    (subst (λ (s : List ℕ). take (f .len) (now out′) ++ restOf (f .tape) s ≡ restOf u s) is (h .bytes))
+    ∙ bytes-rest before
 
-job-bytes : (s : Settings) → settingsNo s ≡ 0 → (text : List ℕ) {bytes : List ℕ} → bytes ≡ tickBytesOf s text → JobBytes s text bytes
-job-bytes s passed text told =
+over-rest : (u : Tape) (text : List ℕ) → u .over ≡ true → restOf u text ≡ []
+unfolding restOf
+over-rest u text e = rw e
+
+job-bytes : (s : Settings) → settingsNo s ≡ 0 → (text : List ℕ) → JobBytes s text (tickBytesOf s text)
+job-bytes s passed text =
     let c = bytes-told s passed text in
-    record { blocks = rw told (text-ticks s passed text); ticks = rw told (c .ticks); cycles = rw told (c .cycles) }
+    record { blocks = text-ticks s passed text; ticks = c .ticks; cycles = c .cycles }
 
 pub every-tick-byte : EveryTickByte
 every-tick-byte =
     record {
-      fill = λ κs t text out out′ f h. record { fits = h .room; later = h .later; onward = h .onward };
-      bytes = λ s pass t e text bytes h.
-          job-bytes s (settings-pass s .1 pass) text (hands-rest h ∙ ap (λ (t : Tape). restOf t text) e ∙ tape-tells s text);
+      fill = λ κs t text out out′ f h. record { fits = h .room; later = h .later; progress = h .onward };
+      bytes = λ s pass t e text. (
+        tickBytesOf s text,
+        job-bytes s (settings-pass s .1 pass) text,
+        λ bytes u out.
+            record {
+              rest = restOf u text;
+              front = bytes-rest out ∙ ap (λ (t : Tape). restOf t text) e ∙ tape-tells s text;
+              all = over-rest u text;
+            },
+      );
     }
