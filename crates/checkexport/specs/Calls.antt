@@ -1,10 +1,9 @@
 -- What the two calls tell a caller in C, for any words whatever.
 use mathlib.Core.Path.{_≡_}
 use mathlib.Core.Bool.{true, false}
-use mathlib.Core.List.{List, _++_}
+use mathlib.Core.List.{List}
 use Prim.Native.Nat.{ℕ}
-use lib.IntN.{ℤ, pos, negsuc}
-use lib.ListN.{take}
+use lib.IntN.{ℤ, negsuc}
 use Rattle.settings.specs.declared.Settings.{Settings}
 use Rattle.machine.specs.Calls.{makeOf}
 use Rattle.job.specs.declared.Check.{Check}
@@ -34,9 +33,3 @@ pub record Hands (c : Check) (text old : List ℕ) (answer : ℤ) (len : ℕ) (a
 pub data TellsFill (before : List ℤ) (text old : List ℕ) (answer : ℤ) (len : ℕ) (after : List ℤ) (new : List ℕ) : Type 0 where
   check : decodeOf before .ok ≡ true → Hands (decodeOf before .check) text old answer len after new → TellsFill before text old answer len after new
   no-check : decodeOf before .ok ≡ false → Refuses before old answer len after new → TellsFill before text old answer len after new
-
--- fills of one text, one after the other, until one answers 1: the bytes that they hand out
-pub data Listed (text : List ℕ) : List ℤ → List ℕ → Type 0 where
-  last : {before after : List ℤ} {old new : List ℕ} {len : ℕ} → TellsFill before text old (pos 1) len after new → Listed text before (take len new)
-  more : {before after : List ℤ} {old new rest : List ℕ} {len : ℕ}
-      → TellsFill before text old (pos 0) len after new → Listed text after rest → Listed text before (take len new ++ rest)
