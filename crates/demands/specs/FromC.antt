@@ -81,7 +81,7 @@ abbrev pub MadeWords : Settings → (n : ℤ) (after : List ℤ) → Type 0
 MadeWords s n after =
     (r : Answered) × Makes s r × (n ≡ makeNumber (r .answer)) × Sound (r .machine) × (after ≡ encodeOf (r .machine))
 
--- ---- the check of a job, as 26 words; `checkIn` is the check that words tell, and its words are those of no other
+-- ---- the check of a job, as 26 words; `checkIn` reads them, and they are a check where they are the words of the one read
 
 -- the words of a check that begins at the machine that a make answers
 abbrev pub StartedWords : Settings → (n : ℤ) (after : List ℤ) → Type 0
