@@ -24,19 +24,19 @@ use Rattle.job.specs.Check.{isOver}
 use Rattle.layout.specs.Words.{encodeOf, settingsOf, markWord}
 use Rattle.export.specs.declared.call.Call.{Call}
 use Rattle.export.specs.Calls.{answerNumber, tickNumber, reportNumber, makeNumber, arcPath, blockOf}
-use Rattle.capi.proofs.vz_make.Reads as make-reads
-use Rattle.capi.proofs.vz_load_line.Reads as line-reads
-use Rattle.capi.proofs.vz_load_cw.Reads as cw-reads
-use Rattle.capi.proofs.vz_load_ccw.Reads as ccw-reads
-use Rattle.capi.proofs.vz_tick.Reads as tick-reads
-use Rattle.capi.proofs.vz_run.Reads as run-reads
-use Rattle.capi.proofs.vz_hold.Reads as hold-reads
-use Rattle.capi.proofs.vz_release.Reads as release-reads
-use Rattle.capi.proofs.vz_stop.Reads as stop-reads
+use Rattle.export.proofs.vz_make.Reads as make-reads
+use Rattle.export.proofs.vz_load_line.Reads as line-reads
+use Rattle.export.proofs.vz_load_cw.Reads as cw-reads
+use Rattle.export.proofs.vz_load_ccw.Reads as ccw-reads
+use Rattle.export.proofs.vz_tick.Reads as tick-reads
+use Rattle.export.proofs.vz_run.Reads as run-reads
+use Rattle.export.proofs.vz_hold.Reads as hold-reads
+use Rattle.export.proofs.vz_release.Reads as release-reads
+use Rattle.export.proofs.vz_stop.Reads as stop-reads
 use Rattle.checkexport.specs.Words.{checkIn, encodeOf as checkWords}
 use Rattle.checkexport.specs.Calls.{Refuses}
-use Rattle.capi.proofs.vz_check_start.Reads as start-reads
-use Rattle.capi.proofs.vz_check_fill.Reads as fill-reads
+use Rattle.checkexport.proofs.vz_check_start.Reads as start-reads
+use Rattle.checkexport.proofs.vz_check_fill.Reads as fill-reads
 use Rattle.demands.specs.Asked.{AllYes}
 use Rattle.demands.specs.Sound.{Sound, settingsQuestions}
 use Rattle.demands.specs.Texts.{FrontOf, Starts, FillsCheck}

@@ -4,9 +4,9 @@ use mathlib.Core.Path.{ap, _∙_}
 use Rattle.layout.specs.Words.{markWord}
 use Rattle.layout.specs.laws.Number.{mark-fits, through}
 use Rattle.job.specs.Check.{isOver}
 use Rattle.checkexport.specs.laws.Calls.{told-rows, told-refused}
-use Rattle.capi.proofs.vz_check_fill.Statement.{statement}
-use Rattle.capi.proofs.vz_check_fill.Tie as tie
+use Rattle.checkexport.proofs.vz_check_fill.Statement.{statement}
+use Rattle.checkexport.proofs.vz_check_fill.Tie as tie
 
 decode-requires : tie.Need-decode-requires
 decode-requires c κs = search needs

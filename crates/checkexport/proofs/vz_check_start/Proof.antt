@@ -4,8 +4,8 @@ use mir.Syntax.{w64}
 use mir.Val.{SFits}
 use mir.Facts.{toZ-ofZ}
 use Rattle.export.specs.Calls.{madeOf}
-use Rattle.capi.proofs.vz_check_start.Statement.{statement}
-use Rattle.capi.proofs.vz_check_start.Tie as tie
+use Rattle.checkexport.proofs.vz_check_start.Statement.{statement}
+use Rattle.checkexport.proofs.vz_check_start.Tie as tie
 
 settings-requires : tie.Need-settings-requires
 settings-requires c κs = search needs

@@ -3,9 +3,9 @@ use borrow.Author.Needs.{needs}
 use mir.Syntax.{w64}
 use mir.Val.{SFits}
 use mir.Facts.{toZ-ofZ}
 use Rattle.export.specs.Calls.{madeOf}
-use Rattle.capi.proofs.vz_make.Statement.{statement}
-use Rattle.capi.proofs.vz_make.Tie as tie
+use Rattle.export.proofs.vz_make.Statement.{statement}
+use Rattle.export.proofs.vz_make.Tie as tie
 
 settings-requires : tie.Need-settings-requires
 settings-requires c κs = search needs

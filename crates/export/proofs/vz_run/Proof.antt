@@ -3,9 +3,9 @@ use borrow.Author.Needs.{needs}
 use mir.Syntax.{w64}
 use mir.Val.{SFits}
 use mir.Facts.{toZ-ofZ}
 use Rattle.export.specs.laws.Calls.{told-run, told-no-run}
-use Rattle.capi.proofs.vz_run.Statement.{statement}
-use Rattle.capi.proofs.vz_run.Tie as tie
+use Rattle.export.proofs.vz_run.Statement.{statement}
+use Rattle.export.proofs.vz_run.Tie as tie
 
 decode-requires : tie.Need-decode-requires
 decode-requires c κs = search needs

@@ -6,10 +6,10 @@ use mir.Syntax.{w64}
 use mir.Val.{SFits}
 use mir.Facts.{toZ-ofZ}
 use Rattle.block.specs.declared.Block.{Block}
 use Rattle.export.specs.declared.call.Call.{Call}
 use Rattle.export.specs.Calls.{toldOf}
-use Rattle.capi.proofs.vz_load_line.Statement.{statement}
-use Rattle.capi.proofs.vz_load_line.Tie as tie
+use Rattle.export.proofs.vz_load_line.Statement.{statement}
+use Rattle.export.proofs.vz_load_line.Tie as tie
 
 block-requires : tie.Need-block-requires
 block-requires c κs = search needs

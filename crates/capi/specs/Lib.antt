@@ -1,1 +1,0 @@
--- No definition of its own: what each function tells a caller stands in crates export and checkexport.
