@@ -19,8 +19,8 @@ pub record OnLine (start end : Point) (c : ℕ) (at : Point) : Type 0 where
   pub half-y : HalfPulse (cyclesOf start end) (incrementY start end) c (at .y -ℤ start .y)
   pub near : NearLine (incrementX start end) (incrementY start end) (at .x -ℤ start .x) (at .y -ℤ start .y)
 
--- 01, Arcs: "The arc visits the circle points after the start in order of angle, one a cycle, to the end.", seen from the centre. After c cycles it is at
--- the c-th of them ..
+-- 01, Arcs: "The arc visits the circle points after the start in order of angle, one a cycle, to the end.", seen from the centre. After c
+-- cycles it is at the c-th of them ..
 abbrev pub WalkedTo : (start : Point) → Turn → (centre : Offset) (c : ℕ) (at : Point) → Type 0
 WalkedTo start turn centre c at = let o = backFrom start centre in Walk (squareOf centre) turn (seenFrom o start) c (seenFrom o at)
 

@@ -1,5 +1,5 @@
--- 01, Ticks and runs: "A tick answers one byte (decimal): X code + 4 × Y code + 16 if a cycle was done + 32 if the block ended". How a byte is made, and how it is
--- read.
+-- 01, Ticks and runs: "A tick answers one byte (decimal): X code + 4 × Y code + 16 if a cycle was done + 32 if the block ended". How a byte
+-- is made, and how it is read.
 use mathlib.Core.Bool.{Bool, cond}
 use Prim.Native.Nat.{ℕ, _+_, _*_, _/_, _%_}
 use Rattle.plane.specs.declared.pulse.Pulses.{Pulses}

@@ -28,12 +28,14 @@ use Rattle.machine.specs.declared.Report.{Report}
 use Rattle.machine.specs.Machine.{soundOf, movedOf}
 use Rattle.machine.specs.Calls.{working, tickOf}
 use Rattle.machine.specs.Run.{reportOf, ranOver, noTick, runOf}
+use Rattle.machine.specs.laws.Calls.{tick-works}
 use Rattle.keeps.specs.laws.Calls.{tick-keeps}
 use Rattle.finish.specs.Finish.{lastTick}
 use Rattle.finish.specs.laws.Bounds.{last-tick}
 use Rattle.finish.specs.laws.Strip.{strip-ends}
 use Rattle.finish.specs.laws.Record.{AtWork, at-work}
 use Rattle.book.specs.Book.{Reply, Report as BookReport}
+use Rattle.tape.specs.laws.Pieces.{runs}
 use Rattle.history.specs.Reply.{runReply}
 use Rattle.history.specs.laws.Run.{first-bytes}
 use Rattle.demands.specs.Runs.{TicksTo, Running, EveryRun}
@@ -99,8 +101,7 @@ strip-counts {q0} n t {at} {r} {w} i e = by (leb t n) refl
 -- ---- one by one
 
 pub tick-at-work : (m : Machine) → AtWork m → working m (advanceOf (capacityOf (m .settings)) (m .at) (m .remainder) (m .work)) ≡ tickOf m
-unfolding tickOf
-tick-at-work m a = rw (a .sound, a .free, a .busy)
+tick-at-work m a = tick-works m (a .sound) (a .free) (a .busy) refl
 
 pub strip-ticks : (n : ℕ) (m : Machine) → AtWork m
     → (let s = stripOf (capacityOf (m .settings)) n (m .at) (m .remainder) (m .work) in TicksTo m (s .bytes)
@@ -193,11 +194,6 @@ written-long : (bytes old : List ℕ) → length bytes ≤ length old → length
 unfolding written
 written-long bytes old h = simp (length-append, length-drop) (omega arith)
 
-pub run-at-work : (m : Machine) → AtWork m → (budget buffer : ℕ)
-    → runOf m budget buffer ≡ ranOver m budget (stripOf (capacityOf (m .settings)) (min budget buffer) (m .at) (m .remainder) (m .work))
-unfolding runOf
-run-at-work m a budget buffer = rw (a .sound, a .busy, a .free)
-
 module _ (m : Machine) (budget : ℕ) (old : List ℕ) (a : AtWork m) where
   abbrev strip : Strip
   strip = stripOf (capacityOf (m .settings)) (min budget (length old)) (m .at) (m .remainder) (m .work)
@@ -243,5 +239,5 @@ every-run κs m budget out out′ r h s =
           rw (h .1, h .0, e) (record { reply = refl; machine = refl; buffer = refl });
       works = λ some free.
           let a : AtWork m = record { sound = sound-is m .1 s; free = free; busy = busy-is m some } in
-          rw (h .1, h .0, run-at-work m a budget (length (now out))) (running m budget (now out) a);
+          rw (h .1, h .0, runs m a budget (length (now out))) (running m budget (now out) a);
     }

@@ -36,12 +36,12 @@ use Rattle.job.specs.laws.Listing.{fresh-rests}
 use Rattle.job.specs.laws.Asks.{Read-as, line-asks, load-accepted}
 use Rattle.tape.specs.declared.Tape.{Tape}
 use Rattle.tape.specs.Tape.{runThen, isRefused, bytesFrom, tickBytesOf, restOf}
-use Rattle.tape.specs.laws.Pieces.{still-idle, nothing-left}
+use Rattle.tape.specs.laws.Pieces.{runs, still-idle, nothing-left}
 use Rattle.tape.specs.laws.Told.{tape-tells, bytes-told}
 use Rattle.demands.specs.Runs.{TicksTo}
 use Rattle.demands.specs.TickBytes.{BlocksTick, JobBytes, BytesOut, EveryTickByte}
 use Rattle.demands.specs.laws.Sound.{settings-pass}
-use Rattle.demands.specs.laws.Runs.{strip-counts, strip-ticks, run-at-work}
+use Rattle.demands.specs.laws.Runs.{strip-counts, strip-ticks}
 
 -- ---- a run to the block's end, tick by tick
 
@@ -52,7 +52,7 @@ record ToEnd (m : Machine) (x : Run) : Type 0 where
 run-to-end : (m : Machine) → AtWork m → ToEnd m (runOf m enough enough)
 run-to-end m a =
     let c = strip-counts enough (lastTick m) (at-work a) (last-tick (at-work a)) in
-    subst (ToEnd m) (sym (run-at-work m a enough enough))
+    subst (ToEnd m) (sym (runs m a enough enough))
     (record { ticks = strip-ticks enough m a; many = omega (arith, c .ticks, latest (at-work a)) })
 
 -- ---- the blocks of a job

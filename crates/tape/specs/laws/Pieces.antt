@@ -54,7 +54,7 @@ module _ (m : Machine) (a : AtWork m) where
   abbrev ticking : ℕ → Strip
   ticking n = stripOf (capacityOf (m .settings)) n (m .at) (m .remainder) (m .work)
 
-  runs : (budget buffer : ℕ) → runOf m budget buffer ≡ ranOver m budget (ticking (min budget buffer))
+  pub runs : (budget buffer : ℕ) → runOf m budget buffer ≡ ranOver m budget (ticking (min budget buffer))
   unfolding runOf
   runs budget buffer = rw (a .sound, a .busy, a .free)
 

@@ -42,13 +42,13 @@ mul-if3 : tie.Need-mul-if3
 mul-if3 c = omega (arith, square-le {m = c .before .before .args .q - 1} {n = 4000000} (omega arith))
 
 returns-3 : tie.Need-returns-3
-returns-3 c = sym (root-test-low _ _ (pos-of-ne-zero (c .before .before .if1 .left)) (c .if3 .taken))
+returns-3 c = sym (root-test-low _ _ (pos-of-ne-zero (c .before .before .if1 .left)) (omega (arith, c .if3 .taken)))
 
 mul-result : tie.Need-mul-result
 mul-result c = omega (arith, square-le {m = c .before .before .before .args .q} {n = 4000000} (omega arith))
 
 returns-4 : tie.Need-returns-4
-returns-4 c = root-test _ _ (pos-of-ne-zero (c .before .before .if1 .left)) (c .if3 .left)
+returns-4 c = root-test _ _ (pos-of-ne-zero (c .before .before .if1 .left)) (omega (arith, c .if3 .left))
 
 pub takes-spec : {M : Type 1} → statement M
 takes-spec =
