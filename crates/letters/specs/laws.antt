@@ -1,3 +1,2 @@
 pub mod Scan
-pub mod Byte
-pub mod List
+pub mod Letter

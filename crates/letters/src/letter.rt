@@ -1,8 +1,7 @@
 // The letters that words begin with.
 ghost use mathlib.Core.Path.{_≡_};
-ghost use Prim.Native.Nat.{_<_};
 ghost use Rattle.letters.specs.Letter.{takesSign, takesPoint};
-ghost use Rattle.letters.specs.laws.Scan.{placeOf};
+ghost use Rattle.letters.specs.laws.Scan.{letterOf};
 
 pub enum Letter {
     N,
@@ -42,18 +41,23 @@ pub fn takes_point(l: Letter) -> bool
     }
 }
 
-// Its place in the order of the letters above.
-pub fn place(l: Letter) -> usize
-    ensures { λ r. ⌜ r ≡ placeOf l ⌝ }
-    ensures { λ r. ⌜ r < 7 ⌝ }
+// The letter of a byte.
+pub enum Named {
+    Is(Letter),
+    Other,
+}
+
+pub fn of_byte(b: u8) -> Named
+    ensures { λ r. ⌜ r ≡ letterOf b ⌝ }
 {
-    match l {
-        Letter::N => 0,
-        Letter::G => 1,
-        Letter::F => 2,
-        Letter::X => 3,
-        Letter::Y => 4,
-        Letter::I => 5,
-        Letter::J => 6,
+    match b {
+        b'N' => Named::Is(Letter::N),
+        b'G' => Named::Is(Letter::G),
+        b'F' => Named::Is(Letter::F),
+        b'X' => Named::Is(Letter::X),
+        b'Y' => Named::Is(Letter::Y),
+        b'I' => Named::Is(Letter::I),
+        b'J' => Named::Is(Letter::J),
+        _ => Named::Other,
     }
 }

@@ -1,4 +1,3 @@
-// The bytes and the letters of a line of words, and what a line says of each letter. No function here asks anything of its arguments.
-pub mod byte;
+// The letters of a line of words, and what a line says of each letter. No function here asks anything of its arguments.
 pub mod letter;
 pub mod word;

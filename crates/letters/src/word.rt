@@ -1,8 +1,9 @@
 // What a line says of each letter.
+use crate::letter::Letter;
 ghost use mathlib.Core.Path.{_≡_};
 ghost use mathlib.Core.Bool.{_||_};
-ghost use Rattle.letters.specs.Word.{missingWord, onceOf};
-ghost use Rattle.letters.specs.laws.Scan.{moreOf, noWords, wordsIn};
+ghost use Rattle.letters.specs.Word.{missingWord, oneWord, onceOf};
+ghost use Rattle.letters.specs.laws.Scan.{moreOf, noWords, putOf};
 
 // A letter's word. The magnitude is in thousandths for a letter that takes a point (below 10^10), else a plain number (below 10^7).
 // A letter that does not stand, or stands twice, has no value: plus 0.
@@ -35,25 +36,15 @@ pub fn missing() -> Word
     }
 }
 
-// The words of a list that has them in the letters' order.
-pub fn all(list: [Word; 7]) -> Words
-    ensures { λ r. ⌜ r ≡ wordsIn list ⌝ }
+// What is said of a letter that stands once.
+pub fn one(negative: bool, magnitude: u64) -> Word
+    ensures { λ r. ⌜ r ≡ oneWord negative magnitude ⌝ }
 {
-    let n = list[0];
-    let g = list[1];
-    let f = list[2];
-    let x = list[3];
-    let y = list[4];
-    let i = list[5];
-    let j = list[6];
-    Words {
-        n: n,
-        g: g,
-        f: f,
-        x: x,
-        y: y,
-        i: i,
-        j: j,
+    Word {
+        stands: true,
+        twice: false,
+        negative: negative,
+        magnitude: magnitude,
     }
 }
 
@@ -85,6 +76,23 @@ pub fn more(old: Word, new: Word) -> Word
         };
     }
     new
+}
+
+// The words of a line after one word more.
+pub fn put(ws: Words, l: Letter, new: Word) -> Words
+    ensures { λ r. ⌜ r ≡ putOf ws l new ⌝ }
+{
+    let mut next = ws;
+    match l {
+        Letter::N => next.n = more(ws.n, new),
+        Letter::G => next.g = more(ws.g, new),
+        Letter::F => next.f = more(ws.f, new),
+        Letter::X => next.x = more(ws.x, new),
+        Letter::Y => next.y = more(ws.y, new),
+        Letter::I => next.i = more(ws.i, new),
+        Letter::J => next.j = more(ws.j, new),
+    }
+    next
 }
 
 fn either(a: bool, b: bool) -> bool

@@ -1,6 +1,7 @@
 // A position, and the way from one to another.
 ghost use mathlib.Core.Path.{_≡_};
 ghost use Rattle.plane.specs.Point.{incrementsOf, equalPoint};
+use whole::equal::equal;
 use whole::sign::SignMagnitude;
 
 pub struct Point {
@@ -27,8 +28,8 @@ pub fn between(from: Point, to: Point) -> Increments
 pub fn is_same(p: Point, q: Point) -> bool
     ensures { λ r. ⌜ r ≡ equalPoint p q ⌝ }
 {
-    let way = between(p, q);
-    let x = way.x;
-    let y = way.y;
-    x.magnitude == 0 && y.magnitude == 0
+    if !equal(p.x, q.x) {
+        return false;
+    }
+    equal(p.y, q.y)
 }

@@ -4,5 +4,6 @@ pub mod Digits
 pub mod Lines
 pub mod Buffer
 pub mod Puts
+pub mod Behind
 pub mod Examples
 pub mod Fields

@@ -1,5 +1,6 @@
 // Bytes, texts and numbers put into a buffer from a place on. Each answers the next place; each caller shows that there is room.
 use whole::sign;
+ghost use mathlib.Core.Path.{_≡_};
 ghost use mathlib.Core.List.{_++_, _∷_, []};
 ghost use Prim.Native.Nat.{_+_, _≤_, _<_};
 ghost use lib.ListN.{length};
@@ -30,19 +31,48 @@ pub fn text(out: &mut [u8], at: usize, s: &[u8]) -> usize
     at + s.len()
 }
 
-// The digits of n: those of n / 10 and one more. A u64 has 20 at most.
+// How many digits n has, 20 at most. Most numbers of a listing are short: up to four digits are told by comparisons alone.
+fn width(n: u64) -> usize
+    ensures { λ r. ⌜ r ≡ length (decimal n) ⌝ }
+{
+    if n < 10 {
+        return 1;
+    }
+    if n < 100 {
+        return 2;
+    }
+    if n < 1_000 {
+        return 3;
+    }
+    if n < 10_000 {
+        return 4;
+    }
+    let mut m = n / 10_000;
+    let mut w = 5;
+    while 10 <= m {
+        m = m / 10;
+        w += 1;
+    }
+    w
+}
+
+// The digits of n, from the last to the first: those of m are still to be written, in the places before i.
 pub fn digits(out: &mut [u8], at: usize, n: u64) -> usize
     requires { ⌜ at + length (decimal n) ≤ length (now out) ⌝ }
     ensures { λ r. ⌜ Puts (decimal n) (length (decimal n)) (now (out .entry)) at (now (out .exit)) r ⌝ }
 {
-    if n < 10 {
-        let d = n as u8;
-        byte(out, at, ZERO + d)
-    } else {
-        let last = digits(out, at, n / 10);
-        let d = (n % 10) as u8;
-        byte(out, last, ZERO + d)
+    let end = at + width(n);
+    let mut m = n;
+    let mut i = end;
+    while 10 <= m {
+        i -= 1;
+        let d = (m % 10) as u8;
+        out[i] = ZERO + d;
+        m = m / 10;
     }
+    let d = m as u8;
+    out[at] = ZERO + d;
+    end
 }
 
 // A number and the byte that ends its field.

@@ -7,3 +7,4 @@ pub mod Order
 pub mod Sign
 pub mod Bounded
 pub mod Test
+pub mod Float

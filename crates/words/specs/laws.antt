@@ -1,9 +1,8 @@
 pub mod Scan
-pub mod Bounds
 pub mod Digits
-pub mod Sound
-pub mod Complete
+pub mod Number
 pub mod Words
+pub mod Line
 pub mod Reading
 pub mod Run
 pub mod Examples

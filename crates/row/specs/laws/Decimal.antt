@@ -4,7 +4,7 @@ use mathlib.Core.Path.{_≡_, refl, sym, _∙_}
 use mathlib.Core.Bool.{Bool, true, false}
 use mathlib.Core.List.{[], _∷_, _++_}
 use native.Mathlib.Omega.{arith}
-use native.Mathlib.Nat.{pow-suc}
+use native.Mathlib.Nat.{pow-suc, pow-succ', one-le-pow, div-one, div-div-eq-div-mul}
 use lib.ListN.{length, length-append}
 use lib.Dec.{ltb}
 use lib.IntN.{ℤ, pos, negsuc}
@@ -83,6 +83,19 @@ digits-below =
     large n h rest (suc k) l =
         let below : n < 10 ^ suc k * 10 = rw (pow-suc 10 (suc k)) at l in
         omega (arith, length-large n h, rest k (omega arith))
+
+-- from 10 ^ k on, k more than without the last k
+pub digits-after : (k n : ℕ) → 10 ^ k ≤ n → length (decimal n) ≡ k + length (decimal (n / 10 ^ k))
+digits-after zero n h = rw div-one (omega arith)
+digits-after (suc k) n h =
+    let far : 10 * 10 ^ k ≤ n = rw pow-succ' at h in
+    let ten : 10 ≤ n = omega (arith, one-le-pow k 10 (omega arith)) in
+    let rest = digits-after k (n / 10) (omega arith) in
+    rw (pow-succ', ← div-div-eq-div-mul) (omega (arith, length-large n ten))
+
+-- from 10 ^ k on and below 10 ^ (k + 1), k + 1
+pub digits-between : (k n : ℕ) → 10 ^ k ≤ n → n < 10 ^ suc k → length (decimal n) ≡ suc k
+digits-between k n h l = omega (arith, digits-below n k l, digits-after k n h, digits-least (n / 10 ^ k))
 
 -- a u64 has 20
 pub digits-most : (n : ℕ) → Fits w64 n → length (decimal n) ≤ 20

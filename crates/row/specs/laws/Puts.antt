@@ -1,11 +1,11 @@
 -- What it means to put bytes into a buffer from a place on, and that such steps follow one another.
-use Prim.Native.Nat.{ℕ, _+_, _≤_, _<_}
-use mathlib.Core.Path.{_≡_, refl, ap, _∙_}
-use mathlib.Core.List.{List, [], _∷_, _++_}
+use Prim.Native.Nat.{ℕ, suc, _+_, _≤_, _<_}
+use mathlib.Core.Path.{_≡_, refl, sym, ap, _∙_}
+use mathlib.Core.List.{List, [], _∷_, _++_, append-assoc}
 use native.Mathlib.Omega.{arith}
 use native.Mathlib.Numerals.{add-one}
-use lib.ListN.{length, set, length-append, length-set}
-use lib.Seq.{paste, take-length, set-split, append-snoc}
+use lib.ListN.{length, set, take, length-append, length-set}
+use lib.Seq.{paste, paste-zero, take-length, length-take-le, set-split, set-append-left, take-set-lt, take-suc-set, append-snoc}
 use borrow.Author.Tests.{le-leb, lt-leb}
 use Rattle.row.specs.declared.lines.Place.the-variants.{Next, NoRoom}
 use Rattle.row.specs.Buffer.{placed, bufferAfter, placeAfter}
@@ -44,6 +44,29 @@ puts-byte old at b h = record {
   within = omega arith;
   len = length-set old at b;
 }
+
+-- no byte at all
+pub puts-none : (old : List ℕ) (at : ℕ) → at ≤ length old → Puts [] 0 old at old at
+unfolding placed
+puts-none old at h = record { buffer = paste-zero old at []; place = omega arith; most = omega arith; within = h; len = refl }
+
+-- a byte before a text that stands there already
+pub puts-before : {text old new : List ℕ} {k i next : ℕ} (at b : ℕ) → i ≡ at + 1 → Puts text k old i new next
+    → Puts (b ∷ text) (suc k) old at (set new at b) next
+unfolding placed
+puts-before {text} {old} {new} {k} {i} at b e p =
+    let h : at < length old = omega (arith, p .place, p .within) in
+    let inside : at < length (take i old) = rw (length-take-le i old (omega (arith, p .place, p .within))) (omega arith) in
+    let front : set (take i old) at b ≡ take at old ++ (b ∷ []) =
+    sym (take-set-lt i old at b (omega arith)) ∙ rw (e, add-one) (take-suc-set old at b h) in
+    let rest : i + length text ≡ at + suc (length text) = omega arith in
+    record {
+      buffer = rw (p .buffer, append-assoc (take i old), set-append-left, front, rest) (simp append-assoc);
+      place = omega (arith, p .place);
+      most = omega (arith, p .most);
+      within = p .within;
+      len = length-set new at b ∙ p .len;
+    }
 
 -- a text, once all of it is copied
 pub puts-text : (s old new : List ℕ) (at i : ℕ) → at + length s ≤ length old → i ≡ length s → new ≡ paste old at s i → Puts s (length s) old at new (at + length s)

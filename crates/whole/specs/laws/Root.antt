@@ -1,8 +1,9 @@
 -- The least and the nearest root by inequalities, and that these settle them.
-use mathlib.Core.Path.{_≡_, refl, sym}
+use mathlib.Core.Path.{_≡_, refl, sym, _∙_}
 use Prim.Native.Nat.{ℕ, zero, suc, _+_, _-_, _*_, _≤_, _<_, zero-le}
 use native.Mathlib.Nat.{lt-of-not-le, lt-of-lt-of-le}
 use native.Mathlib.Decide.{decLe}
+use native.Mathlib.Numerals.{add-one}
 use native.Mathlib.Omega.{arith}
 use lib.Dec.{leb, eqb, leb→le, le→leb}
 use borrow.Author.Tests.{leb-true, le-leb, eqb-true, eq-eqb, ne-eqb}
@@ -40,6 +41,14 @@ least-root-is {s} {q} r =
 -- by two products: how code tests a root that it is handed
 pub least-root-between : (s q : ℕ) → q * q < s → s ≤ suc q * suc q → suc q ≡ leastRoot s
 least-root-between s q low high = least-root-is (record { above = high; least = λ k h. square-lt q k (lt-of-lt-of-le low h) })
+
+-- the same of a guess q, whose square is all that is multiplied: the root is the next number, or q itself
+pub least-root-up : (s q : ℕ) → q * q < s → s - q * q ≤ 2 * q + 1 → q + 1 ≡ leastRoot s
+least-root-up s q low high = add-one q ∙ least-root-between s q low (omega arith)
+
+pub least-root-down : (s q : ℕ) → s ≤ q * q → q * q - s + 1 < 2 * q → q ≡ leastRoot s
+least-root-down s zero high low = absurd (omega arith)
+least-root-down s (suc p) high low = least-root-between s p (omega arith) high
 
 -- the test that a number is the least root, by the squares of it and of the one before
 pub root-test-zero : (s : ℕ) → eqb s 0 ≡ eqb 0 (leastRoot s)

@@ -7,7 +7,9 @@ use native.Mathlib.Omega.{arith}
 use borrow.Author.Tests.{eqb-true, eq-eqb}
 use Rattle.whole.specs.Equal.{equalZ}
 use Rattle.whole.specs.laws.Difference.{ring, var, _⊕_, _⊖_}
-use Rattle.whole.specs.laws.Order.{no-way}
+use mir.Syntax.{w64}
+use mir.Val.{SFits, ofZ}
+use Rattle.whole.specs.laws.Order.{no-way, bits-equal}
 
 pub both : {a b : Bool} → (a && b) ≡ true → (a ≡ true) × (b ≡ true)
 both {a = true} {b = true} e = (refl, refl)
@@ -58,3 +60,13 @@ equal-way x y = same-test to from
 
     from : equalZ x y ≡ true → eqb (natAbs (y -ℤ x)) 0 ≡ true
     from e = rw (equal-true x y e) (eq-eqb _ 0 (ap natAbs (+ℤ-invr y)))
+
+-- `==` on signed numbers compares their bits
+pub equal-bits : {x y : ℤ} → SFits w64 x → SFits w64 y → eqb (ofZ w64 x) (ofZ w64 y) ≡ equalZ x y
+equal-bits {x} {y} fx fy = same-test to from
+  where
+    to : eqb (ofZ w64 x) (ofZ w64 y) ≡ true → equalZ x y ≡ true
+    to e = rw (bits-equal fx fy (eqb-true _ _ e)) (equal-same y)
+
+    from : equalZ x y ≡ true → eqb (ofZ w64 x) (ofZ w64 y) ≡ true
+    from e = eq-eqb _ _ (ap (ofZ w64) (equal-true x y e))

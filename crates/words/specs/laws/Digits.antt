@@ -1,66 +1,114 @@
--- Digits pushed one by one are the number that they write, and how large it is.
+-- Digits that are read are the number that they write, and how large it is.
 use Prim.Native.Nat.{ℕ, _+_, _-_, _*_, _^_, _≤_, _<_}
 use mathlib.Core.Path.{_≡_, refl, sym, ap, _∙_}
-use mathlib.Core.List.{List, [], _∷_}
-use mathlib.Core.Bool.{Bool, true, false, cond}
+use mathlib.Core.List.{List, [], _∷_, _++_}
+use mathlib.Core.Bool.{Bool, true, false, cond, and-false, false≢true}
 use native.Mathlib.Omega.{arith}
-use native.Mathlib.Nat.{pow-suc, mul-assoc, mul-le-mul-right, mul-lt-mul-of-pos-right, one-le-pow, pow-le-pow-right, lt-of-lt-of-le}
+use native.Mathlib.Nat.{pow-suc, one-le-pow, pow-le-pow-right, lt-of-lt-of-le}
+use native.Mathlib.Nat.{mul-assoc, mul-le-mul-right, mul-lt-mul-of-pos-right, add-sub-cancel-left}
 use lib.Pow.{pow-add}
-use lib.ListN.{length}
+use lib.Dec.{ltb, leb}
+use lib.ListN.{length, drop}
+use borrow.Author.Tests.{ltb-true, ltb-false, leb-true, lt-ltb, le-ltb, le-leb}
 use Rattle.letters.specs.declared.letter.Letter.{Letter}
-use Rattle.words.specs.declared.token.Token.{Token}
 use Rattle.letters.specs.Letter.{takesPoint, unitOf}
-use Rattle.words.specs.Grammar.{AllDigits, PointRight}
-use Rattle.letters.specs.Word.{oneWord}
+use Rattle.words.specs.declared.digits.Digits.{Digits}
+use Rattle.words.specs.Grammar.{digitsText, AllDigits, PointRight}
 use Rattle.words.specs.Meaning.{number, magnitudeOf}
-use Rattle.words.specs.laws.Scan.{newToken, wholeToken, decimalToken, tokenWord}
+use Rattle.words.specs.laws.Scan.{firstOf, isDigit, digits, pushOf, moreDigits, digitsOf}
 
-abbrev pub wholes : Token → List ℕ → Token
-wholes t [] = t
-wholes t (d ∷ ds) = wholes (wholeToken t d) ds
+-- ---- a byte that is a digit
 
-abbrev pub places : Token → List ℕ → Token
-places t [] = t
-places t (d ∷ ds) = places (decimalToken t d) ds
+digit-if : (low : Bool) (b : ℕ) → ltb b 48 ≡ low → cond low false (leb b 57) ≡ true → (48 ≤ b) × (b ≤ 57)
+digit-if true b e h = absurd (false≢true h)
+digit-if false b e h = (ltb-false b 48 e, leb-true b 57 h)
 
--- the token of a whole word
-abbrev pub spelled : Letter → (negative : Bool) → (whole decimals : List ℕ) → Token
-spelled l n w f = places (wholes (newToken l n) w) f
+pub digit-byte : (b : ℕ) → isDigit b ≡ true → (48 ≤ b) × (b ≤ 57)
+digit-byte b h = digit-if (ltb b 48) b refl h
 
-abbrev token : Token → (whole decimals value : ℕ) → Token
-token t k j v = record { letter = t .letter; negative = t .negative; whole = k; decimals = j; value = v }
+pub digit-is : (d : ℕ) → d < 10 → isDigit (48 + d) ≡ true
+digit-is d h = rw (le-ltb (48 + d) 48 (omega arith), le-leb (48 + d) 57 (omega arith))
 
-token-same : (t : Token) {k k′ j j′ v v′ : ℕ} → k ≡ k′ → j ≡ j′ → v ≡ v′ → token t k j v ≡ token t k′ j′ v′
-token-same t p q r = cc
+-- ---- one more, and the last
 
-wholes-all : (t : Token) (ds : List ℕ) → wholes t ds ≡ token t (t .whole + length ds) (t .decimals) (t .value * 10 ^ length ds + number ds)
-wholes-all t [] = token-same t (omega arith) refl (omega arith)
-wholes-all t (d ∷ ds) = wholes-all (wholeToken t d) ds ∙ token-same t (omega arith) refl (rw pow-suc (omega arith))
+module _ (most : ℕ) (d : Digits) where
+  pub digits-stop : (s : List ℕ) → isDigit (firstOf s) ≡ false → moreDigits most d s ≡ d
+  digits-stop [] h = refl
+  digits-stop (b ∷ s) h = rw h
 
-places-all : (t : Token) (ds : List ℕ) → places t ds ≡ token t (t .whole) (t .decimals + length ds) (t .value * 10 ^ length ds + number ds)
-places-all t [] = token-same t refl (omega arith) (omega arith)
-places-all t (d ∷ ds) = places-all (decimalToken t d) ds ∙ token-same t refl (omega arith) (rw pow-suc (omega arith))
+  pub digits-full : (s : List ℕ) → most ≤ d .count → moreDigits most d s ≡ d
+  digits-full [] h = refl
+  digits-full (b ∷ s) h = rw (le-ltb (d .count) most h, and-false)
 
-pub spelled-all : (l : Letter) (n : Bool) (w f : List ℕ) → spelled l n w f ≡ token (newToken l n) (length w) (length f) (number w * 10 ^ length f + number f)
-spelled-all l n w f =
-    ap (λ (t : Token). places t f) (wholes-all (newToken l n) w)
-    ∙ places-all _ f
-    ∙ token-same (newToken l n) (omega arith) (omega arith) (omega arith)
+  pub digits-more : (s : List ℕ) → isDigit (firstOf s) ≡ true → d .count < most
+      → moreDigits most (pushOf d (firstOf s)) (drop 1 s) ≡ moreDigits most d s
+  digits-more [] e h = absurd (false≢true e)
+  digits-more (b ∷ s) e h = rw (e, lt-ltb (d .count) most h)
+
+-- ---- the digits of a text are read
+
+digits-same : {v v′ k k′ : ℕ} → v ≡ v′ → k ≡ k′ → digits v k ≡ digits v′ k′
+digits-same p q = cc
+
+read-more : (most : ℕ) (d : Digits) (ds s : List ℕ) → AllDigits ds → d .count + length ds ≤ most → isDigit (firstOf s) ≡ false
+    → moreDigits most d (digitsText ds ++ s) ≡ digits (d .value * 10 ^ length ds + number ds) (d .count + length ds)
+read-more most d [] s a few end = digits-stop most d s end ∙ digits-same (omega arith) (omega arith)
+read-more most d (n ∷ ds) s a few end =
+    rw (digit-is n (a .0), lt-ltb (d .count) most (omega arith))
+    (read-more most (pushOf d (48 + n)) ds s (a .1) (omega arith) end
+    ∙ digits-same (rw (pow-suc, add-sub-cancel-left 48 n) (omega arith)) (omega arith))
+
+pub digits-read : (most v : ℕ) (ds s : List ℕ) → AllDigits ds → length ds ≤ most → isDigit (firstOf s) ≡ false
+    → digitsOf most v (digitsText ds ++ s) ≡ digits (v * 10 ^ length ds + number ds) (length ds)
+digits-read most v ds s a few end = read-more most (digits v 0) ds s a (omega arith) end ∙ digits-same refl (omega arith)
+
+-- ---- what is read are digits of the text
+
+pub record DigitsIn (most : ℕ) (d : Digits) (s : List ℕ) : Type 0 where
+  pub list : List ℕ
+  pub digits : AllDigits list
+  pub count : moreDigits most d s .count ≡ d .count + length list
+  pub few : d .count + length list ≤ most
+  pub text : digitsText list ++ drop (length list) s ≡ s
+
+no-digits : (most : ℕ) (d : Digits) (s : List ℕ) → d .count ≤ most → moreDigits most d s ≡ d → DigitsIn most d s
+no-digits most d s h e = record { list = []; digits = tt; count = rw e (omega arith); few = omega arith; text = refl }
+
+more-digits : (most : ℕ) (d : Digits) (b : ℕ) (s : List ℕ) → isDigit b ≡ true → d .count < most → DigitsIn most (pushOf d b) s
+    → DigitsIn most d (b ∷ s)
+more-digits most d b s e h r =
+    let x = digit-byte b e in
+    let y : 48 + (b - 48) ≡ b = omega arith in
+    record {
+      list = (b - 48) ∷ r .list;
+      digits = (omega arith, r .digits);
+      count = ap (λ (c : Digits). c .count) (sym (digits-more most d (b ∷ s) e h)) ∙ r .count ∙ omega arith;
+      few = omega (arith, r .few);
+      text = rw y (ap (λ (t : List ℕ). b ∷ t) (r .text));
+    }
+
+pub digits-in : (most : ℕ) (d : Digits) (s : List ℕ) → d .count ≤ most → DigitsIn most d s
+digits-in most d [] h = no-digits most d [] h refl
+digits-in most d (b ∷ s) h = by (isDigit b) refl (ltb (d .count) most) refl (λ k. digits-in most (pushOf d b) s (omega arith))
+  where
+    by : (x : Bool) → isDigit b ≡ x → (y : Bool) → ltb (d .count) most ≡ y → (d .count < most → DigitsIn most (pushOf d b) s)
+        → DigitsIn most d (b ∷ s)
+    by false e y g more = no-digits most d (b ∷ s) h (digits-stop most d (b ∷ s) e)
+    by true e false g more = no-digits most d (b ∷ s) h (digits-full most d (b ∷ s) (ltb-false _ _ g))
+    by true e true g more = let k : d .count < most = ltb-true _ _ g in more-digits most d b s e k (more k)
+
+-- ---- in units of its letter
 
 thousand : (k : ℕ) → k ≤ 3 → 10 ^ k * 10 ^ (3 - k) ≡ 1000
 thousand k h = let e : k + (3 - k) ≡ 3 = omega arith in sym (pow-add 10 k (3 - k)) ∙ rw e
 
--- all digits in units of the last are the whole in its units, and the decimals in theirs
-in-units : (takes : Bool) (n : ℕ) (f : List ℕ) → length f ≤ 3 → PointRight takes f
-    → (n * 10 ^ length f + number f) * cond takes (10 ^ (3 - length f)) 1 ≡ n * cond takes 1000 1 + number f * 10 ^ (3 - length f)
-in-units true n f h p =
-    let m : n * 10 ^ length f * 10 ^ (3 - length f) ≡ n * 1000 = mul-assoc n (10 ^ length f) (10 ^ (3 - length f)) ∙ rw (thousand (length f) h) in
+-- all digits in units of the last are the whole in thousandths, and the decimals in theirs
+pub in-thousandths : (n : ℕ) (f : List ℕ) → length f ≤ 3
+    → (n * 10 ^ length f + number f) * 10 ^ (3 - length f) ≡ n * 1000 + number f * 10 ^ (3 - length f)
+in-thousandths n f h =
+    let k = length f in
+    let m : n * 10 ^ k * 10 ^ (3 - k) ≡ n * 1000 = mul-assoc n (10 ^ k) (10 ^ (3 - k)) ∙ rw (thousand k h) in
     omega arith
-in-units false n f h p = rw p (omega arith)
-
--- what is said of a word that was read is what the word says
-pub token-word : (l : Letter) (n : Bool) (w f : List ℕ) → length f ≤ 3 → PointRight (takesPoint l) f → tokenWord (spelled l n w f) ≡ oneWord n (magnitudeOf l w f)
-token-word l n w f h p = rw (spelled-all l n w f) (ap (oneWord n) (in-units (takesPoint l) (number w) f h p))
 
 -- ---- how large it is
 

@@ -3,48 +3,47 @@ use Prim.Native.Nat.{ℕ, _*_, _^_, _<_}
 use mathlib.Core.Path.{_≡_, refl, sym, ap, _∙_}
 use mathlib.Core.Logic.{_⊎_, inl, inr}
 use mathlib.Core.List.{List, [], _∷_}
-use mathlib.Core.Bool.{Bool, true, false, cond, _||_, true≢false}
+use mathlib.Core.Bool.{Bool, true, false, cond, _||_, true≢false, false≢true}
 use native.Mathlib.Omega.{arith}
 use borrow.Author.Tests.{eqb-true, eq-eqb, not-true}
 use Rattle.letters.specs.declared.letter.Letter.{Letter}
 use Rattle.letters.specs.declared.letter.Letter.the-variants.{N, G, F, X, Y, I, J}
-use Rattle.letters.specs.declared.byte.Class.the-variants.{Name}
+use Rattle.letters.specs.declared.letter.Named.the-variants.{Is}
 use Rattle.letters.specs.declared.word.Words.{Words}
 use Rattle.words.specs.declared.line.Line.{Line}
 use Rattle.letters.specs.Letter.{letters, letterByte, takesPoint, unitOf, same}
 use Rattle.words.specs.Grammar.{Sign, Item, blank, word, lineText, RightLine, LineOfWords}
 use Rattle.letters.specs.Word.{missingWord, oneWord, wordAt, anyTwice, onceOf}
 use Rattle.words.specs.Meaning.{magnitudeOf, isMinus, Value, missing, one, twice, andThen, says, wordOf, answerOf, saidBy, notWords, Means}
-use Rattle.letters.specs.laws.Scan.{classOf}
-use Rattle.words.specs.laws.Scan.{Scan, isBetween, closeOf, lastOf, lineOf}
-use Rattle.letters.specs.laws.Byte.{class-letter}
+use Rattle.letters.specs.laws.Scan.{letterOf, noWords}
+use Rattle.words.specs.laws.Scan.{lineOf}
+use Rattle.letters.specs.laws.Letter.{letter-of}
 use Rattle.words.specs.laws.Digits.{magnitude-below}
-use Rattle.words.specs.laws.Sound.{sound}
-use Rattle.words.specs.laws.Complete.{complete}
 use Rattle.words.specs.laws.Words.{at-by, gathered}
+use Rattle.words.specs.laws.Line.{items-read, Answered, answered}
 
 -- ---- the answer is right
 
-closed-yes : (between : Bool) (ws : Words) → cond between (answerOf true ws) notWords .formed ≡ true → between ≡ true
-closed-yes true ws h = refl
-closed-yes false ws h = h
-
-closed-no : (between : Bool) (ws : Words) → cond between (answerOf true ws) notWords .formed ≡ false → cond between (answerOf true ws) notWords ≡ notWords
-closed-no true ws h = absurd (true≢false h)
-closed-no false ws h = refl
-
 items-said : (is : List Item) → RightLine is → lineOf (lineText is) ≡ saidBy is
 unfolding lineOf
-items-said is r = ap (λ (st : Scan). closeOf (st .part) (st .words)) (complete is r) ∙ ap (answerOf true) (gathered is)
+items-said is r = items-read is noWords r ∙ ap (answerOf true) (gathered is)
+
+is-formed : {s : List ℕ} {r : Line} → Answered s r → r .formed ≡ true → LineOfWords s
+is-formed (inl a) h = a .0
+is-formed (inr e) h = absurd (false≢true (rw e at h))
+
+is-refused : {s : List ℕ} {r : Line} → Answered s r → r .formed ≡ false → r ≡ notWords
+is-refused (inl a) h = absurd (true≢false (sym (a .1) ∙ h))
+is-refused (inr e) h = e
 
 pub line-means : (s : List ℕ) → Means s (lineOf s)
 unfolding lineOf
 line-means s =
-    let st = lastOf s in
+    let a = answered 0 noWords s in
     record {
-      formed = λ h. sound s (closed-yes (isBetween (st .part)) (st .words) h);
+      formed = is-formed a;
       said = λ w. rw (← w .text) (items-said (w .items) (w .right));
-      refused = closed-no (isBetween (st .part)) (st .words);
+      refused = is-refused a;
     }
 
 -- ---- and there is no other
@@ -62,7 +61,7 @@ means-unique s q r m n = means-one s q r m n (q .formed) (r .formed) refl refl
 
 same-letter : (k l : Letter) → same k l ≡ true → k ≡ l
 same-letter k l h =
-    let e : Name k ≡ Name l = sym (class-letter k) ∙ ap classOf (eqb-true (letterByte k) (letterByte l) h) ∙ class-letter l in
+    let e : Is k ≡ Is l = sym (letter-of k) ∙ ap letterOf (eqb-true (letterByte k) (letterByte l) h) ∙ letter-of l in
     cc
 
 abbrev Below : ℕ → Value → Type 0

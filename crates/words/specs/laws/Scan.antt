@@ -1,165 +1,117 @@
--- The scan that the code is: one step a byte. Nothing here is to be believed: `Reading` proves that its answer is what `Meaning` asks.
-use Prim.Native.Nat.{ℕ, _+_, _-_, _*_, _^_, _≤_, _<_}
-use mathlib.Core.List.{List, [], _∷_, _++_}
-use mathlib.Core.Bool.{Bool, true, false, cond}
-use lib.Dec.{ltb, leb}
+-- The scan that the code is. Nothing here is to be believed: `Reading` proves that its answer is what `Meaning` asks.
+use Prim.Native.Nat.{ℕ, zero, suc, _+_, _-_, _*_, _^_, _≤_, _<_}
+use mathlib.Core.List.{List, [], _∷_}
+use mathlib.Core.Bool.{Bool, true, false, cond, _&&_}
+use lib.Dec.{ltb, leb, eqb}
+use lib.ListN.{length, drop}
 use Rattle.letters.specs.declared.letter.Letter.{Letter}
-use Rattle.letters.specs.declared.byte.Class.{Class}
-use Rattle.letters.specs.declared.byte.Class.the-variants.{Blank, Name, Sign, Point, Digit, Other}
-use Rattle.letters.specs.laws.Scan.{classOf, noWords, putOf}
-use Rattle.words.specs.declared.token.Token.{Token}
-use Rattle.letters.specs.declared.word.Word.{Word}
+use Rattle.letters.specs.declared.letter.Named.{Named}
+use Rattle.letters.specs.declared.letter.Named.the-variants.{Is, Other}
 use Rattle.letters.specs.declared.word.Words.{Words}
-use Rattle.words.specs.declared.part.Part.{Part}
-use Rattle.words.specs.declared.part.Part.the-variants.{Between, Begun, Whole, Decimals, Bad}
-use Rattle.words.specs.declared.part.Ended.{Ended}
-use Rattle.words.specs.declared.part.Ended.the-variants.{Nothing, Word as WordEnded}
-use Rattle.words.specs.declared.line.Line.{Line}
 use Rattle.letters.specs.Letter.{takesSign, takesPoint}
 use Rattle.letters.specs.Word.{oneWord}
+use Rattle.letters.specs.laws.Scan.{letterOf, noWords, putOf}
+use Rattle.words.specs.declared.digits.Digits.{Digits}
+use Rattle.words.specs.declared.number.Sign.{Sign}
+use Rattle.words.specs.declared.number.Amount.{Amount}
+use Rattle.words.specs.declared.number.Number.{Number}
+use Rattle.words.specs.declared.line.Line.{Line}
 use Rattle.words.specs.Meaning.{answerOf, notWords}
 
--- ---- the word that is being read
+-- ---- digits
 
-abbrev pub newToken : Letter → (negative : Bool) → Token
-newToken l n = record { letter = l; negative = n; whole = 0; decimals = 0; value = 0 }
+-- after its last byte a line has a blank more
+abbrev pub firstOf : List ℕ → ℕ
+firstOf [] = 32
+firstOf (b ∷ s) = b
 
-abbrev pub wholeToken : Token → ℕ → Token
-wholeToken t d = record { letter = t .letter; negative = t .negative; whole = t .whole + 1; decimals = t .decimals; value = t .value * 10 + d }
+abbrev pub isDigit : ℕ → Bool
+isDigit b = cond (ltb b 48) false (leb b 57)
 
-abbrev pub decimalToken : Token → ℕ → Token
-decimalToken t d = record { letter = t .letter; negative = t .negative; whole = t .whole; decimals = t .decimals + 1; value = t .value * 10 + d }
+abbrev pub digits : (value count : ℕ) → Digits
+digits v k = record { value = v; count = k }
 
--- what the last digit counts: thousandths where a point may stand
-abbrev pub scaleOf : Letter → (decimals : ℕ) → ℕ
-scaleOf l k = cond (takesPoint l) (10 ^ (3 - k)) 1
+abbrev pub pushOf : Digits → ℕ → Digits
+pushOf d b = digits (d .value * 10 + (b - 48)) (d .count + 1)
 
-abbrev pub tokenWord : Token → Word
-tokenWord t = oneWord (t .negative) (t .value * scaleOf (t .letter) (t .decimals))
+-- the digits that the bytes begin with, after those of d, until there are so many
+abbrev pub moreDigits : (most : ℕ) → Digits → List ℕ → Digits
+moreDigits most d [] = d
+moreDigits most d (b ∷ s) = let more = moreDigits most (pushOf d b) s in cond (isDigit b && ltb (d .count) most) more d
 
--- ---- the next part of a word
+abbrev pub digitsOf : (most value : ℕ) → List ℕ → Digits
+digitsOf most v s = moreDigits most (digits v 0) s
 
-abbrev pub betweenOf : Class → Part
-betweenOf Blank = Between
-betweenOf (Name l) = Begun l
-betweenOf (Sign n) = Bad
-betweenOf Point = Bad
-betweenOf (Digit d) = Bad
-betweenOf Other = Bad
+-- ---- the number of a word
 
-abbrev pub onlyIf : (right : Bool) → Part → Part
-onlyIf right p = cond right p Bad
+abbrev pub sign : (negative : Bool) (bytes : ℕ) → Sign
+sign n k = record { negative = n; bytes = k }
 
--- a byte that does not belong to a word ends it, if the word has the digits that it needs
-abbrev pub wholeOf : Token → Class → Part
-wholeOf t (Digit d) = onlyIf (ltb (t .whole) 7) (Whole (wholeToken t d))
-wholeOf t Point = onlyIf (takesPoint (t .letter)) (onlyIf (leb 1 (t .whole)) (Decimals t))
-wholeOf t Blank = onlyIf (leb 1 (t .whole)) (betweenOf Blank)
-wholeOf t (Name l) = onlyIf (leb 1 (t .whole)) (betweenOf (Name l))
-wholeOf t (Sign n) = onlyIf (leb 1 (t .whole)) (betweenOf (Sign n))
-wholeOf t Other = onlyIf (leb 1 (t .whole)) (betweenOf Other)
+abbrev pub signOf : (takes : Bool) → ℕ → Sign
+signOf takes b = cond takes (cond (eqb b 45) (sign true 1) (cond (eqb b 43) (sign false 1) (sign false 0))) (sign false 0)
 
-abbrev pub begunOf : Letter → Class → Part
-begunOf l (Sign n) = onlyIf (takesSign l) (Whole (newToken l n))
-begunOf l Blank = wholeOf (newToken l false) Blank
-begunOf l (Name k) = wholeOf (newToken l false) (Name k)
-begunOf l Point = wholeOf (newToken l false) Point
-begunOf l (Digit d) = wholeOf (newToken l false) (Digit d)
-begunOf l Other = wholeOf (newToken l false) Other
+abbrev pub amount : (right : Bool) (value bytes : ℕ) → Amount
+amount r v k = record { right = r; value = v; bytes = k }
 
-abbrev pub decimalsOf : Token → Class → Part
-decimalsOf t (Digit d) = onlyIf (ltb (t .decimals) 3) (Decimals (decimalToken t d))
-decimalsOf t Blank = onlyIf (leb 1 (t .decimals)) (betweenOf Blank)
-decimalsOf t (Name l) = onlyIf (leb 1 (t .decimals)) (betweenOf (Name l))
-decimalsOf t (Sign n) = onlyIf (leb 1 (t .decimals)) (betweenOf (Sign n))
-decimalsOf t Point = onlyIf (leb 1 (t .decimals)) (betweenOf Point)
-decimalsOf t Other = onlyIf (leb 1 (t .decimals)) (betweenOf Other)
+-- the digits w, a point, and the digits d
+abbrev pub pointedOf : (w d : Digits) → Amount
+pointedOf w d = amount (leb 1 (d .count)) (d .value * 10 ^ (3 - d .count)) (w .count + 1 + d .count)
 
-abbrev pub nextOf : Part → Class → Part
-nextOf Between c = betweenOf c
-nextOf (Begun l) c = begunOf l c
-nextOf (Whole t) c = wholeOf t c
-nextOf (Decimals t) c = decimalsOf t c
-nextOf Bad c = Bad
+-- fine: in thousandths, with a point or without
+abbrev pub amountAfter : (fine : Bool) → Digits → (rest : List ℕ) → Amount
+amountAfter false w s = amount true (w .value) (w .count)
+amountAfter true w s =
+    cond (eqb (firstOf s) 46) (pointedOf w (digitsOf 3 (w .value) (drop 1 s))) (amount true (w .value * 1000) (w .count))
 
--- ---- the words found
+abbrev pub amountWith : (fine : Bool) → Digits → List ℕ → Amount
+amountWith fine w s = cond (ltb (w .count) 1) (amount false 0 0) (amountAfter fine w (drop (w .count) s))
 
-abbrev pub wordIn : Part → Ended
-wordIn Between = Nothing
-wordIn (Begun l) = Nothing
-wordIn (Whole t) = WordEnded t
-wordIn (Decimals t) = WordEnded t
-wordIn Bad = Nothing
+abbrev pub amountOf : (fine : Bool) → List ℕ → Amount
+amountOf fine s = amountWith fine (digitsOf 7 0 s) s
 
--- a blank or a letter ends a word
-abbrev pub endsOf : Part → Class → Ended
-endsOf p Blank = wordIn p
-endsOf p (Name l) = wordIn p
-endsOf p (Sign n) = Nothing
-endsOf p Point = Nothing
-endsOf p (Digit d) = Nothing
-endsOf p Other = Nothing
+abbrev pub signed : Sign → Amount → Number
+signed g m = record { right = m .right; negative = g .negative; magnitude = m .value; bytes = g .bytes + m .bytes }
 
-abbrev pub gainOf : Words → Ended → Words
-gainOf ws Nothing = ws
-gainOf ws (WordEnded t) = putOf ws (t .letter) (tokenWord t)
+abbrev pub numberAfter : (fine : Bool) → Sign → List ℕ → Number
+numberAfter fine g s = signed g (amountOf fine (drop (g .bytes) s))
+
+abbrev pub numberOf : Letter → List ℕ → Number
+numberOf l s = numberAfter (takesPoint l) (signOf (takesSign l) (firstOf s)) s
 
 -- ---- a line
 
-pub record Scan : Type 0 where
-  pub part : Part
-  pub words : Words
+-- what a byte leads to where an item may begin: the next item after so many bytes more, with these words found; or this is no line of words
+pub data Next : Type 0 where
+  on : (skip : ℕ) → Words → Next
+  stop : Next
 
-abbrev pub at : Part → Words → Scan
-at p ws = record { part = p; words = ws }
+abbrev pub numberNext : Words → Letter → Number → Next
+numberNext ws l n = cond (n .right) (on (n .bytes) (putOf ws l (oneWord (n .negative) (n .magnitude)))) stop
 
-abbrev pub advance : Part → Words → Class → Scan
-advance p ws c = at (nextOf p c) (gainOf ws (endsOf p c))
+abbrev pub letterNext : Words → Named → List ℕ → Next
+letterNext ws (Is l) s = numberNext ws l (numberOf l s)
+letterNext ws Other s = stop
 
-abbrev pub stepOf : Scan → ℕ → Scan
-stepOf s b = advance (s .part) (s .words) (classOf b)
+abbrev pub nextOf : Words → ℕ → List ℕ → Next
+nextOf ws b s = cond (eqb b 32) (on 0 ws) (letterNext ws (letterOf b) s)
 
-abbrev pub startScan : Scan
-startScan = at Between noWords
+abbrev pub follow : Next → (ℕ → Words → Line) → Line
+follow (on k ws) scan = scan k ws
+follow stop scan = notWords
 
-abbrev pub runOf : Scan → List ℕ → Scan
-runOf s [] = s
-runOf s (b ∷ bs) = runOf (stepOf s b) bs
-
-abbrev pub isBetween : Part → Bool
-isBetween Between = true
-isBetween (Begun l) = false
-isBetween (Whole t) = false
-isBetween (Decimals t) = false
-isBetween Bad = false
-
-abbrev pub closeOf : Part → Words → Line
-closeOf p ws = cond (isBetween p) (answerOf true ws) notWords
-
--- a blank more ends the last word and changes nothing else
-abbrev pub withBlank : List ℕ → List ℕ
-withBlank bytes = bytes ++ (32 ∷ [])
-
-abbrev pub lastOf : List ℕ → Scan
-lastOf bytes = runOf startScan (withBlank bytes)
+-- the answer from an item's begin on, after bytes that are skipped since a word has them
+abbrev pub scanOf : (skip : ℕ) → Words → List ℕ → Line
+scanOf k ws [] = answerOf true ws
+scanOf zero ws (b ∷ s) = follow (nextOf ws b s) (λ k w. scanOf k w s)
+scanOf (suc k) ws (b ∷ s) = scanOf k ws s
 
 unfoldable pub lineOf : List ℕ → Line
-lineOf bytes = closeOf (lastOf bytes .part) (lastOf bytes .words)
+lineOf bytes = scanOf 0 noWords bytes
 
 -- ---- what keeps the numbers in range
 
-pub record Sized (t : Token) : Type 0 where
-  pub few : t .whole ≤ 7
-  pub places : t .decimals ≤ 3
-  pub low : t .value < 10 ^ (t .whole + t .decimals)
-
-abbrev pub PartSized : Part → Type 0
-PartSized Between = Unit
-PartSized (Begun l) = Unit
-PartSized (Whole t) = Sized t
-PartSized (Decimals t) = Sized t
-PartSized Bad = Unit
-
-abbrev pub EndedSized : Ended → Type 0
-EndedSized Nothing = Unit
-EndedSized (WordEnded t) = Sized t
+-- digits read from a place on, after those that wrote the value: each makes the number at most ten times as large
+pub record Sized (s : List ℕ) (from most value : ℕ) (d : Digits) : Type 0 where
+  pub within : from + d .count ≤ length s
+  pub few : d .count ≤ most
+  pub low : d .value < (value + 1) * 10 ^ d .count

@@ -12,7 +12,6 @@ use Rattle.letters.specs.Letter.{same}
 use Rattle.letters.specs.Word.{missingWord, oneWord, twiceWord, wordAt, wordsBy}
 use Rattle.words.specs.Meaning.{isMinus, magnitudeOf, Value, missing, one, twice, andThen, says, wordOf}
 use Rattle.letters.specs.laws.Scan.{noWords, moreOf, putOf}
-use Rattle.words.specs.laws.Complete.{gather}
 
 -- ---- words by their letters
 
@@ -29,6 +28,12 @@ pub words-same : (v w : Letter → Word) → ((l : Letter) → v l ≡ w l) → 
 words-same v w h = rw (h N, h G, h F, h X, h Y, h I, h J)
 
 -- ---- one word after another
+
+-- the words found after the items, from the left
+abbrev pub gather : Words → List Item → Words
+gather ws [] = ws
+gather ws (blank ∷ is) = gather ws is
+gather ws (word l s w f ∷ is) = gather (putOf ws l (oneWord (isMinus s) (magnitudeOf l w f))) is
 
 -- what a letter says that said w before, after items that say v of it
 abbrev join : Word → Value → Word

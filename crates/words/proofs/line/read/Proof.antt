@@ -1,106 +1,100 @@
--- Invariant of `read`: the words so far stand in the list, and the scan so far, run over the bytes that are left, is the scan after all of them.
-use Prim.Native.Nat.{_+_, _-_}
-use mathlib.Core.Path.{_∙_}
+-- Invariant of `read`: the words so far, and what the scan finds in the bytes that are left, are its answer.
+use Prim.Native.Nat.{_-_}
+use mathlib.Core.Path.{sym, _∙_}
+use borrow.Author.Tests.{not-true, not-false}
 use lib.ListN.{length}
-use Rattle.letters.specs.laws.Byte.{small}
-use Rattle.words.specs.laws.Scan.{EndedSized}
-use Rattle.words.specs.laws.Bounds.{ended-sized}
-use Rattle.words.specs.laws.Run.{Reads, reads-start, reads-next, reads-end, gain-word}
+use Rattle.words.specs.laws.Run.{Scanned, scanned-start, scanned-end, scanned-blank, scanned-other, scanned-wrong, scanned-word}
 use borrow.Author.Needs.{needs}
 use Rattle.words.proofs.line.read.Statement.{statement}
 use Rattle.words.proofs.line.read.Tie as tie
 
 abbrev Inv-loop : tie.InvT-loop
-Inv-loop s found₀ at₀ i₀ found at i = Reads s found at i
+Inv-loop s ws₀ i₀ ws i = Scanned s ws i
 
 abbrev μ-loop : tie.MeasureT-loop
-μ-loop s found₀ at₀ i₀ found at i = length s + 1 - i
+μ-loop s ws₀ i₀ ws i = length s - i
 
-missing-requires : tie.Need-missing-requires Inv-loop μ-loop
-missing-requires c κs = search needs
+none-requires : tie.Need-none-requires Inv-loop μ-loop
+none-requires c κs = search needs
 
 loop-holds : tie.Need-loop-holds Inv-loop μ-loop
-loop-holds c = rw (c .missing .ensures) (reads-start (c .before .before .args .s .now))
+loop-holds c = rw (c .none .ensures) (scanned-start (c .before .before .args .s .now))
 
-byte-at-requires : tie.Need-byte-at-requires Inv-loop μ-loop
-byte-at-requires c κs = search needs
-
-classify-requires : tie.Need-classify-requires Inv-loop μ-loop
-classify-requires c κs = search needs
-
-ends-requires : tie.Need-ends-requires Inv-loop μ-loop
-ends-requires c κs = search needs
-
-next-requires : tie.Need-next-requires Inv-loop μ-loop
-next-requires c κs = (c .before .before .before .before .loop .inv .sized, rw (c .before .classify .ensures) (small (c .before .before .byte-at .result)))
+shared-slice-read-b : tie.Need-shared-slice-read-b Inv-loop μ-loop
+shared-slice-read-b c = search needs
 
 add-i : tie.Need-add-i Inv-loop μ-loop
 add-i c = search needs
 
-enum-known-e : tie.Need-enum-known-e Inv-loop μ-loop
-enum-known-e c = search needs
+of-byte-requires : tie.Need-of-byte-requires Inv-loop μ-loop
+of-byte-requires c κs = search needs
 
-place-requires : tie.Need-place-requires Inv-loop μ-loop
-place-requires c κs = search needs
+enum-known-named : tie.Need-enum-known-named Inv-loop μ-loop
+enum-known-named c = search needs
 
-mul-old : tie.Need-mul-old Inv-loop μ-loop
-mul-old c = search needs
+enum-told : tie.Need-enum-told Inv-loop μ-loop
+enum-told c = search needs
 
-array-copy-out-old : tie.Need-array-copy-out-old Inv-loop μ-loop
-array-copy-out-old c = search needs
+refused-requires : tie.Need-refused-requires Inv-loop μ-loop
+refused-requires c κs = search needs
 
-word-requires : tie.Need-word-requires Inv-loop μ-loop
-word-requires c κs =
-    let z = c .before .before .before .before .before .before in
-    let v = z .before .before .before .before .loop in
-    let e : EndedSized (z .ends .result) = rw (z .ends .ensures) (ended-sized (v .at) (z .before .classify .result) (v .inv .sized)) in
-    rw (c .before .before .before .e .given .1) at e
+returns : tie.Need-returns Inv-loop μ-loop
+returns c =
+    let o = c .before .before .before in
+    let v = o .before .before .before .before .loop in
+    let other = sym (o .of-byte .ensures) ∙ c .before .enum-told .given .1 in
+    rw (c .refused .ensures) (scanned-other (v .inv) (search needs) (o .before .if1 .taken) other)
 
-more-requires : tie.Need-more-requires Inv-loop μ-loop
-more-requires c κs = search needs
+read-requires : tie.Need-read-requires Inv-loop μ-loop
+read-requires c κs = search needs
 
-mul-found : tie.Need-mul-found Inv-loop μ-loop
-mul-found c = search needs
+refused-requires-2 : tie.Need-refused-requires-2 Inv-loop μ-loop
+refused-requires-2 c κs = search needs
 
-array-set-from-found : tie.Need-array-set-from-found Inv-loop μ-loop
-array-set-from-found c = search needs
+returns-2 : tie.Need-returns-2 Inv-loop μ-loop
+returns-2 c =
+    let n = c .before .before .before in
+    let l = n .before .before in
+    let o = l .before .before in
+    let v = o .before .before .before .before .loop in
+    let letter = sym (o .of-byte .ensures) ∙ l .named .given .1 in
+    let wrong = scanned-wrong (v .inv) (search needs) (o .before .if1 .taken) _ letter (n .read .result) (n .read .ensures .0) in
+    rw (c .refused2 .ensures) (wrong (not-true _ (c .before .if2 .taken)))
+
+add-i-2 : tie.Need-add-i-2 Inv-loop μ-loop
+add-i-2 c = search needs
+
+one-requires : tie.Need-one-requires Inv-loop μ-loop
+one-requires c κs = search needs
+
+put-requires : tie.Need-put-requires Inv-loop μ-loop
+put-requires c κs = search needs
 
 loop-less : tie.Need-loop-less Inv-loop μ-loop
 loop-less c = search needs
 
 loop-again : tie.Need-loop-again Inv-loop μ-loop
 loop-again c =
-    let z = c .before .before .before .before .before .before .before in
-    let y = z .before .before in
-    let v = y .before .before .before .loop in
-    rw (z .next .ensures, y .classify .ensures)
-    (reads-next (v .inv) (search needs) (y .before .byte-at .result) (y .before .byte-at .ensures) _
-    (rw (← y .classify .ensures, ← z .before .ends .ensures, c .more .ensures, c .before .word .ensures, c .before .before .before .place .ensures .0)
-    (gain-word (v .found) (v .inv .words) (z .before .ends .result) _ (v .inv .held) (c .before .before .before .before .before .e .given .1))))
-
-enum-told : tie.Need-enum-told Inv-loop μ-loop
-enum-told c = search needs
+    let right = c .before .before .before in
+    let n = right .before .before in
+    let l = n .before .before in
+    let o = l .before .before in
+    let v = o .before .before .before .before .loop in
+    let letter = sym (o .of-byte .ensures) ∙ l .named .given .1 in
+    let word = scanned-word (v .inv) (search needs) (o .before .if1 .taken) _ letter (n .read .result) (n .read .ensures .0) in
+    rw (c .put .ensures, c .before .one .ensures) (word (not-false _ (right .if2 .left)) (n .read .ensures .1))
 
 loop-less-2 : tie.Need-loop-less-2 Inv-loop μ-loop
 loop-less-2 c = search needs
 
 loop-again-2 : tie.Need-loop-again-2 Inv-loop μ-loop
-loop-again-2 c =
-    let z = c .before .before in
-    let y = z .before .before in
-    let v = y .before .before .before .loop in
-    rw (z .next .ensures, y .classify .ensures)
-    (reads-next (v .inv) (search needs) (y .before .byte-at .result) (y .before .byte-at .ensures) _
-    (rw (← y .classify .ensures, ← z .before .ends .ensures, c .enum-told .given .1) (v .inv .held)))
+loop-again-2 c = scanned-blank (c .before .before .before .loop .inv) (search needs) (c .if1 .left)
 
-all-requires : tie.Need-all-requires Inv-loop μ-loop
-all-requires c κs = search needs
+answer-requires : tie.Need-answer-requires Inv-loop μ-loop
+answer-requires c κs = search needs
 
-close-requires : tie.Need-close-requires Inv-loop μ-loop
-close-requires c κs = search needs
-
-returns : tie.Need-returns Inv-loop μ-loop
-returns c = c .close .ensures ∙ rw (c .before .all .ensures) (reads-end (c .before .before .before .loop .inv) (search needs))
+returns-3 : tie.Need-returns-3 Inv-loop μ-loop
+returns-3 c = c .answer .ensures ∙ scanned-end (c .before .before .loop .inv) (search needs)
 
 pub read-spec : {M : Type 1} → statement M
 read-spec =
@@ -108,26 +102,24 @@ read-spec =
     (tie.spec
     Inv-loop
     μ-loop
-    missing-requires
+    none-requires
     loop-holds
-    byte-at-requires
-    classify-requires
-    ends-requires
-    next-requires
+    shared-slice-read-b
     add-i
-    enum-known-e
-    place-requires
-    mul-old
-    array-copy-out-old
-    word-requires
-    more-requires
-    mul-found
-    array-set-from-found
+    of-byte-requires
+    enum-known-named
+    enum-told
+    refused-requires
+    returns
+    read-requires
+    refused-requires-2
+    returns-2
+    add-i-2
+    one-requires
+    put-requires
     loop-less
     loop-again
-    enum-told
     loop-less-2
     loop-again-2
-    all-requires
-    close-requires
-    returns)
+    answer-requires
+    returns-3)
