@@ -3,3 +3,4 @@ pub mod Arc
 pub mod Step
 pub mod Work
 pub mod Stepper
+pub mod Way

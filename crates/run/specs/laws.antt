@@ -3,6 +3,7 @@ pub mod Sound
 pub mod Gap
 pub mod Left
 pub mod Cycles
+pub mod Ending
 pub mod Idle
 pub mod Cycling
 pub mod LineRun

@@ -6,12 +6,12 @@ ghost use Rattle.run.specs.Run.{stripOf, ranOf, written, SoundIn};
 use crate::Ran;
 use crate::buffer::clear;
 use crate::buffer::least;
+use crate::ending::arc_end;
 use crate::gap::first_gap;
 use crate::gap::next_gap;
 use crate::gap::remainder_at;
 use arc::arc::Arc;
 use arc::stepper::Tracer;
-use divider::end_tick;
 use plane::byte::with_marks;
 use plane::point::Point;
 use work::Work;
@@ -21,7 +21,7 @@ pub fn run_arc(capacity: u64, at: Point, remainder: u64, a: Arc, most: u64, out:
     ensures { λ r. ⌜ r ≡ ranOf (stripOf capacity most at remainder (Work.Arc a)) ⌝ }
     ensures { λ r. ⌜ now (out .exit) ≡ written (stripOf capacity most at remainder (Work.Arc a) .bytes) (now (out .entry)) ⌝ }
 {
-    let end = end_tick(capacity, a.feed, remainder, a.cycles(at));
+    let end = arc_end(capacity, at, remainder, a, most);
     let n = least(most, end);
     let last = least(most, end - 1);
     clear(out, n);

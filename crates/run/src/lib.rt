@@ -12,6 +12,7 @@ use work::Work;
 
 mod arc_run;
 mod buffer;
+mod ending;
 mod gap;
 mod line_run;
 

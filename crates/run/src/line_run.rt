@@ -7,10 +7,10 @@ ghost use Rattle.run.specs.Run.{stripOf, ranOf, written, SoundIn};
 use crate::Ran;
 use crate::buffer::clear;
 use crate::buffer::least;
+use crate::ending::line_end;
 use crate::gap::first_gap;
 use crate::gap::next_gap;
 use crate::gap::remainder_at;
-use divider::end_tick;
 use line::line::Line;
 use line::stepper::Stepper;
 use plane::byte::cycle_byte;
@@ -22,7 +22,7 @@ pub fn run_line(capacity: u64, at: Point, remainder: u64, l: Line, most: u64, ou
     ensures { λ r. ⌜ r ≡ ranOf (stripOf capacity most at remainder (Work.Line l)) ⌝ }
     ensures { λ r. ⌜ now (out .exit) ≡ written (stripOf capacity most at remainder (Work.Line l) .bytes) (now (out .entry)) ⌝ }
 {
-    let end = end_tick(capacity, l.feed, remainder, l.cycles - l.done);
+    let end = line_end(capacity, at, remainder, l, most);
     let n = least(most, end);
     let last = least(most, end - 1);
     clear(out, n);

@@ -5,22 +5,21 @@ use borrow.Author.Needs.{needs}
 use native.Mathlib.Omega.{arith}
 use mathlib.Core.Path.{_≡_, refl, sym, ap, subst, _∙_}
 use mathlib.Core.List.{List}
-use Prim.Native.Nat.{ℕ, _-_, _<_, min}
+use Prim.Native.Nat.{ℕ, _-_, _<_}
 use lib.ListN.{length, length-set}
 use Rattle.plane.specs.declared.point.Point.{Point}
 use Rattle.arc.specs.declared.arc.Arc.{Arc}
-use Rattle.arc.specs.Arc.{arcCycles}
 use Rattle.arc.specs.Stepper.{arcTracer, tracerAt}
 use Rattle.arc.specs.laws.Step.{circles}
 use Rattle.arc.specs.laws.Stepper.{tracer-at}
-use Rattle.divider.specs.Divider.{endTick}
 use Rattle.work.specs.declared.Work.{Work}
 use Rattle.run.specs.declared.gap.Gap.{Gap}
 use Rattle.run.specs.Run.{Strip, stripOf}
 use Rattle.run.specs.Gap.{nextGap, clearedOf}
 use Rattle.run.specs.laws.Going.{answers}
 use Rattle.run.specs.laws.Sound.{run-ready}
-use Rattle.run.specs.laws.Cycles.{in-work, end-asks, end-range, gap-asks}
+use Rattle.run.specs.laws.Cycles.{in-work, end-range, gap-asks}
+use Rattle.run.specs.laws.Ending.{same-least, same-some, same-before}
 use Rattle.run.specs.laws.Cycling.{Cycling, cycling-start, cleared-long, feeds, out-asks, cycling-out}
 use Rattle.run.specs.laws.ArcRun.{StandsOn, arc-asks, arc-small, arc-on, arc-end}
 
@@ -33,7 +32,7 @@ abbrev μ-loop : tie.MeasureT-loop
 
 -- from the loop's head back: the start, the n bytes that the run writes, and the tick before which no cycle ends the arc
 abbrev start : tie.At-loop Inv-loop μ-loop → tie.Start Inv-loop μ-loop
-start l = l .before .before .before .before .before .before .before .before .before .before .before .before .before
+start l = l .before .before .before .before .before .before .before .before .before .before .before .before
 
 abbrev bytes : tie.At-loop Inv-loop μ-loop → ℕ
 bytes l = l .before .before .before .before .before .before .before .before .before .least .result
@@ -52,14 +51,10 @@ long l =
 in-time : (l : tie.At-loop Inv-loop μ-loop) {t : ℕ} → t < bytes l → t < length (l .loop .out)
 in-time l h = omega (arith, long l, start l .pre .1, l .loop .inv .0 .left .short)
 
--- the end tick
-end-is : (c : tie.After-least Inv-loop μ-loop) → let b = c .before .before .before .before in c .before .end-tick .result ≡ endTick (b .args .capacity) (b .args .a .feed) (b .args .remainder) (arcCycles (b .args .a) (b .args .at))
-end-is c = let b = c .before .before .before .before in c .before .end-tick .ensures ∙ ap (endTick (b .args .capacity) (b .args .a .feed) (b .args .remainder)) (c .before .before .cycles .ensures)
-
 -- the stepper begins at the point
-entered : (c : tie.After-enter Inv-loop μ-loop) → c .before .before .before .before .before .before .before .before .before .before .before .before .args .at ≡ tracerAt (c .before .before .before .before .before .before .before .before .before .before .before .before .args .a .centre) (c .enter .result)
+entered : (c : tie.After-enter Inv-loop μ-loop) → c .before .before .before .before .before .before .before .before .before .before .before .args .at ≡ tracerAt (c .before .before .before .before .before .before .before .before .before .before .before .args .a .centre) (c .enter .result)
 entered c =
-    let b = c .before .before .before .before .before .before .before .before .before .before .before .before in
+    let b = c .before .before .before .before .before .before .before .before .before .before .before in
     sym (ap (tracerAt (b .args .a .centre)) (c .enter .ensures) ∙ tracer-at (b .args .a) (b .args .at) (circles (run-ready (b .pre .0) .0)))
 
 begins : {q0 f most : ℕ} (a : Arc) (r : ℕ) {out : List ℕ} {last n : ℕ} {at p : Point} {g : Gap} → at ≡ p
@@ -69,40 +64,37 @@ begins {q0} {f} {most} a r {out} {last} {n} {g = g} same i = subst (λ (x : Poin
 abbrev strip : tie.Start Inv-loop μ-loop → Point → Strip
 strip c p = stripOf (c .args .capacity) (c .args .most) p (c .args .remainder) (Work.Arc (c .args .a))
 
-cycles-requires : tie.Need-cycles-requires Inv-loop μ-loop
-cycles-requires c κs = run-ready (c .before .pre .0) .0
-
-end-tick-requires : tie.Need-end-tick-requires Inv-loop μ-loop
-end-tick-requires c κs = rw (c .cycles .ensures) (end-asks (c .before .before .pre .0))
+arc-end-requires : tie.Need-arc-end-requires Inv-loop μ-loop
+arc-end-requires c κs = c .before .pre .0
 
 least-requires : tie.Need-least-requires Inv-loop μ-loop
 least-requires c κs = search needs
 
 sub-least : tie.Need-sub-least Inv-loop μ-loop
-sub-least c = let e = end-range (c .before .before .before .before .pre .0) in omega (arith, end-is c, e .0)
+sub-least c = omega (arith, same-some (c .before .arc-end .ensures) (end-range (c .before .before .before .pre .0) .0))
 
 least-requires-2 : tie.Need-least-requires-2 Inv-loop μ-loop
 least-requires-2 c κs = search needs
 
 clear-requires : tie.Need-clear-requires Inv-loop μ-loop
-clear-requires c κs = omega (arith, c .before .before .least .ensures, c .before .before .before .before .before .before .pre .1)
+clear-requires c κs = omega (arith, c .before .before .least .ensures, c .before .before .before .before .before .pre .1)
 
 div-whole : tie.Need-div-whole Inv-loop μ-loop
-div-whole c = in-work (c .before .before .before .before .before .before .before .before .before .before .pre .0) .feed .some
+div-whole c = in-work (c .before .before .before .before .before .before .before .before .before .pre .0) .feed .some
 
 first-gap-requires : tie.Need-first-gap-requires Inv-loop μ-loop
-first-gap-requires c κs = gap-asks (c .before .before .before .before .before .before .before .before .before .before .pre .0)
+first-gap-requires c κs = gap-asks (c .before .before .before .before .before .before .before .before .before .pre .0)
 
 enter-requires : tie.Need-enter-requires Inv-loop μ-loop
-enter-requires c κs = run-ready (c .before .before .before .before .before .before .before .before .before .before .before .pre .0) .0
+enter-requires c κs = run-ready (c .before .before .before .before .before .before .before .before .before .before .pre .0) .0
 
 loop-holds : tie.Need-loop-holds Inv-loop μ-loop
 loop-holds c =
-    let b = c .before .before .before .before .before .before .before .before .before .before .before .before in
+    let b = c .before .before .before .before .before .before .before .before .before .before .before in
     let k = c .before .before .before .before .before .before .before in
-    let e = end-is (k .before) in
-    let last = k .least2 .ensures ∙ ap (λ (t : ℕ). min (b .args .most) (t - 1)) e in
-    let n = k .before .least .ensures ∙ ap (min (b .args .most)) e in
+    let e = k .before .before .arc-end .ensures in
+    let last = k .least2 .ensures ∙ same-before e (end-range (b .pre .0) .0) in
+    let n = k .before .least .ensures ∙ same-least e in
     let same = entered c in
     let i = cycling-start (b .args .most) (b .args .out .now) (b .pre .0) (b .pre .1) last n (c .before .before .before .before .before .clear .ensures) (c .before .first-gap .ensures) in
     (begins (b .args .a) (b .args .remainder) same i, c .enter .ensures ∙ ap (arcTracer (b .args .a)) same)
@@ -184,8 +176,7 @@ run-arc-spec =
     (tie.spec
     Inv-loop
     μ-loop
-    cycles-requires
-    end-tick-requires
+    arc-end-requires
     least-requires
     sub-least
     least-requires-2

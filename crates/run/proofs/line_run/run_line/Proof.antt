@@ -2,7 +2,7 @@
 use borrow.Author.Needs.{needs}
 use native.Mathlib.Omega.{arith}
 use mathlib.Core.Path.{_≡_, refl, ap, subst, _∙_}
-use Prim.Native.Nat.{ℕ, _-_, _<_, min}
+use Prim.Native.Nat.{ℕ, _-_, _<_}
 use lib.ListN.{length, length-set}
 use Rattle.run.specs.declared.gap.Gap.{Gap}
 use Rattle.line.specs.Stepper.{stepperOf}
@@ -15,7 +15,8 @@ use Rattle.line.specs.laws.Work.{line-at}
 use Rattle.run.specs.Run.{Strip, stripOf, SoundIn}
 use Rattle.run.specs.laws.Going.{answers}
 use Rattle.run.specs.laws.Sound.{run-ready}
-use Rattle.run.specs.laws.Cycles.{in-work, end-asks, end-range, gap-asks}
+use Rattle.run.specs.laws.Cycles.{in-work, end-range, gap-asks}
+use Rattle.run.specs.laws.Ending.{same-least, same-some, same-before}
 use Rattle.run.specs.laws.Cycling.{Cycling, cycling-start, cleared-long, feeds, out-asks, cycling-out}
 use Rattle.run.specs.laws.LineRun.{lineAfter, pointAfter, line-drawn, line-more, line-asks, line-small, line-on, line-end}
 
@@ -30,7 +31,7 @@ abbrev μ-loop : tie.MeasureT-loop
 
 -- from the loop's head back: the start, the n bytes that the run writes, and the tick before which no cycle ends the line
 abbrev start : tie.At-loop Inv-loop μ-loop → tie.Start Inv-loop μ-loop
-start l = l .before .before .before .before .before .before .before .before .before .before .before .before .before
+start l = l .before .before .before .before .before .before .before .before .before .before .before .before
 
 abbrev bytes : tie.At-loop Inv-loop μ-loop → ℕ
 bytes l = l .before .before .before .before .before .before .before .before .before .least .result
@@ -59,40 +60,37 @@ sound c = subst (λ (p : Point). SoundIn (c .args .capacity) p (c .args .remaind
 abbrev strip : tie.Start Inv-loop μ-loop → Point → Strip
 strip c p = stripOf (c .args .capacity) (c .args .most) p (c .args .remainder) (Work.Line (c .args .l))
 
-sub-end-tick : tie.Need-sub-end-tick Inv-loop μ-loop
-sub-end-tick c = let w = in-work (c .before .before .pre .0) in omega (arith, w .some)
-
-end-tick-requires : tie.Need-end-tick-requires Inv-loop μ-loop
-end-tick-requires c κs = end-asks (c .before .before .pre .0)
+line-end-requires : tie.Need-line-end-requires Inv-loop μ-loop
+line-end-requires c κs = c .before .pre .0
 
 least-requires : tie.Need-least-requires Inv-loop μ-loop
 least-requires c κs = search needs
 
 sub-least : tie.Need-sub-least Inv-loop μ-loop
-sub-least c = let e = end-range (c .before .before .before .before .pre .0) in omega (arith, c .before .end-tick .ensures, e .0)
+sub-least c = omega (arith, same-some (c .before .line-end .ensures) (end-range (c .before .before .before .pre .0) .0))
 
 least-requires-2 : tie.Need-least-requires-2 Inv-loop μ-loop
 least-requires-2 c κs = search needs
 
 clear-requires : tie.Need-clear-requires Inv-loop μ-loop
-clear-requires c κs = omega (arith, c .before .before .least .ensures, c .before .before .before .before .before .before .pre .1)
+clear-requires c κs = omega (arith, c .before .before .least .ensures, c .before .before .before .before .before .pre .1)
 
 div-whole : tie.Need-div-whole Inv-loop μ-loop
-div-whole c = in-work (c .before .before .before .before .before .before .before .before .before .before .pre .0) .feed .some
+div-whole c = in-work (c .before .before .before .before .before .before .before .before .before .pre .0) .feed .some
 
 first-gap-requires : tie.Need-first-gap-requires Inv-loop μ-loop
-first-gap-requires c κs = gap-asks (c .before .before .before .before .before .before .before .before .before .before .pre .0)
+first-gap-requires c κs = gap-asks (c .before .before .before .before .before .before .before .before .before .pre .0)
 
 enter-requires : tie.Need-enter-requires Inv-loop μ-loop
-enter-requires c κs = run-ready (c .before .before .before .before .before .before .before .before .before .before .before .pre .0) .0
+enter-requires c κs = run-ready (c .before .before .before .before .before .before .before .before .before .before .pre .0) .0
 
 loop-holds : tie.Need-loop-holds Inv-loop μ-loop
 loop-holds c =
-    let b = c .before .before .before .before .before .before .before .before .before .before .before .before in
+    let b = c .before .before .before .before .before .before .before .before .before .before .before in
     let k = c .before .before .before .before .before .before .before in
-    let e = k .before .before .end-tick .ensures in
-    let last = k .least2 .ensures ∙ ap (λ (t : ℕ). min (b .args .most) (t - 1)) e in
-    let n = k .before .least .ensures ∙ ap (min (b .args .most)) e in
+    let e = k .before .before .line-end .ensures in
+    let last = k .least2 .ensures ∙ same-before e (end-range (b .pre .0) .0) in
+    let n = k .before .least .ensures ∙ same-least e in
     (cycling-start (b .args .most) (b .args .out .now) (sound b) (b .pre .1) last n (c .before .before .before .before .before .clear .ensures) (c .before .first-gap .ensures), c .enter .ensures)
 
 advance-requires : tie.Need-advance-requires Inv-loop μ-loop
@@ -179,8 +177,7 @@ run-line-spec =
     (tie.spec
     Inv-loop
     μ-loop
-    sub-end-tick
-    end-tick-requires
+    line-end-requires
     least-requires
     sub-least
     least-requires-2
