@@ -1,8 +1,10 @@
--- The demands from C, where the caller owns the record as 18 words: on the words of a sound record each call is the machine's own, so that
+-- The demands from C, where the caller owns the record as 19 words: on the words of a sound record each call is the machine's own, so that
 -- what is claimed of the machine's calls is claimed of these; all other words get 9 and stay as they are.
 use mathlib.Core.Path.{_≡_}
+use mathlib.Core.Logic.{_⊎_}
+use mathlib.Core.Bool.{true}
 use mathlib.Core.List.{List, [], _++_}
-use Prim.Native.Nat.{ℕ}
+use Prim.Native.Nat.{ℕ, _^_, _<_}
 use lib.IntN.{ℤ, pos, negsuc}
 use lib.ListN.{take}
 use denote.Ref.{RefT, now}
@@ -16,14 +18,19 @@ use Rattle.machine.specs.declared.Answered.{Answered}
 use Rattle.machine.specs.declared.Ticked.{Ticked}
 use Rattle.machine.specs.declared.Ran.{Ran}
 use Rattle.history.specs.Contracts.{Makes, Loads, Ticks, Runs, Holds, Releases, Stops}
+use Rattle.reader.specs.declared.Feed.{Feed}
+use Rattle.reader.specs.declared.Reader.{Reader}
+use Rattle.reader.specs.declared.«text_line».ReadLine.{ReadLine}
 use Rattle.job.specs.Job.{jobOf}
 use Rattle.job.specs.Listing.{jobListing}
 use Rattle.job.specs.declared.Check.{Check}
 use Rattle.job.specs.declared.Filled.{Filled}
 use Rattle.job.specs.Check.{isOver}
 use Rattle.layout.specs.Words.{encodeOf, settingsOf, markWord}
-use Rattle.export.specs.declared.call.Call.{Call}
-use Rattle.export.specs.Calls.{answerNumber, tickNumber, reportNumber, makeNumber, arcPath, blockOf}
+use Rattle.progress.specs.Known.{encodeKnown}
+use Rattle.progress.specs.Progress.{encodeProgress, checkIn}
+use Rattle.export.specs.Calls.{Call, answerNumber, tickNumber, reportNumber, arcPath, blockOf}
+use Rattle.export.specs.Texts.{readNumber, Refuses}
 use Rattle.export.proofs.vz_make.Reads as make-reads
 use Rattle.export.proofs.vz_load_line.Reads as line-reads
 use Rattle.export.proofs.vz_load_cw.Reads as cw-reads
@@ -33,12 +40,12 @@ use Rattle.export.proofs.vz_run.Reads as run-reads
 use Rattle.export.proofs.vz_hold.Reads as hold-reads
 use Rattle.export.proofs.vz_release.Reads as release-reads
 use Rattle.export.proofs.vz_stop.Reads as stop-reads
-use Rattle.checkexport.specs.Words.{checkIn, encodeOf as checkWords}
-use Rattle.checkexport.specs.Calls.{Refuses}
-use Rattle.checkexport.proofs.vz_check_start.Reads as start-reads
-use Rattle.checkexport.proofs.vz_check_fill.Reads as fill-reads
+use Rattle.export.proofs.text.«vz_read_line».Reads as text-reads
+use Rattle.export.proofs.text.«vz_check_start».Reads as start-reads
+use Rattle.export.proofs.text.«vz_check_fill».Reads as fill-reads
 use Rattle.demands.specs.Asked.{AllYes}
 use Rattle.demands.specs.Sound.{Sound, settingsQuestions}
+use Rattle.demands.specs.Answers.{ReadsLine}
 use Rattle.demands.specs.Texts.{FrontOf, Starts, FillsCheck}
 
 -- ---- the machine's own call on the record m: it may give the answer n, as C has it, and the record m′
@@ -47,11 +54,11 @@ abbrev pub OwnAnswer : (Answered → Type 0) → (n : ℤ) → Machine → Type 
 OwnAnswer May n m′ = (r : Answered) × May r × (n ≡ answerNumber (r .answer)) × (m′ ≡ r .machine)
 
 abbrev pub Own : Call → (m : Machine) (n : ℤ) (m′ : Machine) → Type 0
-Own (Call.Load b) m n m′ = OwnAnswer (Loads m b) n m′
-Own Call.Tick m n m′ = (r : Ticked) × Ticks m r × (n ≡ tickNumber (r .tick)) × (m′ ≡ r .machine)
-Own Call.Hold m n m′ = OwnAnswer (Holds m) n m′
-Own Call.Release m n m′ = OwnAnswer (Releases m) n m′
-Own Call.Stop m n m′ = OwnAnswer (Stops m) n m′
+Own (Call.load b) m n m′ = OwnAnswer (Loads m b) n m′
+Own Call.tick m n m′ = (r : Ticked) × Ticks m r × (n ≡ tickNumber (r .tick)) × (m′ ≡ r .machine)
+Own Call.hold m n m′ = OwnAnswer (Holds m) n m′
+Own Call.release m n m′ = OwnAnswer (Releases m) n m′
+Own Call.stop m n m′ = OwnAnswer (Stops m) n m′
 
 -- ---- on words
 
@@ -65,6 +72,8 @@ pub record OnWords (call : Call) (before : List ℤ) (n : ℤ) (after : List ℤ
       → (m′ : Machine) × Own call m n m′ × Sound m′ × (after ≡ encodeOf m′)
   -- "Any call on a record: is it sound? 9."; "returns record and buffers unchanged"
   pub others : NoRecord before → (n ≡ negsuc 8) × (after ≡ before)
+  -- a refusal of whatever number leaves every word
+  pub refused : (k : ℕ) → n ≡ negsuc k → after ≡ before
 
 -- of a run, the ticks and the buffer too
 abbrev pub OwnRun : Machine → (budget : ℕ) (out out′ : RefT (List ℕ)) (n : ℤ) (ticks : ℕ) → Machine → Type 0
@@ -75,37 +84,67 @@ pub record RunOnWords (before : List ℤ) (budget : ℕ) (out out′ : RefT (Lis
   pub own : (m : Machine) → Sound m → before ≡ encodeOf m
       → (m′ : Machine) × OwnRun m budget out out′ n ticks m′ × Sound m′ × (after ≡ encodeOf m′)
   pub others : NoRecord before → (n ≡ negsuc 8) × (ticks ≡ 0) × (after ≡ before) × (now out′ ≡ now out)
+  pub refused : (k : ℕ) → n ≡ negsuc k → (ticks ≡ 0) × (after ≡ before) × (now out′ ≡ now out)
 
 -- a make asks nothing of the words
 abbrev pub MadeWords : Settings → (n : ℤ) (after : List ℤ) → Type 0
 MadeWords s n after =
-    (r : Answered) × Makes s r × (n ≡ makeNumber (r .answer)) × Sound (r .machine) × (after ≡ encodeOf (r .machine))
+    (r : Answered) × Makes s r × (n ≡ answerNumber (r .answer)) × Sound (r .machine) × (after ≡ encodeOf (r .machine))
 
--- ---- the check of a job, as 26 words; `checkIn` reads them, and they are a check where they are the words of the one read
+-- ---- a line of a job text, with the G and F known in 2 words
+
+-- an F that is known has 32 bits
+abbrev pub FeedOf32 : Feed → Type 0
+FeedOf32 Feed.Unknown = Unit {0}
+FeedOf32 (Feed.Known f) = f < 2 ^ 32
+
+-- words that tell nothing known
+abbrev pub NotKnown : List ℤ → Type 0
+NotKnown ks = (k : Reader) → FeedOf32 (k .feed) → ¬ (ks ≡ encodeKnown k)
+
+pub record LineOnWords (before known : List ℤ) (line : RefT (List ℕ)) (n : ℤ) (after known′ : List ℤ) : Type 0 where
+  -- read_line's own, and the words after it are again those of a sound record
+  pub own : (m : Machine) → Sound m → before ≡ encodeOf m → (k : Reader) → FeedOf32 (k .feed) → known ≡ encodeKnown k
+      → (r : ReadLine) × ((κs : Lfts 1) → ReadsLine κs k m line r) × (n ≡ readNumber (r .answer)) × Sound (r .machine)
+      × (after ≡ encodeOf (r .machine)) × (known′ ≡ encodeKnown (r .reader))
+  pub others : NoRecord before ⊎ NotKnown known → (n ≡ negsuc 8) × (after ≡ before) × (known′ ≡ known)
+  -- "A refused line leaves the known G and F and the machine as before it."
+  pub refused : (k : ℕ) → n ≡ negsuc k → (after ≡ before) × (known′ ≡ known)
+
+-- ---- the check of a job, in the words of its machine's record and in 8 words of its progress
+
+-- the words of the check c
+pub record Tells (c : Check) (ws ps : List ℤ) : Type 0 where
+  pub words : ws ≡ encodeOf (c .tally .machine)
+  pub progress : ps ≡ encodeProgress c
 
 -- the words of a check that begins at the machine that a make answers
-abbrev pub StartedWords : Settings → (n : ℤ) (after : List ℤ) → Type 0
-StartedWords s n after =
-    (r : Answered) × Makes s r × (n ≡ makeNumber (r .answer)) × (c : Check) × Starts (r .machine) c × (after ≡ checkWords c)
+abbrev pub StartedWords : Settings → (n : ℤ) (ws ps : List ℤ) → Type 0
+StartedWords s n ws ps = (r : Answered) × Makes s r × (n ≡ answerNumber (r .answer)) × (c : Check) × Starts (r .machine) c × Tells c ws ps
 
 -- a fill of the words, lent the text, may answer n
-abbrev pub FillsFromC : Lfts 4 → (words words′ : RefT (List ℤ)) (text out out′ : RefT (List ℕ)) (len len′ : RefT ℕ) (n : ℤ) → Type 0
-FillsFromC κs words words′ text out out′ len len′ n =
-    fill-reads.Learnt κs (words, (text, (out, (len, tt)))) n (words′, (text, (out′, (len′, tt))))
+abbrev pub FillsFromC : Lfts 5 → (ws ws′ ps ps′ : RefT (List ℤ)) (text out out′ : RefT (List ℕ)) (len len′ : RefT ℕ) (n : ℤ) → Type 0
+FillsFromC κs ws ws′ ps ps′ text out out′ len len′ n =
+    fill-reads.Learnt κs (ws, (ps, (text, (out, (len, tt))))) n (ws′, (ps′, (text, (out′, (len′, tt)))))
 
 -- the check's own fill: 1 once all is handed out, else 0
-abbrev pub OwnFill : Check → (text out out′ : RefT (List ℕ)) (n : ℤ) (len : ℕ) (after : List ℤ) → Type 0
-OwnFill c text out out′ n len after =
+abbrev pub OwnFill : Check → (text out out′ : RefT (List ℕ)) (n : ℤ) (len : ℕ) (ws′ ps′ : List ℤ) → Type 0
+OwnFill c text out out′ n len ws′ ps′ =
     (f : Filled) × ((κs : Lfts 2) → FillsCheck κs c text out out′ f) × (n ≡ markWord (isOver (f .check))) × (len ≡ f .len)
-    × (after ≡ checkWords (f .check))
+    × Tells (f .check) ws′ ps′
 
--- fills of one text, one after the other, lead from the words ws to these, and hand these bytes out; n is what the last answered
-pub data RowsOutToC (text : List ℕ) (ws : List ℤ) : List ℕ → (n : ℤ) → List ℤ → Type 0 where
-  none : RowsOutToC text ws [] (pos 0) ws
-  fill : {bytes : List ℕ} {n : ℤ} {after : List ℤ} → RowsOutToC text ws bytes n after → (κs : Lfts 4) (words words′ : RefT (List ℤ))
-      (lent out out′ : RefT (List ℕ)) (len len′ : RefT ℕ) (n′ : ℤ) → now words ≡ after → now lent ≡ text
-      → FillsFromC κs words words′ lent out out′ len len′ n′
-      → RowsOutToC text ws (bytes ++ take (now len′) (now out′)) n′ (now words′)
+-- the words of a sound record, and a check's progress at it
+abbrev pub IsCheck : (ws ps : List ℤ) → Machine → Type 0
+IsCheck ws ps m = Sound m × (ws ≡ encodeOf m) × (ps ≡ encodeProgress (checkIn m ps))
+
+-- fills of one text, one after the other, lead from these words to those, and hand these bytes out; n is what the last answered
+pub data RowsOutToC (text : List ℕ) (ws ps : List ℤ) : List ℕ → (n : ℤ) → (ws′ ps′ : List ℤ) → Type 0 where
+  none : RowsOutToC text ws ps [] (pos 0) ws ps
+  fill : {bytes : List ℕ} {n : ℤ} {ws₁ ps₁ : List ℤ} → RowsOutToC text ws ps bytes n ws₁ ps₁ → (κs : Lfts 5)
+      (words words′ progress progress′ : RefT (List ℤ)) (lent out out′ : RefT (List ℕ)) (len len′ : RefT ℕ) (n′ : ℤ)
+      → now words ≡ ws₁ → now progress ≡ ps₁ → now lent ≡ text
+      → FillsFromC κs words words′ progress progress′ lent out out′ len len′ n′
+      → RowsOutToC text ws ps (bytes ++ take (now len′) (now out′)) n′ (now words′) (now progress′)
 
 pub record EveryCallFromC : Type 0 where
   pub make : (κs : Lfts 1) (words words′ : RefT (List ℤ)) (p w xlo xhi ylo yhi n : ℤ)
@@ -113,37 +152,40 @@ pub record EveryCallFromC : Type 0 where
       → MadeWords (settingsOf p w xlo xhi ylo yhi) n (now words′)
   pub line : (κs : Lfts 1) (words words′ : RefT (List ℤ)) (x y feed n : ℤ)
       → line-reads.Learnt κs (words, (x, (y, (feed, tt)))) n (words′, (x, (y, (feed, tt))))
-      → OnWords (Call.Load (blockOf Path.Line x y feed)) (now words) n (now words′)
+      → OnWords (Call.load (blockOf Path.Line x y feed)) (now words) n (now words′)
   pub clockwise : (κs : Lfts 1) (words words′ : RefT (List ℤ)) (x y feed i j n : ℤ)
       → cw-reads.Learnt κs (words, (x, (y, (feed, (i, (j, tt)))))) n (words′, (x, (y, (feed, (i, (j, tt))))))
-      → OnWords (Call.Load (blockOf (arcPath Turn.Clockwise i j) x y feed)) (now words) n (now words′)
+      → OnWords (Call.load (blockOf (arcPath Turn.Clockwise i j) x y feed)) (now words) n (now words′)
   pub counterclockwise : (κs : Lfts 1) (words words′ : RefT (List ℤ)) (x y feed i j n : ℤ)
       → ccw-reads.Learnt κs (words, (x, (y, (feed, (i, (j, tt)))))) n (words′, (x, (y, (feed, (i, (j, tt))))))
-      → OnWords (Call.Load (blockOf (arcPath Turn.Counterclockwise i j) x y feed)) (now words) n (now words′)
+      → OnWords (Call.load (blockOf (arcPath Turn.Counterclockwise i j) x y feed)) (now words) n (now words′)
   pub tick : (κs : Lfts 1) (words words′ : RefT (List ℤ)) (n : ℤ) → tick-reads.Learnt κs (words, tt) n (words′, tt)
-      → OnWords Call.Tick (now words) n (now words′)
+      → OnWords Call.tick (now words) n (now words′)
   pub hold : (κs : Lfts 1) (words words′ : RefT (List ℤ)) (n : ℤ) → hold-reads.Learnt κs (words, tt) n (words′, tt)
-      → OnWords Call.Hold (now words) n (now words′)
+      → OnWords Call.hold (now words) n (now words′)
   pub release : (κs : Lfts 1) (words words′ : RefT (List ℤ)) (n : ℤ) → release-reads.Learnt κs (words, tt) n (words′, tt)
-      → OnWords Call.Release (now words) n (now words′)
+      → OnWords Call.release (now words) n (now words′)
   pub stop : (κs : Lfts 1) (words words′ : RefT (List ℤ)) (n : ℤ) → stop-reads.Learnt κs (words, tt) n (words′, tt)
-      → OnWords Call.Stop (now words) n (now words′)
+      → OnWords Call.stop (now words) n (now words′)
   pub run : (κs : Lfts 3) (words words′ : RefT (List ℤ)) (budget : ℕ) (out out′ : RefT (List ℕ)) (ticks ticks′ : RefT ℕ) (n : ℤ)
       → run-reads.Learnt κs (words, (budget, (out, (ticks, tt)))) n (words′, (budget, (out′, (ticks′, tt))))
       → RunOnWords (now words) budget out out′ n (now ticks′) (now words′)
-  pub start : (κs : Lfts 1) (words words′ : RefT (List ℤ)) (p w xlo xhi ylo yhi n : ℤ)
-      → start-reads.Learnt κs (words, (p, (w, (xlo, (xhi, (ylo, (yhi, tt))))))) n (words′, (p, (w, (xlo, (xhi, (ylo, (yhi, tt)))))))
-      → StartedWords (settingsOf p w xlo xhi ylo yhi) n (now words′)
-  pub fill : (κs : Lfts 4) (words words′ : RefT (List ℤ)) (text out out′ : RefT (List ℕ)) (len len′ : RefT ℕ) (n : ℤ)
-      → FillsFromC κs words words′ text out out′ len len′ n → now words ≡ checkWords (checkIn (now words))
-      → OwnFill (checkIn (now words)) text out out′ n (now len′) (now words′)
+  pub text : (κs : Lfts 3) (words words′ known known′ : RefT (List ℤ)) (line : RefT (List ℕ)) (n : ℤ)
+      → text-reads.Learnt κs (words, (known, (line, tt))) n (words′, (known′, (line, tt)))
+      → LineOnWords (now words) (now known) line n (now words′) (now known′)
+  pub start : (κs : Lfts 2) (words words′ progress progress′ : RefT (List ℤ)) (p w xlo xhi ylo yhi n : ℤ)
+      → start-reads.Learnt κs (words, (progress, (p, (w, (xlo, (xhi, (ylo, (yhi, tt)))))))) n (words′, (progress′, (p, (w, (xlo, (xhi, (ylo, (yhi, tt))))))))
+      → StartedWords (settingsOf p w xlo xhi ylo yhi) n (now words′) (now progress′)
+  pub fill : (κs : Lfts 5) (ws ws′ ps ps′ : RefT (List ℤ)) (text out out′ : RefT (List ℕ)) (len len′ : RefT ℕ) (n : ℤ)
+      → FillsFromC κs ws ws′ ps ps′ text out out′ len len′ n → (m : Machine) → IsCheck (now ws) (now ps) m
+      → OwnFill (checkIn m (now ps)) text out out′ n (now len′) (now ws′) (now ps′)
   -- all other words get 9, and nothing is written
-  pub no-check : (κs : Lfts 4) (words words′ : RefT (List ℤ)) (text out out′ : RefT (List ℕ)) (len len′ : RefT ℕ) (n : ℤ)
-      → FillsFromC κs words words′ text out out′ len len′ n → ¬ (now words ≡ checkWords (checkIn (now words)))
-      → Refuses (now words) (now out) n (now len′) (now words′) (now out′)
+  pub no-check : (κs : Lfts 5) (ws ws′ ps ps′ : RefT (List ℤ)) (text out out′ : RefT (List ℕ)) (len len′ : RefT ℕ) (n : ℤ)
+      → FillsFromC κs ws ws′ ps ps′ text out out′ len len′ n → ((m : Machine) → ¬ (IsCheck (now ws) (now ps) m))
+      → Refuses (now ws) (now ps) (now out) n (now len′) (now ws′) (now ps′) (now out′)
   -- "The check program", from C: whoever fills the words of a start gets the listing, to the byte, and the answer 1 at its end
-  pub listing : (κs : Lfts 1) (words words′ : RefT (List ℤ)) (p w xlo xhi ylo yhi n : ℤ)
-      → start-reads.Learnt κs (words, (p, (w, (xlo, (xhi, (ylo, (yhi, tt))))))) n (words′, (p, (w, (xlo, (xhi, (ylo, (yhi, tt)))))))
+  pub listing : (κs : Lfts 2) (words words′ progress progress′ : RefT (List ℤ)) (p w xlo xhi ylo yhi n : ℤ)
+      → start-reads.Learnt κs (words, (progress, (p, (w, (xlo, (xhi, (ylo, (yhi, tt)))))))) n (words′, (progress′, (p, (w, (xlo, (xhi, (ylo, (yhi, tt))))))))
       → (let s = settingsOf p w xlo xhi ylo yhi in AllYes (settingsQuestions s)
-      → (text bytes : List ℕ) (last : ℤ) (after : List ℤ) → RowsOutToC text (now words′) bytes last after
+      → (text bytes : List ℕ) (last : ℤ) (ws ps : List ℤ) → RowsOutToC text (now words′) (now progress′) bytes last ws ps
       → FrontOf (jobListing (capacityOf s) (jobOf s text)) bytes (last ≡ pos 1))

@@ -17,10 +17,8 @@ use Rattle.machine.specs.declared.Ticked.{Ticked}
 use Rattle.machine.specs.declared.Report.{Report}
 use Rattle.machine.specs.Calls.{makeOf, loadOf, tickOf, holdOf, releaseOf, stopOf}
 use Rattle.machine.specs.Run.{Run, runOf}
-use Rattle.export.specs.declared.call.Call.{Call}
-use Rattle.export.specs.declared.call.Told.{Told}
-use Rattle.layout.specs.declared.decode.Decoded.{Decoded}
-use Rattle.layout.specs.Words.{wordOf, countOf, encodeOf, decodeOf}
+use Rattle.layout.specs.Words.{wordOf, countOf, encodeOf, machineIn}
+use Rattle.store.specs.Words.{soundWords}
 
 -- ---- answers as numbers: a refusal is minus the number of the question
 
@@ -44,13 +42,17 @@ reportNumber Report.Spent = pos 3
 reportNumber Report.Full = pos 4
 reportNumber (Report.Refused n) = refusalOf n
 
--- a make has no other answer than done and a question, so its refusals are positive
-abbrev pub makeNumber : Answer → ℤ
-makeNumber Answer.Done = pos 0
-makeNumber (Answer.Width n) = pos 0
-makeNumber (Answer.Refused n) = wordOf n
-
 -- ---- a call on a record
+
+-- the calls on a record but a run
+pub data Call : Type 0 where
+  load : Block → Call
+  tick hold release stop : Call
+
+-- what a call answers, and the words of the record after it
+pub record Told : Type 0 where
+  pub answer : ℤ
+  pub words : List ℤ
 
 abbrev pub tells : (answer : ℤ) (words : List ℤ) → Told
 tells n ws = record { answer = n; words = ws }
@@ -65,21 +67,18 @@ abbrev pub toldTick : Ticked → Told
 toldTick t = told (tickNumber (t .tick)) (t .machine)
 
 unfoldable pub callOf : Machine → Call → Told
-callOf m (Call.Load b) = toldAnswer (loadOf m b)
-callOf m Call.Tick = toldTick (tickOf m)
-callOf m Call.Hold = toldAnswer (holdOf m)
-callOf m Call.Release = toldAnswer (releaseOf m)
-callOf m Call.Stop = toldAnswer (stopOf m)
+callOf m (Call.load b) = toldAnswer (loadOf m b)
+callOf m Call.tick = toldTick (tickOf m)
+callOf m Call.hold = toldAnswer (holdOf m)
+callOf m Call.release = toldAnswer (releaseOf m)
+callOf m Call.stop = toldAnswer (stopOf m)
 
 abbrev pub refused : List ℤ → Told
 refused ws = tells (negsuc 8) ws
 
--- Words that are no record get 9 and stay as they are; so do those of a record that is not sound, by the machine's own call.
-abbrev pub toldWith : Decoded → List ℤ → Call → Told
-toldWith d ws call = cond (d .ok) (callOf (d .machine) call) (refused ws)
-
+-- On the words of a sound record each call is the machine's own; all others get 9 and stay as they are.
 unfoldable pub toldOf : List ℤ → Call → Told
-toldOf ws call = toldWith (decodeOf ws) ws call
+toldOf ws call = cond (soundWords ws) (callOf (machineIn ws) call) (refused ws)
 
 -- an arc by its way round and its centre seen from the start
 abbrev pub arcPath : Turn → (i j : ℤ) → Path
@@ -91,12 +90,9 @@ blockOf path x y feed = record { path = path; end = record { x = x; y = y }; fee
 
 -- ---- make
 
-abbrev pub toldMake : Answered → Told
-toldMake a = told (makeNumber (a .answer)) (a .machine)
-
 -- a negative p or w is read as 0, which question 1 or 2 refuses
 unfoldable pub madeOf : Settings → Told
-madeOf s = toldMake (makeOf s)
+madeOf s = toldAnswer (makeOf s)
 
 -- ---- run
 
@@ -114,8 +110,5 @@ tellsRun n ticks ws out = record { answer = n; ticks = ticks; words = ws; buffer
 abbrev pub ran : Run → (out : List ℕ) → ToldRun
 ran r out = tellsRun (reportNumber (r .ran .report)) (r .ran .ticks) (encodeOf (r .ran .machine)) (written (r .bytes) out)
 
-abbrev pub runWith : Decoded → List ℤ → (budget : ℕ) (out : List ℕ) → ToldRun
-runWith d ws budget out = cond (d .ok) (ran (runOf (d .machine) budget (length out)) out) (tellsRun (negsuc 8) 0 ws out)
-
 unfoldable pub toldRunOf : List ℤ → (budget : ℕ) (out : List ℕ) → ToldRun
-toldRunOf ws budget out = runWith (decodeOf ws) ws budget out
+toldRunOf ws budget out = cond (soundWords ws) (ran (runOf (machineIn ws) budget (length out)) out) (tellsRun (negsuc 8) 0 ws out)

@@ -1,3 +1,4 @@
--- To be believed: Calls. Proved of them: laws.
+-- To be believed: Calls, Texts. Proved of them: laws.
 pub mod Calls
+pub mod Texts
 pub mod laws

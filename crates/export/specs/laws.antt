@@ -1,4 +1,7 @@
 pub mod Number
-pub mod Calls
-pub mod Refused
+pub mod Words
+pub mod Texts
+pub mod Told
 pub mod Again
+pub mod Start
+pub mod Width

@@ -1,10 +1,12 @@
 // The machine's answers as numbers: a refusal is minus the number of the question.
 ghost use mathlib.Core.Path.{_≡_};
-ghost use Rattle.export.specs.Calls.{refusalOf, answerNumber, tickNumber, reportNumber, makeNumber};
+ghost use Rattle.export.specs.Calls.{refusalOf, answerNumber, tickNumber, reportNumber};
+ghost use Rattle.export.specs.Texts.{readNumber};
 use layout::number::word;
 use machine::Answer;
 use machine::Report;
 use machine::Tick;
+use reader::text_line::Read;
 
 fn refusal(question: u64) -> i64
     ensures { λ r. ⌜ r ≡ refusalOf question ⌝ }
@@ -44,13 +46,13 @@ pub fn report_number(report: Report) -> i64
     }
 }
 
-// A make has no other answer than done and a question, so its refusals are positive.
-pub fn make_number(answer: Answer) -> i64
-    ensures { λ r. ⌜ r ≡ makeNumber answer ⌝ }
+// A text line that makes no block is 0, as what is done.
+pub fn read_number(read: Read) -> i64
+    ensures { λ r. ⌜ r ≡ readNumber read ⌝ }
 {
-    match answer {
-        Answer::Done => 0,
-        Answer::Width(_) => 0,
-        Answer::Refused(n) => word(n),
+    match read {
+        Read::Nothing => 0,
+        Read::Loaded(n) => word(n),
+        Read::Refused(n) => refusal(n),
     }
 }

@@ -1,9 +1,10 @@
 // A run to the end of the block in work, without its bytes: the cycles left give the ticks, so none is walked.
 ghost use mathlib.Core.Path.{_≡_};
+ghost use mathlib.Core.Bool.{true};
+ghost use Rattle.machine.specs.Machine.{soundOf};
 ghost use Rattle.finish.specs.Finish.{Countable, leftOf, worksOf, finishOf};
 use divider::end_tick;
 use machine::Machine;
-use machine::sound;
 use plane::point::Point;
 use settings::capacity;
 use work::Work;
@@ -52,25 +53,22 @@ fn work_left(at: Point, work: Work) -> Left
     }
 }
 
-// Whether a tick of this record is a working one: it is sound, has a block in work and is not held.
+// Whether a tick of this record is a working one: it has a block in work and is not held.
 fn works(m: Machine) -> bool
+    requires { ⌜ soundOf m ≡ true ⌝ }
     ensures { λ r. ⌜ r ≡ worksOf m ⌝ }
 {
-    let settings = m.settings;
-    let at = m.at;
     let held = m.held;
     let work = m.work;
-    if !sound(settings, at, m.remainder, work) {
-        return false;
-    }
     if is_nothing(work) {
         return false;
     }
     !held
 }
 
-// To the end of the block in work; a record whose ticks are no working ones stays as it was.
+// To the end of the block in work, of a record that has been tested; one whose ticks are no working ones stays as it was.
 pub fn finish(m: Machine) -> Finished
+    requires { ⌜ soundOf m ≡ true ⌝ }
     ensures { λ r. ⌜ r ≡ finishOf m ⌝ }
 {
     if !works(m) {

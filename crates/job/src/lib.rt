@@ -7,6 +7,7 @@ use listing::Tally;
 use listing::has_room;
 use listing::next_place;
 use machine::Machine;
+use work::Work;
 
 pub mod text;
 
@@ -132,6 +133,39 @@ impl Check {
         }
     }
 
+    // The same check. Between lines nothing is in work: where that is so it is written anew, so that the compiler sees it and carries no work from line
+    // to line, nor copies a record with room for one.
+    fn settled(self) -> Check
+        ensures { λ r. ⌜ r ≡ self ⌝ }
+    {
+        let stage = self.stage;
+        let tally = self.tally;
+        let reader = tally.reader;
+        let machine = tally.machine;
+        let point = machine.at;
+        let work = machine.work;
+        match work {
+            Work::Nothing => {
+                let idle = machine.moved(point, machine.remainder, Work::Nothing);
+                let same = Tally {
+                    reader: reader,
+                    machine: idle,
+                    lines: tally.lines,
+                    blocks: tally.blocks,
+                    cycles: tally.cycles,
+                    ticks: tally.ticks,
+                };
+                Check {
+                    stage: stage,
+                    at: self.at,
+                    tally: same,
+                }
+            }
+            Work::Line(_) => self,
+            Work::Arc(_) => self,
+        }
+    }
+
     // Fills the buffer with whole rows, as long as one more surely fits.
     pub fn fill(self, text: &[u8], out: &mut [u8]) -> Filled
         ensures { λ r. ⌜ Fills self (now (text .entry)) (now (out .entry)) r (now (out .exit)) ⌝ }
@@ -147,7 +181,8 @@ impl Check {
             }
             let s = check.step(text, out, len);
             len = s.next;
-            check = s.check;
+            let after = s.check;
+            check = after.settled();
         }
         Filled {
             len: len,

@@ -2,6 +2,7 @@
 ghost use mathlib.Core.Path.{_≡_};
 ghost use Rattle.settings.specs.Settings.{standardSettings};
 ghost use Rattle.job.specs.Check.{Lists};
+use input::Input;
 use job::Check;
 use libc::STDIN_FILENO;
 use libc::STDOUT_FILENO;
@@ -17,20 +18,33 @@ fn start() -> Check
     Check::start(machine)
 }
 
-// Writes the listing in large pieces. What fill promises makes them the listing, each in its turn.
+// Writes the listing in pieces. What fill promises makes them the listing, each in its turn. Answers whether all of it was written. For a
+// larger buffer the system would have to find memory first, which takes longer than the calls that it saves.
+fn write_listing(text: &[u8]) -> bool {
+    let mut out = [0u8; 8192];
+    let mut check = start();
+    while !check.is_over() {
+        let filled = check.fill(text, &mut out);
+        let piece = filled.len;
+        if !io::write_all(STDOUT_FILENO, &out[..piece]) {
+            return false;
+        }
+        check = filled.check;
+    }
+    true
+}
+
+// A job that cannot be read to its end has no listing: half of it is another job.
 fn main() {
     // One byte more than a text may have, so that a longer one is seen to be longer.
     let mut text = [0u8; 65537];
-    let len = io::read_full(STDIN_FILENO, &mut text);
-    let mut out = io::large_buffer();
-    let mut check = start();
-    while !check.is_over() {
-        let filled = check.fill(&text[..len], &mut out);
-        let piece = filled.len;
-        // Nobody reads any more.
-        if !io::write_all(STDOUT_FILENO, &out[..piece]) {
-            return;
+    let input = input::read(STDIN_FILENO, &mut text);
+    match input {
+        Input::Bytes(len) => {
+            if !write_listing(&text[..len]) {
+                os::fail(b"jobcheck: cannot write the listing");
+            }
         }
-        check = filled.check;
+        Input::Failed => os::fail(b"jobcheck: cannot read the job"),
     }
 }

@@ -2,6 +2,7 @@
 ghost use mathlib.Core.Path.{_≡_};
 ghost use Rattle.settings.specs.Settings.{standardSettings};
 ghost use Rattle.tape.specs.Tape.{Tells};
+use input::Input;
 use libc::STDIN_FILENO;
 use libc::STDOUT_FILENO;
 use machine::Machine;
@@ -17,20 +18,32 @@ fn start() -> Tape
     Tape::start(machine)
 }
 
-// Writes them in large pieces. What fill promises makes the pieces the tick bytes, each in its turn.
-fn main() {
-    // One byte more than a text may have, so that a longer one is seen to be longer.
-    let mut text = [0u8; 65537];
-    let len = io::read_full(STDIN_FILENO, &mut text);
+// Writes them in large pieces. What fill promises makes the pieces the tick bytes, each in its turn. Answers whether all were written.
+fn write_ticks(text: &[u8]) -> bool {
     let mut out = io::large_buffer();
     let mut tape = start();
     while !tape.over {
-        let filled = tape.fill(&text[..len], &mut out);
+        let filled = tape.fill(text, &mut out);
         let piece = filled.len;
-        // Nobody reads any more.
         if !io::write_all(STDOUT_FILENO, &out[..piece]) {
-            return;
+            return false;
         }
         tape = filled.tape;
+    }
+    true
+}
+
+// A job that cannot be read to its end has no tick bytes: half of it is another job.
+fn main() {
+    // One byte more than a text may have, so that a longer one is seen to be longer.
+    let mut text = [0u8; 65537];
+    let input = input::read(STDIN_FILENO, &mut text);
+    match input {
+        Input::Bytes(len) => {
+            if !write_ticks(&text[..len]) {
+                os::fail(b"jobticks: cannot write the tick bytes");
+            }
+        }
+        Input::Failed => os::fail(b"jobticks: cannot read the job"),
     }
 }

@@ -1,5 +1,5 @@
--- The record as 18 words, signed numbers of 64 bits:
--- p, w, the lower and the upper bound of X, those of Y, x, y, the mark, the remainder, and eight words for what is in work.
+-- The record as 19 words, signed numbers of 64 bits: the number of this layout, p, w, the lower and the upper bound of X, those of Y, x, y,
+-- the mark, the remainder, and eight words for what is in work.
 use mathlib.Core.Bool.{Bool, true, false, cond, _&&_}
 use mathlib.Core.List.{List, [], _∷_}
 use Prim.Native.Nat.{ℕ, _^_}
@@ -15,7 +15,10 @@ use Rattle.settings.specs.declared.Settings.{Settings}
 use Rattle.machine.specs.declared.Machine.{Machine}
 use Rattle.layout.specs.declared.encode.Head.{Head}
 use Rattle.layout.specs.declared.encode.WorkWords.{WorkWords}
-use Rattle.layout.specs.declared.decode.Decoded.{Decoded}
+
+-- the number of this layout; it grows whenever the words of a record change, so that a record saved under another one is refused
+abbrev pub abi : ℤ
+abi = pos 1
 
 -- a count as a word; -1 where no word holds it, as in no sound record
 unfoldable pub wordOf : ℕ → ℤ
@@ -60,7 +63,7 @@ headOf m =
 -- the order of the words
 abbrev pub wordsOf : Head → WorkWords → List ℤ
 wordsOf h w =
-    h .p ∷ h .w ∷ h .xlo ∷ h .xhi ∷ h .ylo ∷ h .yhi ∷ h .x ∷ h .y ∷ h .mark ∷ h .remainder
+    abi ∷ h .p ∷ h .w ∷ h .xlo ∷ h .xhi ∷ h .ylo ∷ h .yhi ∷ h .x ∷ h .y ∷ h .mark ∷ h .remainder
     ∷ w .kind ∷ w .a ∷ w .b ∷ w .c ∷ w .d ∷ w .e ∷ w .f ∷ w .g ∷ []
 
 unfoldable pub encodeOf : Machine → List ℤ
@@ -122,22 +125,22 @@ at ws i = getD ws i (pos 0)
 abbrev pub headIn : List ℤ → Head
 headIn ws =
     record {
-      p = at ws 0;
-      w = at ws 1;
-      xlo = at ws 2;
-      xhi = at ws 3;
-      ylo = at ws 4;
-      yhi = at ws 5;
-      x = at ws 6;
-      y = at ws 7;
-      mark = at ws 8;
-      remainder = at ws 9;
+      p = at ws 1;
+      w = at ws 2;
+      xlo = at ws 3;
+      xhi = at ws 4;
+      ylo = at ws 5;
+      yhi = at ws 6;
+      x = at ws 7;
+      y = at ws 8;
+      mark = at ws 9;
+      remainder = at ws 10;
     }
 
 abbrev pub workWordsIn : List ℤ → WorkWords
-workWordsIn ws = workWords (at ws 10) (at ws 11) (at ws 12) (at ws 13) (at ws 14) (at ws 15) (at ws 16) (at ws 17)
+workWordsIn ws = workWords (at ws 11) (at ws 12) (at ws 13) (at ws 14) (at ws 15) (at ws 16) (at ws 17) (at ws 18)
 
--- the machine that the words tell, if they are a record at all
+-- the machine that the words tell
 unfoldable pub machineIn : List ℤ → Machine
 machineIn ws = machineOf (headIn ws) (workOf (workWordsIn ws))
 
@@ -147,7 +150,7 @@ sameWords [] (w ∷ ws) = false
 sameWords (v ∷ vs) [] = false
 sameWords (v ∷ vs) (w ∷ ws) = equalZ v w && sameWords vs ws
 
--- Words are a record if they are those of the machine that they tell. So a mark that is neither 0 nor 1, a kind above 3,
--- an unused word that is not 0 and a negative count make no record.
-unfoldable pub decodeOf : List ℤ → Decoded
-decodeOf ws = record { ok = sameWords ws (encodeOf (machineIn ws)); machine = machineIn ws }
+-- Words are a record if they are those of the machine that they tell. So another layout's number, a mark that is neither 0 nor 1,
+-- a kind above 3, an unused word that is not 0 and a negative count make no record.
+unfoldable pub isRecord : List ℤ → Bool
+isRecord ws = sameWords ws (encodeOf (machineIn ws))

@@ -1,3 +1,4 @@
 pub mod Number
 pub mod Same
+pub mod Right
 pub mod Record

@@ -1,11 +1,11 @@
-// The machine that 18 words tell, and whether they are a record at all.
+// The machine that 19 words tell, and whether they are a record at all.
 ghost use mathlib.Core.Path.{_≡_};
-ghost use Rattle.layout.specs.Words.{lineOf, arcOf, workOf, headIn, workWordsIn, settingsIn, machineOf, sameWords, decodeOf};
+ghost use Rattle.layout.specs.Words.{lineOf, arcOf, workOf, headIn, workWordsIn, settingsIn, machineOf, machineIn, isRecord};
 use crate::encode::Head;
 use crate::encode::WorkWords;
-use crate::encode::encode;
 use crate::given::settings;
 use crate::number::count;
+use crate::right::words_right;
 use arc::arc::Arc;
 use circle::plane::Turn;
 use line::line::Line;
@@ -13,12 +13,6 @@ use machine::Machine;
 use plane::point::Point;
 use settings::Settings;
 use work::Work;
-
-// The machine counts only where the words are a record.
-pub struct Decoded {
-    pub ok: bool,
-    pub machine: Machine,
-}
 
 fn line_of(w: WorkWords) -> Line
     ensures { λ r. ⌜ r ≡ lineOf w ⌝ }
@@ -48,7 +42,7 @@ fn arc_of(turn: Turn, w: WorkWords) -> Arc
     }
 }
 
-pub fn work_of(w: WorkWords) -> Work
+fn work_of(w: WorkWords) -> Work
     ensures { λ r. ⌜ r ≡ workOf w ⌝ }
 {
     let kind = count(w.kind);
@@ -64,35 +58,35 @@ pub fn work_of(w: WorkWords) -> Work
     Work::Nothing
 }
 
-fn head_in(words: [i64; 18]) -> Head
+fn head_in(words: [i64; 19]) -> Head
     ensures { λ r. ⌜ r ≡ headIn words ⌝ }
 {
     Head {
-        p: words[0],
-        w: words[1],
-        xlo: words[2],
-        xhi: words[3],
-        ylo: words[4],
-        yhi: words[5],
-        x: words[6],
-        y: words[7],
-        mark: words[8],
-        remainder: words[9],
+        p: words[1],
+        w: words[2],
+        xlo: words[3],
+        xhi: words[4],
+        ylo: words[5],
+        yhi: words[6],
+        x: words[7],
+        y: words[8],
+        mark: words[9],
+        remainder: words[10],
     }
 }
 
-fn work_words_in(words: [i64; 18]) -> WorkWords
+fn work_words_in(words: [i64; 19]) -> WorkWords
     ensures { λ r. ⌜ r ≡ workWordsIn words ⌝ }
 {
     WorkWords {
-        kind: words[10],
-        a: words[11],
-        b: words[12],
-        c: words[13],
-        d: words[14],
-        e: words[15],
-        f: words[16],
-        g: words[17],
+        kind: words[11],
+        a: words[12],
+        b: words[13],
+        c: words[14],
+        d: words[15],
+        e: words[16],
+        f: words[17],
+        g: words[18],
     }
 }
 
@@ -102,7 +96,7 @@ fn settings_in(h: Head) -> Settings
     settings(h.p, h.w, h.xlo, h.xhi, h.ylo, h.yhi)
 }
 
-pub fn machine_of(h: Head, work: Work) -> Machine
+fn machine_of(h: Head, work: Work) -> Machine
     ensures { λ r. ⌜ r ≡ machineOf h work ⌝ }
 {
     let settings = settings_in(h);
@@ -117,27 +111,17 @@ pub fn machine_of(h: Head, work: Work) -> Machine
     }
 }
 
-fn same_words(a: [i64; 18], b: [i64; 18]) -> bool
-    ensures { λ r. ⌜ r ≡ sameWords a b ⌝ }
+// Whether the words are a record. Each that is no position is asked whether `encode` writes such, so that nothing need be encoded again.
+pub fn is_record(words: [i64; 19]) -> bool
+    ensures { λ r. ⌜ r ≡ isRecord words ⌝ }
 {
-    let mut i = 0;
-    while i < 18 {
-        if a[i] != b[i] {
-            return false;
-        }
-        i += 1;
-    }
-    true
+    words_right(words[0], head_in(words), work_words_in(words))
 }
 
-pub fn decode(words: [i64; 18]) -> Decoded
-    ensures { λ r. ⌜ r ≡ decodeOf words ⌝ }
+// The machine that words tell, whatever they are.
+pub fn machine_in(words: [i64; 19]) -> Machine
+    ensures { λ r. ⌜ r ≡ machineIn words ⌝ }
 {
     let work = work_of(work_words_in(words));
-    let machine = machine_of(head_in(words), work);
-    let again = encode(machine);
-    Decoded {
-        ok: same_words(words, again),
-        machine: machine,
-    }
+    machine_of(head_in(words), work)
 }

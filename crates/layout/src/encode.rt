@@ -1,4 +1,4 @@
-// The record of a machine as 18 words that a caller in C owns. `specs/Words.antt` says which word is what.
+// The record of a machine as 19 words that a caller in C owns. `specs/Words.antt` says which word is what.
 ghost use mathlib.Core.Path.{_≡_};
 ghost use Rattle.layout.specs.Words.{markWord, turnWord, workWordsOf, headOf, wordsOf, encodeOf};
 use crate::number::word;
@@ -8,7 +8,10 @@ use line::line::Line;
 use machine::Machine;
 use work::Work;
 
-// Words 0 to 9: the settings, the position, the mark and the remainder.
+// Word 0, the number of this layout.
+pub const ABI: i64 = 1;
+
+// Words 1 to 10: the settings, the position, the mark and the remainder.
 pub struct Head {
     pub p: i64,
     pub w: i64,
@@ -22,7 +25,7 @@ pub struct Head {
     pub remainder: i64,
 }
 
-// Words 10 to 17: what is in work, and its numbers in the order that its kind gives them.
+// Words 11 to 18: what is in work, and its numbers in the order that its kind gives them.
 pub struct WorkWords {
     pub kind: i64,
     pub a: i64,
@@ -49,7 +52,7 @@ pub fn turn_word(turn: Turn) -> i64
     }
 }
 
-fn nothing_words() -> WorkWords
+pub fn nothing_words() -> WorkWords
     ensures { λ r. ⌜ r ≡ workWordsOf Work.Nothing ⌝ }
 {
     WorkWords {
@@ -109,7 +112,7 @@ pub fn work_words(work: Work) -> WorkWords
     }
 }
 
-pub fn head_words(m: Machine) -> Head
+fn head_words(m: Machine) -> Head
     ensures { λ r. ⌜ r ≡ headOf m ⌝ }
 {
     let settings = m.settings;
@@ -132,10 +135,11 @@ pub fn head_words(m: Machine) -> Head
 }
 
 // The words in their order.
-fn lay(h: Head, w: WorkWords) -> [i64; 18]
+fn lay(h: Head, w: WorkWords) -> [i64; 19]
     ensures { λ r. ⌜ r ≡ wordsOf h w ⌝ }
 {
     [
+        ABI,
         h.p,
         h.w,
         h.xlo,
@@ -157,7 +161,7 @@ fn lay(h: Head, w: WorkWords) -> [i64; 18]
     ]
 }
 
-pub fn encode(m: Machine) -> [i64; 18]
+pub fn encode(m: Machine) -> [i64; 19]
     ensures { λ r. ⌜ r ≡ encodeOf m ⌝ }
 {
     let work = m.work;

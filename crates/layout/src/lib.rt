@@ -1,5 +1,6 @@
-// The record as 18 words of 64 bits that a caller in C owns, and back.
+// The record as 19 words of 64 bits that a caller in C owns, and back.
 pub mod decode;
 pub mod encode;
 pub mod given;
 pub mod number;
+mod right;

@@ -1,6 +1,7 @@
 // A count as a word of the record, and a word as a count.
 ghost use mathlib.Core.Path.{_≡_};
 ghost use Rattle.layout.specs.Words.{countOf, wordOf};
+ghost use Rattle.layout.specs.Right.{isCount};
 
 // A negative word is no count: 0, which every place that takes a count refuses or writes back otherwise.
 pub fn count(word: i64) -> u64
@@ -18,4 +19,11 @@ pub fn word(count: u64) -> i64
     } else {
         -1
     }
+}
+
+// Whether a word tells a count.
+pub fn is_count(word: i64) -> bool
+    ensures { λ r. ⌜ r ≡ isCount word ⌝ }
+{
+    0 <= word
 }

@@ -5,6 +5,7 @@ ghost use mathlib.Core.Bool.{true};
 ghost use Prim.Native.Nat.{_+_, _≤_};
 ghost use lib.ListN.{length};
 ghost use lib.Dec.{leb};
+ghost use Rattle.machine.specs.Machine.{soundOf};
 ghost use Rattle.row.specs.Lines.{totalLine};
 ghost use Rattle.row.specs.Buffer.{hasRoom, bufferAfter, placeAfter};
 ghost use Rattle.listing.specs.Tally.{Gives, countsRight, kindOf, nextPlace, startOf, blockListed, readOf};
@@ -100,7 +101,7 @@ impl Tally {
 
     // A block that a line brought into work, run to its end.
     fn block(self, reader: Reader, loaded: Machine, bits: u64, out: &mut [u8], at: usize) -> Listed
-        requires { ⌜ (countsRight self ≡ true) × (hasRoom (now out) at ≡ true) ⌝ }
+        requires { ⌜ (countsRight self ≡ true) × (hasRoom (now out) at ≡ true) × (soundOf loaded ≡ true) ⌝ }
         ensures { λ r. ⌜ Gives (blockListed self reader loaded bits) (now (out .entry)) at r (now (out .exit)) ⌝ }
     {
         let done = finish(loaded);

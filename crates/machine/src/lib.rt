@@ -1,7 +1,8 @@
 // The machine of a cutting table. It goes in by value and comes back by value from each call, beside the answer.
 // A call tests the record first, so that any record whatever gets an answer.
 ghost use mathlib.Core.Path.{_≡_};
-ghost use Rattle.machine.specs.Machine.{soundParts, freshOf, movedOf};
+ghost use mathlib.Core.Bool.{true};
+ghost use Rattle.machine.specs.Machine.{soundParts, soundOf, freshOf, movedOf};
 ghost use lib.ListN.{length};
 ghost use Rattle.run.specs.Run.{written};
 ghost use Rattle.machine.specs.Run.{reportOf, runOf};
@@ -158,6 +159,17 @@ impl Machine {
                 machine: self,
             };
         }
+        self.load_sound(b)
+    }
+
+    // The same of a record that has been tested.
+    pub fn load_sound(self, b: Block) -> Answered
+        requires { ⌜ soundOf self ≡ true ⌝ }
+        ensures { λ r. ⌜ r ≡ loadOf self b ⌝ }
+    {
+        let settings = self.settings;
+        let at = self.at;
+        let work = self.work;
         let travel = settings.travel;
         let no = load_no(capacity(settings), travel, is_nothing(work), at, b);
         if no != 0 {
@@ -187,6 +199,17 @@ impl Machine {
                 machine: self,
             };
         }
+        self.tick_sound()
+    }
+
+    // The same of a record that has been tested.
+    pub fn tick_sound(self) -> Ticked
+        requires { ⌜ soundOf self ≡ true ⌝ }
+        ensures { λ r. ⌜ r ≡ tickOf self ⌝ }
+    {
+        let settings = self.settings;
+        let at = self.at;
+        let work = self.work;
         if self.held {
             return Ticked {
                 tick: Tick::Byte(0),
@@ -223,6 +246,18 @@ impl Machine {
                 machine: self,
             };
         }
+        self.run_sound(budget, out)
+    }
+
+    // The same of a record that has been tested.
+    pub fn run_sound(self, budget: u64, out: &mut [u8]) -> Ran
+        requires { ⌜ soundOf self ≡ true ⌝ }
+        ensures { λ r. ⌜ r ≡ runOf self budget (length (now (out .entry))) .ran ⌝ }
+        ensures { λ r. ⌜ now (out .exit) ≡ written (runOf self budget (length (now (out .entry))) .bytes) (now (out .entry)) ⌝ }
+    {
+        let settings = self.settings;
+        let at = self.at;
+        let work = self.work;
         if is_nothing(work) {
             return Ran {
                 report: Report::Idle,

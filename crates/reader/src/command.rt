@@ -16,7 +16,7 @@ use plane::point::Point;
 use whole::sign::SignMagnitude;
 use whole::sign::join;
 
-fn motion_of(g: u64) -> Motion
+pub fn motion_of(g: u64) -> Motion
     ensures { λ r. ⌜ r ≡ motionOf g ⌝ }
 {
     if g == 1 {

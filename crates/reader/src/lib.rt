@@ -7,6 +7,7 @@ mod questions;
 pub mod text_line;
 
 use circle::plane::Turn;
+pub use command::motion_of;
 
 // The G and the F that are known.
 pub enum Motion {

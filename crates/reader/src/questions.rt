@@ -42,6 +42,12 @@ fn all_on_pulse(scale: u64, ws: Words) -> bool
     if !on_pulse(scale, y) {
         return false;
     }
+    // Most lines have no centre: a word that does not stand has the magnitude 0, which takes no product to tell.
+    if i.magnitude == 0 {
+        if j.magnitude == 0 {
+            return true;
+        }
+    }
     if !on_pulse(scale, i) {
         return false;
     }

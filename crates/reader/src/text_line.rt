@@ -1,5 +1,7 @@
 // One line of a job, read at a machine: the reader and the record go in and come back beside the answer.
 ghost use mathlib.Core.Path.{_≡_};
+ghost use mathlib.Core.Bool.{true};
+ghost use Rattle.machine.specs.Machine.{soundOf};
 ghost use Rattle.reader.specs.TextLine.{still, takenOf, readLineOf};
 use crate::Reader;
 use crate::command::block_of;
@@ -40,6 +42,7 @@ fn stands_still(b: Block, at: Point) -> bool
 
 // The block of a line that passed its questions: k is the reader before it, next the one after it.
 fn take(k: Reader, next: Reader, m: Machine, b: Block) -> ReadLine
+    requires { ⌜ soundOf m ≡ true ⌝ }
     ensures { λ r. ⌜ r ≡ takenOf k next m b ⌝ }
 {
     let at = m.at;
@@ -50,7 +53,7 @@ fn take(k: Reader, next: Reader, m: Machine, b: Block) -> ReadLine
             machine: m,
         };
     }
-    let a = m.load(b);
+    let a = m.load_sound(b);
     let answer = a.answer;
     let after = a.machine;
     match answer {

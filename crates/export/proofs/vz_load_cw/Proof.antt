@@ -6,7 +6,7 @@ use mir.Syntax.{w64}
 use mir.Val.{SFits}
 use mir.Facts.{toZ-ofZ}
 use Rattle.block.specs.declared.Block.{Block}
-use Rattle.export.specs.declared.call.Call.{Call}
+use Rattle.export.specs.Calls.{Call}
 use Rattle.export.specs.Calls.{toldOf}
 use Rattle.export.proofs.vz_load_cw.Statement.{statement}
 use Rattle.export.proofs.vz_load_cw.Tie as tie
@@ -17,19 +17,19 @@ arc-requires c κs = search needs
 block-requires : tie.Need-block-requires
 block-requires c κs = search needs
 
-call-record-requires : tie.Need-call-record-requires
-call-record-requires c κs = search needs
+load-requires : tie.Need-load-requires
+load-requires c κs = search needs
 
 returns : tie.Need-returns
 returns c =
     let s = c .before .before .before .before in
-    let r : SFits w64 (c .call-record .result) = search needs in
+    let r : SFits w64 (c .load .result) = search needs in
     let x = s .fits .x in
     let y = s .fits .y in
     let feed = s .fits .feed in
     let i = s .fits .i in
     let j = s .fits .j in
-    simp toZ-ofZ (c .call-record .ensures ∙ ap (λ (b : Block). toldOf (now (s .args .words)) (Call.Load b)) (simp (toZ-ofZ, c .before .before .before .arc .ensures) at (c .before .block .ensures)))
+    simp toZ-ofZ (c .load .ensures ∙ ap (λ (b : Block). toldOf (now (s .args .words)) (Call.load b)) (simp (toZ-ofZ, c .before .before .before .arc .ensures) at (c .before .block .ensures)))
 
 pub vz-load-cw-spec : {M : Type 1} → statement M
-vz-load-cw-spec = tie.close (tie.spec arc-requires block-requires call-record-requires returns)
+vz-load-cw-spec = tie.close (tie.spec arc-requires block-requires load-requires returns)

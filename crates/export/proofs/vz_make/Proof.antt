@@ -16,14 +16,14 @@ make-requires c κs = search needs
 encode-requires : tie.Need-encode-requires
 encode-requires c κs = search needs
 
-make-number-requires : tie.Need-make-number-requires
-make-number-requires c κs = search needs
+answer-number-requires : tie.Need-answer-number-requires
+answer-number-requires c κs = search needs
 
 returns : tie.Need-returns
 unfolding madeOf
 returns c =
     let s = c .before .before .before .before .before in
-    let r : SFits w64 (c .make-number .result) = search needs in
+    let r : SFits w64 (c .answer-number .result) = search needs in
     let p = s .fits .p in
     let w = s .fits .w in
     let xlo = s .fits .xlo in
@@ -32,9 +32,9 @@ returns c =
     let yhi = s .fits .yhi in
     let a = c .before .before .before in
     let given = simp toZ-ofZ at (a .before .settings .ensures) in
-    simp toZ-ofZ (simp (c .make-number .ensures, c .before .encode .ensures, a .make .ensures, given))
+    simp toZ-ofZ (simp (c .answer-number .ensures, c .before .encode .ensures, a .make .ensures, given))
 
 pub vz-make-spec : {M : Type 1} → statement M
 vz-make-spec =
     tie.close
-    (tie.spec settings-requires make-requires encode-requires make-number-requires returns)
+    (tie.spec settings-requires make-requires encode-requires answer-number-requires returns)

@@ -20,15 +20,15 @@ use Rattle.machine.specs.declared.Machine.{Machine}
 use Rattle.machine.specs.Machine.{soundOf}
 use Rattle.settings.specs.laws.Right.{settings-right}
 use Rattle.machine.specs.laws.Sound.{sound}
-use Rattle.layout.specs.Words.{wordOf, countOf, markWord, turnWord, workWords, workWordsOf, workOf, encodeOf, machineIn, decodeOf}
+use Rattle.layout.specs.Words.{wordOf, countOf, markWord, turnWord, workWords, workWordsOf, workOf, encodeOf, machineIn, isRecord}
 use Rattle.layout.specs.laws.Number.{word-small}
 use Rattle.layout.specs.laws.Same.{same-true, same-self}
 
 -- ---- from words to a machine and back
 
-pub encode-decode : (ws : List ℤ) → decodeOf ws .ok ≡ true → encodeOf (decodeOf ws .machine) ≡ ws
-unfolding decodeOf
-encode-decode ws ok = sym (same-true ws (encodeOf (machineIn ws)) ok)
+pub record-words : (ws : List ℤ) → isRecord ws ≡ true → encodeOf (machineIn ws) ≡ ws
+unfolding isRecord
+record-words ws t = sym (same-true ws (encodeOf (machineIn ws)) t)
 
 -- ---- from a machine to words and back
 
@@ -82,7 +82,7 @@ small t at (Work.Arc a) most e =
     let i = arc-work {t = t} {at = at} e in
     record { square = omega (arith, on-circle-to _ _ (i .arc .on) .bound); feed = omega (arith, i .feed .most) }
 
-machine-back : (m : Machine) → soundOf m ≡ true → machineIn (encodeOf m) ≡ m
+pub machine-back : (m : Machine) → soundOf m ≡ true → machineIn (encodeOf m) ≡ m
 unfolding machineIn encodeOf
 machine-back m e =
     let s = sound e in
@@ -93,6 +93,6 @@ machine-back m e =
     let remainder : m .remainder < 2 ^ 63 = omega (arith, s .below, r .clock-most) in
     rw (count-word scale, count-word clock, mark-back (m .held), count-word remainder, work-back (m .work) w)
 
-pub decode-encode : (m : Machine) → soundOf m ≡ true → decodeOf (encodeOf m) ≡ record { ok = true; machine = m }
-unfolding decodeOf
-decode-encode m e = rw (machine-back m e, same-self (encodeOf m))
+pub record-of : (m : Machine) → soundOf m ≡ true → isRecord (encodeOf m) ≡ true
+unfolding isRecord
+record-of m e = rw (machine-back m e, same-self (encodeOf m))

@@ -1,20 +1,23 @@
 -- A line that a question refuses changes nothing; and what a line asks, by the meaning that the grammar gives it.
 use mathlib.Core.Path.{_≡_, refl}
-use mathlib.Core.Bool.{cond}
+use mathlib.Core.Bool.{Bool, true, false, cond}
 use mathlib.Core.List.{List}
 use Prim.Native.Nat.{ℕ, zero, suc}
 use lib.ListN.{length}
+use Rattle.block.specs.declared.Block.{Block}
 use Rattle.letters.specs.declared.word.Words.{Words}
 use Rattle.words.specs.declared.line.Line.{Line}
 use Rattle.words.specs.Meaning.{Means}
 use Rattle.words.specs.laws.Scan.{lineOf}
 use Rattle.words.specs.laws.Reading.{line-means, means-unique}
 use Rattle.machine.specs.declared.Machine.{Machine}
+use Rattle.machine.specs.declared.Answer.{Answer}
 use Rattle.machine.specs.Machine.{soundOf}
+use Rattle.machine.specs.Calls.{loadOf}
 use Rattle.reader.specs.declared.Reader.{Reader}
 use Rattle.reader.specs.declared.«text_line».Read.{Read}
-use Rattle.reader.specs.Reader.{readerAfter, lineNo}
-use Rattle.reader.specs.TextLine.{reads, readWith, readLineOf}
+use Rattle.reader.specs.Reader.{readerAfter, moving, lineNo, blockOf}
+use Rattle.reader.specs.TextLine.{reads, still, loaded, takenOf, readWith, readLineOf}
 
 pub read-refused : (k k′ : Reader) (m : Machine) (ws : Words) (n : ℕ) → (n ≡ 0 → ⊥) → reads (Read.Refused n) k m ≡ readWith k k′ m ws n
 read-refused k k′ m ws zero some = absurd (some refl)
@@ -26,3 +29,42 @@ pub read-means : (k : Reader) (m : Machine) (bytes : List ℕ) (l : Line) → Me
     readLineOf k m bytes ≡ cond (soundOf m) (readWith k k′ m (l .words) (lineNo (m .settings .scale) k′ (length bytes) l)) (reads (Read.Refused 9) k m))
 unfolding readLineOf
 read-means k m bytes l means = rw (means-unique bytes (lineOf bytes) l (line-means bytes) means)
+
+-- ---- the record after a line is the one before it, or that after a load: what holds of both holds of it
+
+module _ (P : Machine → Type 0) (m : Machine) (same : P m) (load : (b : Block) → P (loadOf m b .machine)) (k k′ : Reader) where
+  loaded-either : (b : Block) (a : Answer) → P (loaded k k′ m (loadOf m b .machine) a .machine)
+  loaded-either b Answer.Done = load b
+  loaded-either b (Answer.Width bits) = load b
+  loaded-either b (Answer.Refused number) = same
+
+  taken-either : (b : Block) → P (takenOf k k′ m b .machine)
+  unfolding takenOf
+  taken-either b = by (still (b .end) (m .at) (b .path))
+    where
+      by : (stays : Bool) → P (cond stays (reads Read.Nothing k′ m) (loaded k k′ m (loadOf m b .machine) (loadOf m b .answer)) .machine)
+      by true = same
+      by false = loaded-either b (loadOf m b .answer)
+
+  with-either : (ws : Words) (number : ℕ) → P (readWith k k′ m ws number .machine)
+  with-either ws zero = by (moving ws)
+    where
+      by : (moves : Bool) → P (cond moves (takenOf k k′ m (blockOf (m .settings .scale) k′ ws (m .at))) (reads Read.Nothing k′ m) .machine)
+      by true = taken-either (blockOf (m .settings .scale) k′ ws (m .at))
+      by false = same
+  with-either ws (suc n) = same
+
+pub read-either : (P : Machine → Type 0) (k : Reader) (m : Machine) (bytes : List ℕ) → P m → ((b : Block) → P (loadOf m b .machine))
+    → P (readLineOf k m bytes .machine)
+unfolding readLineOf
+read-either P k m bytes same load = by (soundOf m)
+  where
+    k′ : Reader
+    k′ = readerAfter k (lineOf bytes .words)
+
+    number : ℕ
+    number = lineNo (m .settings .scale) k′ (length bytes) (lineOf bytes)
+
+    by : (sound : Bool) → P (cond sound (readWith k k′ m (lineOf bytes .words) number) (reads (Read.Refused 9) k m) .machine)
+    by true = with-either P m same load k k′ (lineOf bytes .words) number
+    by false = same

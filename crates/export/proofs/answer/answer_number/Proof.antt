@@ -1,7 +1,6 @@
 -- `answer_number` is right because each answer has its own number.
 use borrow.Author.Needs.{needs}
 use mathlib.Core.Path.{_∙_}
-use Rattle.layout.specs.laws.Number.{word-fits}
 use Rattle.export.specs.laws.Number.{refusal-fits}
 use Rattle.layout.specs.laws.Number.{word-fits, through}
 use Rattle.export.specs.laws.Number.{refusal-fits}

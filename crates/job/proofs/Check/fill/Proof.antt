@@ -4,6 +4,7 @@ use Rattle.job.proofs.Check.fill.Tie as tie
 use Rattle.job.proofs.Check.fill.Reads as reads
 use Rattle.job.proofs.Check.fill.Lts as lts
 use Rattle.job.proofs.Check.is_over.Reads as is-over-reads
+use Rattle.job.proofs.Check.settled.Reads as settled-reads
 use Rattle.job.proofs.Check.step.Reads as step-reads
 use Rattle.listing.proofs.has_room.Reads as has-room-reads
 use mathlib.Core.Path.{sym, _∙_}
@@ -39,12 +40,17 @@ returns c = filling-done (c .before .before .before .before .loop .inv) (λ room
 step-requires : tie.Need-step-requires Inv-loop μ-loop
 step-requires c κs = (sym (c .before .before .is-over .ensures) ∙ c .before .if2 .left, sym (c .before .before .before .before .has-room .ensures) ∙ c .before .before .before .if1 .taken)
 
+settled-requires : tie.Need-settled-requires Inv-loop μ-loop
+settled-requires c κs = tt
+
 loop-less : tie.Need-loop-less Inv-loop μ-loop
-loop-less c = c .before .before .before .step .ensures .fewer
+loop-less c = rw (c .settled .ensures) (c .before .before .before .before .step .ensures .fewer)
 
 loop-again : tie.Need-loop-again Inv-loop μ-loop
-loop-again c = let turn = c .before .before .before .before .before .before .before .before .before in
-    filling-on (turn .loop .inv) (sym (c .before .before .before .before .before .before .before .before .has-room .ensures) ∙ c .before .before .before .before .before .before .before .if1 .taken) (c .before .before .before .step .ensures)
+loop-again c =
+    let s = c .before .before .before .before in
+    let room = s .before .before .before .before in
+    rw (c .settled .ensures) (filling-on (room .before .before .loop .inv) (sym (room .before .has-room .ensures) ∙ room .if1 .taken) (s .step .ensures))
 
 same-length-2 : tie.Need-same-length-2 Inv-loop μ-loop
 same-length-2 c = c .before .before .loop .inv .long
@@ -66,6 +72,7 @@ fill-spec =
     same-length
     returns
     step-requires
+    settled-requires
     loop-less
     loop-again
     same-length-2

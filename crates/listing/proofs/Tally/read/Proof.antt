@@ -1,5 +1,8 @@
 -- `read` is right because it asks for room and the counts, and then does what the reader's answer says.
 use borrow.Author.Needs.{needs}
+use Rattle.machine.specs.Machine.{soundOf}
+use Rattle.reader.specs.declared.«text_line».ReadLine.{ReadLine}
+use Rattle.listing.specs.laws.Keeps.{loaded-sound}
 use Rattle.listing.proofs.Tally.read.Statement.{statement}
 use Rattle.listing.proofs.Tally.read.Tie as tie
 use Rattle.listing.proofs.Tally.read.Reads as reads
@@ -10,7 +13,7 @@ use Rattle.listing.proofs.has_room.Reads as has-room-reads
 use Rattle.listing.proofs.next_place.Reads as next-place-reads
 use Rattle.reader.proofs.text_line.read_line.Reads as read-line-reads
 use Rattle.row.proofs.lines.refused.Reads as refused-reads
-use mathlib.Core.Path.{_≡_, refl, sym, _∙_}
+use mathlib.Core.Path.{_≡_, refl, sym, ap, subst, _∙_}
 use mathlib.Core.Bool.{true}
 use Prim.Native.Nat.{_+_}
 use native.Mathlib.Nat.{add-zero}
@@ -58,7 +61,12 @@ enum-known-answer : tie.Need-enum-known-answer
 enum-known-answer c = search needs
 
 block-requires : tie.Need-block-requires
-block-requires c κs = (counted (c .before .before .before .before .before .before .before .before .before .before), roomy (c .before .before .before .before .before .before .before .before .before .before .before .before))
+block-requires c κs =
+    let r = c .before .before .before .before .before .before .read-line in
+    let e = c .before .before .before .before .before .before .before .before .before .before in
+    let s = e .before .before .before .before .before .before .args in
+    let is = ap (λ (l : ReadLine). l .answer) (sym (r .ensures)) ∙ c .before .before .answer .given .1 in
+    (counted e, roomy (e .before .before), subst (λ (l : ReadLine). soundOf (l .machine) ≡ true) (sym (r .ensures)) (loaded-sound (s .self .reader) (s .self .machine) (s .line .now) is))
 
 enum-known-answer-2 : tie.Need-enum-known-answer-2
 enum-known-answer-2 c = search needs

@@ -71,7 +71,7 @@ block-of-requires c κs =
     (r .scale-most, rw (e .before .before .before .before .read .ensures) (small-words _ (r .scale-most) (now (c .before .before .before .before .before .before .before .before .before .before .before .before .args .line))))
 
 take-requires : tie.Need-take-requires
-take-requires c κs = search needs
+take-requires c κs = let e = c .before .before .before in record-sound (e .before .before .before .before .before)
 
 returns-4 : tie.Need-returns-4
 unfolding readLineOf

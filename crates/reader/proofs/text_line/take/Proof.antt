@@ -12,8 +12,8 @@ returns : tie.Need-returns
 unfolding takenOf
 returns c = rw (sym (c .before .stands-still .ensures) ∙ c .if1 .taken)
 
-load-requires : tie.Need-load-requires
-load-requires c κs = search needs
+load-sound-requires : tie.Need-load-sound-requires
+load-sound-requires c κs = search needs
 
 enum-told : tie.Need-enum-told
 enum-told c = search needs
@@ -28,19 +28,19 @@ returns-2 : tie.Need-returns-2
 unfolding takenOf
 returns-2 c =
     let e = c .before .before .before .before in
-    rw (sym (e .before .stands-still .ensures) ∙ e .if1 .left, ← c .before .before .before .load .ensures, c .enum-told .given .1)
+    rw (sym (e .before .stands-still .ensures) ∙ e .if1 .left, ← c .before .before .before .load-sound .ensures, c .enum-told .given .1)
 
 returns-3 : tie.Need-returns-3
 unfolding takenOf
 returns-3 c =
     let e = c .before .before .before .before .before in
-    rw (sym (e .before .stands-still .ensures) ∙ e .if1 .left, ← c .before .before .before .before .load .ensures, c .before .answer .given .1)
+    rw (sym (e .before .stands-still .ensures) ∙ e .if1 .left, ← c .before .before .before .before .load-sound .ensures, c .before .answer .given .1)
 
 returns-4 : tie.Need-returns-4
 unfolding takenOf
 returns-4 c =
     let e = c .before .before .before .before .before in
-    rw (sym (e .before .stands-still .ensures) ∙ e .if1 .left, ← c .before .before .before .before .load .ensures, c .before .answer2 .given .1)
+    rw (sym (e .before .stands-still .ensures) ∙ e .if1 .left, ← c .before .before .before .before .load-sound .ensures, c .before .answer2 .given .1)
 
 pub take-spec : {M : Type 1} → statement M
 take-spec =
@@ -48,7 +48,7 @@ take-spec =
     (tie.spec
     stands-still-requires
     returns
-    load-requires
+    load-sound-requires
     enum-told
     enum-known-answer
     enum-known-answer-2

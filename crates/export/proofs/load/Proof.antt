@@ -1,0 +1,61 @@
+-- `load` is right because on words of a sound record it stores what a load changes.
+use borrow.Author.Needs.{needs}
+use borrow.Author.Tests.{not-true, not-false}
+use mathlib.Core.Path.{_≡_, sym, _∙_}
+use mathlib.Core.Bool.{true}
+use denote.Ref.{now}
+use Rattle.store.specs.Words.{soundWords}
+use mir.Syntax.{w64}
+use mir.Val.{SFits}
+use mir.Facts.{toZ-ofZ}
+use Rattle.store.specs.laws.Words.{told-sound}
+use Rattle.export.specs.laws.Words.{told-refused}
+use Rattle.export.specs.laws.Told.{load-told}
+use Rattle.export.proofs.load.Statement.{statement}
+use Rattle.export.proofs.load.Tie as tie
+
+-- what the test has shown
+sound : (c : tie.Else1) → soundWords (now (c .before .before .before .args .words)) ≡ true
+sound c = sym (c .before .is-sound .ensures) ∙ not-false _ (c .if1 .left)
+
+is-sound-requires : tie.Need-is-sound-requires
+is-sound-requires c κs = search needs
+
+returns : tie.Need-returns
+returns c = told-refused _ (sym (c .before .is-sound .ensures) ∙ not-true _ (c .if1 .taken)) _
+
+machine-in-requires : tie.Need-machine-in-requires
+machine-in-requires c κs = search needs
+
+load-sound-requires : tie.Need-load-sound-requires
+load-sound-requires c κs = rw (c .machine-in .ensures) (told-sound _ (sound (c .before .before)))
+
+work-words-requires : tie.Need-work-words-requires
+work-words-requires c κs = search needs
+
+store-work-requires : tie.Need-store-work-requires
+store-work-requires c κs = search needs
+
+answer-number-requires : tie.Need-answer-number-requires
+answer-number-requires c κs = search needs
+
+returns-2 : tie.Need-returns-2
+returns-2 c =
+    let n : SFits w64 (c .answer-number .result) = search needs in
+    let k = c .before .before .before .before .before in
+    simp toZ-ofZ
+    (simp (c .answer-number .ensures, c .before .store-work .ensures, c .before .before .work-words .ensures, k .load-sound .ensures, k .before .machine-in .ensures)
+    (load-told _ (sound (k .before .before .before)) _))
+
+pub load-spec : {M : Type 1} → statement M
+load-spec =
+    tie.close
+    (tie.spec
+    is-sound-requires
+    returns
+    machine-in-requires
+    load-sound-requires
+    work-words-requires
+    store-work-requires
+    answer-number-requires
+    returns-2)

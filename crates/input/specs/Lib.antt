@@ -1,0 +1,2 @@
+-- To be believed: Input.
+pub mod Input

@@ -1,0 +1,81 @@
+-- A check's progress as 8 words beside its machine's record, signed numbers of 64 bits: the stage, where the next line begins in the text, the G and the F
+-- known, and the lines, blocks, cycles and ticks so far.
+use mathlib.Core.Bool.{cond}
+use mathlib.Core.List.{List, [], _∷_}
+use Prim.Native.Nat.{ℕ}
+use lib.Dec.{eqb}
+use lib.IntN.{ℤ, pos}
+use Rattle.machine.specs.declared.Machine.{Machine}
+use Rattle.listing.specs.declared.Tally.{Tally}
+use Rattle.job.specs.declared.Stage.{Stage}
+use Rattle.job.specs.declared.Check.{Check}
+use Rattle.layout.specs.Words.{wordOf, countOf, at, sameWords}
+use Rattle.progress.specs.declared.progress.Progress.{Progress}
+use Rattle.progress.specs.declared.progress.DecodedProgress.{DecodedProgress}
+use Rattle.progress.specs.Known.{knownOf, readerOf}
+
+-- ---- progress as words
+
+abbrev pub stageWord : Stage → ℤ
+stageWord Stage.Header = pos 0
+stageWord Stage.Lines = pos 1
+stageWord Stage.Over = pos 2
+
+abbrev pub progressOf : Check → Progress
+progressOf c =
+    record {
+      stage = stageWord (c .stage);
+      at = wordOf (c .at);
+      known = knownOf (c .tally .reader);
+      lines = wordOf (c .tally .lines);
+      blocks = wordOf (c .tally .blocks);
+      cycles = wordOf (c .tally .cycles);
+      ticks = wordOf (c .tally .ticks);
+    }
+
+-- the order of the words
+abbrev pub progressWords : Progress → List ℤ
+progressWords p = p .stage ∷ p .at ∷ p .known .motion ∷ p .known .feed ∷ p .lines ∷ p .blocks ∷ p .cycles ∷ p .ticks ∷ []
+
+unfoldable pub encodeProgress : Check → List ℤ
+encodeProgress c = progressWords (progressOf c)
+
+-- ---- and back: what the words tell, whatever they are
+
+abbrev pub stageOf : ℕ → Stage
+stageOf n = cond (eqb n 1) Stage.Lines (cond (eqb n 2) Stage.Over Stage.Header)
+
+abbrev pub tallyOf : Machine → Progress → Tally
+tallyOf m p =
+    record {
+      reader = readerOf (p .known);
+      machine = m;
+      lines = countOf (p .lines);
+      blocks = countOf (p .blocks);
+      cycles = countOf (p .cycles);
+      ticks = countOf (p .ticks);
+    }
+
+abbrev pub checkOf : Machine → Progress → Check
+checkOf m p = record { stage = stageOf (countOf (p .stage)); at = countOf (p .at); tally = tallyOf m p }
+
+abbrev pub progressIn : List ℤ → Progress
+progressIn ws =
+    record {
+      stage = at ws 0;
+      at = at ws 1;
+      known = record { motion = at ws 2; feed = at ws 3 };
+      lines = at ws 4;
+      blocks = at ws 5;
+      cycles = at ws 6;
+      ticks = at ws 7;
+    }
+
+-- the check at this machine that the words tell, if they are one's progress at all
+unfoldable pub checkIn : Machine → List ℤ → Check
+checkIn m ws = checkOf m (progressIn ws)
+
+-- Words are a check's progress if they are those of the check that they tell. So a stage above 2, a negative count, and a G or F that tells nothing
+-- make no progress.
+unfoldable pub decodeProgress : Machine → List ℤ → DecodedProgress
+decodeProgress m ws = record { ok = sameWords ws (encodeProgress (checkIn m ws)); check = checkIn m ws }

@@ -1,0 +1,99 @@
+-- Words and checks, exactly: a check that fits is told by its machine and the words of its progress, and so is what is known.
+use mathlib.Core.Path.{_≡_, refl}
+use mathlib.Core.Bool.{true}
+use mathlib.Core.List.{List}
+use Prim.Native.Nat.{_^_, _<_}
+use native.Mathlib.Omega.{arith}
+use lib.IntN.{ℤ}
+use borrow.Author.Tests.{lt-ltb}
+use Rattle.circle.specs.declared.plane.Turn.{Turn}
+use Rattle.machine.specs.declared.Machine.{Machine}
+use Rattle.machine.specs.Machine.{soundOf}
+use Rattle.reader.specs.declared.Motion.{Motion}
+use Rattle.reader.specs.declared.Feed.{Feed}
+use Rattle.reader.specs.declared.Reader.{Reader}
+use Rattle.reader.specs.Reader.{motionOf}
+use Rattle.job.specs.declared.Stage.{Stage}
+use Rattle.job.specs.declared.Check.{Check}
+use Rattle.job.specs.Check.{FeedSmall, Reached}
+use Rattle.layout.specs.Words.{countOf}
+use Rattle.layout.specs.laws.Record.{count-word}
+use Rattle.layout.specs.laws.Same.{same-self}
+use Rattle.progress.specs.Known.{motionWord, feedWord, encodeKnown, feedOf, decodeKnown}
+use Rattle.progress.specs.Progress.{stageWord, encodeProgress, stageOf, checkIn, decodeProgress}
+
+abbrev pub FeedFits : Feed → Type 0
+FeedFits Feed.Unknown = Unit {0}
+FeedFits (Feed.Known f) = f < 2 ^ 32
+
+-- a check whose numbers are words
+pub record Fits (c : Check) : Type 0 where
+  pub sound : soundOf (c .tally .machine) ≡ true
+  pub at : c .at < 2 ^ 63
+  pub feed : FeedFits (c .tally .reader .feed)
+  pub lines : c .tally .lines < 2 ^ 63
+  pub blocks : c .tally .blocks < 2 ^ 63
+  pub cycles : c .tally .cycles < 2 ^ 63
+  pub ticks : c .tally .ticks < 2 ^ 63
+
+stage-back : (s : Stage) → stageOf (countOf (stageWord s)) ≡ s
+stage-back Stage.Header = refl
+stage-back Stage.Lines = refl
+stage-back Stage.Over = refl
+
+motion-back : (m : Motion) → motionOf (countOf (motionWord m)) ≡ m
+motion-back Motion.Unknown = refl
+motion-back Motion.Line = refl
+motion-back (Motion.Arc Turn.Clockwise) = refl
+motion-back (Motion.Arc Turn.Counterclockwise) = refl
+
+feed-back : (f : Feed) → FeedFits f → feedOf (feedWord f) ≡ f
+feed-back Feed.Unknown h = refl
+feed-back (Feed.Known f) h = rw (lt-ltb f (2 ^ 32) h)
+
+-- ---- what is known
+
+pub known-decode : (k : Reader) → FeedFits (k .feed) → decodeKnown (encodeKnown k) ≡ record { ok = true; reader = k }
+unfolding decodeKnown encodeKnown
+known-decode k h = rw (motion-back (k .motion), feed-back (k .feed) h, same-self (encodeKnown k))
+
+-- ---- a check
+
+check-back : (c : Check) → Fits c → checkIn (c .tally .machine) (encodeProgress c) ≡ c
+unfolding checkIn encodeProgress
+check-back c f =
+    rw (
+      stage-back (c .stage),
+      count-word (f .at),
+      motion-back (c .tally .reader .motion),
+      feed-back (c .tally .reader .feed) (f .feed),
+      count-word (f .lines),
+      count-word (f .blocks),
+      count-word (f .cycles),
+      count-word (f .ticks),
+    )
+
+pub progress-decode : (c : Check) → Fits c → decodeProgress (c .tally .machine) (encodeProgress c) ≡ record { ok = true; check = c }
+unfolding decodeProgress
+progress-decode c f = rw (check-back c f, same-self (encodeProgress c))
+
+-- ---- every check that a start reaches fits
+
+abbrev pub ReachedCheck : Check → Type 0
+ReachedCheck c = Reached (c .at) (c .tally)
+
+feed-fits : (f : Feed) → FeedSmall f → FeedFits f
+feed-fits Feed.Unknown h = tt
+feed-fits (Feed.Known f) h = omega arith
+
+pub reached-fits : (c : Check) → ReachedCheck c → Fits c
+reached-fits c r =
+    record {
+      sound = r .sound;
+      at = omega (arith, r .near);
+      feed = feed-fits (c .tally .reader .feed) (r .feed);
+      lines = omega (arith, r .lines);
+      blocks = omega (arith, r .lines, r .blocks);
+      cycles = omega (arith, r .lines, r .cycles);
+      ticks = omega (arith, r .lines, r .ticks);
+    }

@@ -1,0 +1,154 @@
+-- The code's tests pass exactly where the words are those of what they tell.
+use mathlib.Core.Path.{_≡_, refl, sym, ap, _∙_}
+use mathlib.Core.Bool.{Bool, true, false, cond}
+use mathlib.Core.List.{List, [], _∷_}
+use Prim.Native.Nat.{ℕ, zero, suc, _^_, _<_}
+use native.Mathlib.Omega.{arith}
+use lib.Dec.{ltb}
+use lib.IntN.{ℤ, pos, negsuc}
+use lib.ListN.{length}
+use mir.Syntax.{w64}
+use mir.Val.{SFits}
+use borrow.Author.Tests.{lt-ltb, ltb-true}
+use Rattle.whole.specs.laws.Order.{_≼_, leZ-true, ≼-leZ}
+use Rattle.whole.specs.laws.Test.{both, joined, same-test}
+use Rattle.plane.specs.declared.travel.Range.{Range}
+use Rattle.plane.specs.Travel.{withinOf}
+use Rattle.circle.specs.declared.plane.Turn.{Turn}
+use Rattle.reader.specs.declared.Motion.{Motion}
+use Rattle.reader.specs.declared.Feed.{Feed}
+use Rattle.reader.specs.Reader.{motionOf}
+use Rattle.machine.specs.declared.Machine.{Machine}
+use Rattle.job.specs.declared.Stage.{Stage}
+use Rattle.layout.specs.Words.{wordOf, countOf, at, sameWords}
+use Rattle.layout.specs.Right.{isCount}
+use Rattle.layout.specs.laws.Right.{count-back, count-right, each}
+use Rattle.layout.specs.laws.Same.{same-true, same-words}
+use Rattle.progress.specs.declared.known.Known.{Known}
+use Rattle.progress.specs.declared.progress.Progress.{Progress}
+use Rattle.progress.specs.Known.{motionWord, feedWord, knownOf, encodeKnown, feedOf, readerOf, knownIn}
+use Rattle.progress.specs.Progress.{stageWord, progressOf, progressWords, encodeProgress, stageOf, checkOf, progressIn, checkIn}
+use Rattle.progress.specs.Right.{stages, motions, feeds, knownRight, countsRight, progressRight}
+
+-- ---- ranges
+
+range-to : (r : Range) (z : ℤ) → withinOf r z ≡ true → (r .lower ≼ z) × (z ≼ r .upper)
+unfolding withinOf
+range-to r z t = let b = both t in (leZ-true (r .lower) z (b .0), leZ-true z (r .upper) (b .1))
+
+range-of : (r : Range) (z : ℤ) → r .lower ≼ z → z ≼ r .upper → withinOf r z ≡ true
+unfolding withinOf
+range-of r z low high = joined (≼-leZ (r .lower) z low) (≼-leZ z (r .upper) high)
+
+-- ---- one word
+
+stage-back : (z : ℤ) → withinOf stages z ≡ true → stageWord (stageOf (countOf z)) ≡ z
+stage-back (pos zero) t = refl
+stage-back (pos (suc zero)) t = refl
+stage-back (pos (suc (suc zero))) t = refl
+stage-back (pos (suc (suc (suc n)))) t = absurd (omega (arith, range-to stages (pos (suc (suc (suc n)))) t .1))
+stage-back (negsuc n) t = absurd (omega (arith, range-to stages (negsuc n) t .0))
+
+stage-right : (s : Stage) → withinOf stages (stageWord s) ≡ true
+unfolding withinOf
+stage-right Stage.Header = refl
+stage-right Stage.Lines = refl
+stage-right Stage.Over = refl
+
+motion-back : (z : ℤ) → withinOf motions z ≡ true → motionWord (motionOf (countOf z)) ≡ z
+motion-back (pos zero) t = refl
+motion-back (pos (suc zero)) t = refl
+motion-back (pos (suc (suc zero))) t = refl
+motion-back (pos (suc (suc (suc zero)))) t = refl
+motion-back (pos (suc (suc (suc (suc n))))) t = absurd (omega (arith, range-to motions (pos (suc (suc (suc (suc n))))) t .1))
+motion-back (negsuc n) t = absurd (omega (arith, range-to motions (negsuc n) t .0))
+
+motion-right : (m : Motion) → withinOf motions (motionWord m) ≡ true
+unfolding withinOf
+motion-right Motion.Unknown = refl
+motion-right Motion.Line = refl
+motion-right (Motion.Arc Turn.Clockwise) = refl
+motion-right (Motion.Arc Turn.Counterclockwise) = refl
+
+feed-back : (z : ℤ) → withinOf feeds z ≡ true → feedWord (feedOf z) ≡ z
+feed-back (pos f) t = rw (lt-ltb f (2 ^ 32) (omega (arith, range-to feeds (pos f) t .1)))
+feed-back (negsuc zero) t = refl
+feed-back (negsuc (suc n)) t = absurd (omega (arith, range-to feeds (negsuc (suc n)) t .0))
+
+-- a feed that the words tell
+feed-right : (z : ℤ) → feedWord (feedOf z) ≡ z → withinOf feeds z ≡ true
+feed-right (pos f) = by (ltb f (2 ^ 32)) refl
+  where
+    by : (small : Bool) → ltb f (2 ^ 32) ≡ small → feedWord (cond small (Feed.Known f) Feed.Unknown) ≡ pos f → withinOf feeds (pos f) ≡ true
+    by true s e = range-of feeds (pos f) (omega arith) (omega (arith, ltb-true f (2 ^ 32) s))
+    by false s e = cc
+feed-right (negsuc n) = λ e. rw (← e) (range-of feeds (negsuc 0) (omega arith) (omega arith))
+
+-- ---- what is known
+
+module _ (k : Known) where
+  known-back : knownRight k ≡ true → knownOf (readerOf k) ≡ k
+  unfolding knownRight
+  known-back t = let b = both t in rw (motion-back (k .motion) (b .0), feed-back (k .feed) (b .1))
+
+  known-right : knownOf (readerOf k) ≡ k → knownRight k ≡ true
+  unfolding knownRight
+  known-right e =
+      let m : withinOf motions (k .motion) ≡ true = rw (← ap (λ (l : Known). l .motion) e) (motion-right (motionOf (countOf (k .motion)))) in
+      joined m (feed-right (k .feed) (ap (λ (l : Known). l .feed) e))
+
+pub known-same : (ws : List ℤ) → length ws ≡ 2 → knownRight (knownIn ws) ≡ sameWords ws (encodeKnown (readerOf (knownIn ws)))
+unfolding encodeKnown
+known-same ws all =
+    same-test
+    (λ t. sym (same-words (each 2 ws all ∙ ap (λ (k : Known). k .motion ∷ k .feed ∷ []) (sym (known-back (knownIn ws) t)))))
+    (λ t. known-right (knownIn ws) (sym (ap knownIn (same-true ws (encodeKnown (readerOf (knownIn ws))) t))))
+
+-- ---- progress
+
+-- the words that a count may stand in are numbers of 64 bits
+pub record Fits (p : Progress) : Type 0 where
+  pub at : SFits w64 (p .at)
+  pub lines : SFits w64 (p .lines)
+  pub blocks : SFits w64 (p .blocks)
+  pub cycles : SFits w64 (p .cycles)
+  pub ticks : SFits w64 (p .ticks)
+
+module _ (m : Machine) (p : Progress) where
+  progress-back : Fits p → progressRight p ≡ true → progressOf (checkOf m p) ≡ p
+  unfolding progressRight countsRight
+  progress-back f t =
+      let s = both t in
+      let k = both (s .1) in
+      let a = both (k .1) in
+      let l = both (a .1) in
+      let b = both (l .1) in
+      let c = both (b .1) in
+      rw (
+        stage-back (p .stage) (s .0),
+        known-back (p .known) (k .0),
+        count-back (p .at) (f .at) (a .0),
+        count-back (p .lines) (f .lines) (l .0),
+        count-back (p .blocks) (f .blocks) (b .0),
+        count-back (p .cycles) (f .cycles) (c .0),
+        count-back (p .ticks) (f .ticks) (c .1),
+      )
+
+  progress-right : progressOf (checkOf m p) ≡ p → progressRight p ≡ true
+  unfolding progressRight countsRight
+  progress-right e =
+      let s : withinOf stages (p .stage) ≡ true = rw (← ap (λ (q : Progress). q .stage) e) (stage-right (stageOf (countOf (p .stage)))) in
+      joined s
+      (joined (known-right (p .known) (ap (λ (q : Progress). q .known) e))
+      (joined (count-right (p .at) (ap (λ (q : Progress). q .at) e))
+      (joined (count-right (p .lines) (ap (λ (q : Progress). q .lines) e))
+      (joined (count-right (p .blocks) (ap (λ (q : Progress). q .blocks) e))
+      (joined (count-right (p .cycles) (ap (λ (q : Progress). q .cycles) e)) (count-right (p .ticks) (ap (λ (q : Progress). q .ticks) e)))))))
+
+pub progress-same : (m : Machine) (ws : List ℤ) → length ws ≡ 8 → Fits (progressIn ws)
+    → progressRight (progressIn ws) ≡ sameWords ws (encodeProgress (checkIn m ws))
+unfolding encodeProgress checkIn
+progress-same m ws all f =
+    same-test
+    (λ t. sym (same-words (each 8 ws all ∙ ap progressWords (sym (progress-back m (progressIn ws) f t)))))
+    (λ t. progress-right m (progressIn ws) (sym (ap progressIn (same-true ws (encodeProgress (checkIn m ws)) t))))

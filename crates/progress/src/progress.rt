@@ -1,0 +1,183 @@
+// A check's progress as 8 words, and back. `specs/Progress.antt` says which word is what.
+ghost use mathlib.Core.Path.{_≡_};
+ghost use Rattle.progress.specs.Progress.{stageWord, progressOf, progressWords, encodeProgress, stageOf, tallyOf, checkOf, progressIn, decodeProgress};
+ghost use Rattle.progress.specs.Right.{countsRight, progressRight};
+use crate::known::Known;
+use crate::known::known_of;
+use crate::known::known_right;
+use crate::known::reader_of;
+use job::Check;
+use job::Stage;
+use layout::number::count;
+use layout::number::is_count;
+use layout::number::word;
+use listing::Tally;
+use machine::Machine;
+use plane::travel::Range;
+use plane::travel::within;
+
+pub struct Progress {
+    pub stage: i64,
+    pub at: i64,
+    pub known: Known,
+    pub lines: i64,
+    pub blocks: i64,
+    pub cycles: i64,
+    pub ticks: i64,
+}
+
+fn stage_word(stage: Stage) -> i64
+    ensures { λ r. ⌜ r ≡ stageWord stage ⌝ }
+{
+    match stage {
+        Stage::Header => 0,
+        Stage::Lines => 1,
+        Stage::Over => 2,
+    }
+}
+
+fn progress_of(c: Check) -> Progress
+    ensures { λ r. ⌜ r ≡ progressOf c ⌝ }
+{
+    let stage = c.stage;
+    let tally = c.tally;
+    let reader = tally.reader;
+    let known = known_of(reader);
+    Progress {
+        stage: stage_word(stage),
+        at: word(c.at as u64),
+        known: known,
+        lines: word(tally.lines),
+        blocks: word(tally.blocks),
+        cycles: word(tally.cycles),
+        ticks: word(tally.ticks),
+    }
+}
+
+// The words in their order.
+fn lay(p: Progress) -> [i64; 8]
+    ensures { λ r. ⌜ r ≡ progressWords p ⌝ }
+{
+    let known = p.known;
+    [
+        p.stage,
+        p.at,
+        known.motion,
+        known.feed,
+        p.lines,
+        p.blocks,
+        p.cycles,
+        p.ticks,
+    ]
+}
+
+pub fn encode_progress(c: Check) -> [i64; 8]
+    ensures { λ r. ⌜ r ≡ encodeProgress c ⌝ }
+{
+    lay(progress_of(c))
+}
+
+// The check counts only where the words are one's.
+pub struct DecodedProgress {
+    pub ok: bool,
+    pub check: Check,
+}
+
+fn stage_of(n: u64) -> Stage
+    ensures { λ r. ⌜ r ≡ stageOf n ⌝ }
+{
+    if n == 1 {
+        return Stage::Lines;
+    }
+    if n == 2 {
+        return Stage::Over;
+    }
+    Stage::Header
+}
+
+fn progress_in(words: [i64; 8]) -> Progress
+    ensures { λ r. ⌜ r ≡ progressIn words ⌝ }
+{
+    let known = Known {
+        motion: words[2],
+        feed: words[3],
+    };
+    Progress {
+        stage: words[0],
+        at: words[1],
+        known: known,
+        lines: words[4],
+        blocks: words[5],
+        cycles: words[6],
+        ticks: words[7],
+    }
+}
+
+fn tally_of(m: Machine, p: Progress) -> Tally
+    ensures { λ r. ⌜ r ≡ tallyOf m p ⌝ }
+{
+    let known = p.known;
+    let reader = reader_of(known);
+    Tally {
+        reader: reader,
+        machine: m,
+        lines: count(p.lines),
+        blocks: count(p.blocks),
+        cycles: count(p.cycles),
+        ticks: count(p.ticks),
+    }
+}
+
+fn check_of(m: Machine, p: Progress) -> Check
+    ensures { λ r. ⌜ r ≡ checkOf m p ⌝ }
+{
+    let tally = tally_of(m, p);
+    Check {
+        stage: stage_of(count(p.stage)),
+        at: count(p.at) as usize,
+        tally: tally,
+    }
+}
+
+fn counts_right(p: Progress) -> bool
+    ensures { λ r. ⌜ r ≡ countsRight p ⌝ }
+{
+    if !is_count(p.at) {
+        return false;
+    }
+    if !is_count(p.lines) {
+        return false;
+    }
+    if !is_count(p.blocks) {
+        return false;
+    }
+    if !is_count(p.cycles) {
+        return false;
+    }
+    is_count(p.ticks)
+}
+
+fn progress_right(p: Progress) -> bool
+    ensures { λ r. ⌜ r ≡ progressRight p ⌝ }
+{
+    let stages = Range { lower: 0, upper: 2 };
+    let known = p.known;
+    if !within(stages, p.stage) {
+        return false;
+    }
+    if !known_right(known) {
+        return false;
+    }
+    counts_right(p)
+}
+
+pub fn decode_progress(m: Machine, words: [i64; 8]) -> DecodedProgress
+    ensures { λ r. ⌜ r ≡ decodeProgress m words ⌝ }
+{
+    let p = progress_in(words);
+    let check = check_of(m, p);
+    DecodedProgress {
+        ok: progress_right(p),
+        check: check,
+    }
+}

@@ -1,0 +1,17 @@
+-- `store_mark` is right because it stores one word.
+use borrow.Author.Needs.{needs}
+use Rattle.layout.specs.laws.Number.{mark-fits, through}
+use Rattle.store.proofs.store_mark.Statement.{statement}
+use Rattle.store.proofs.store_mark.Tie as tie
+
+mark-word-requires : tie.Need-mark-word-requires
+mark-word-requires c κs = search needs
+
+element-set-from-words : tie.Need-element-set-from-words
+element-set-from-words c = search needs
+
+returns : tie.Need-returns
+returns c = simp (through (mark-fits (c .before .args .held)) (c .mark-word .ensures))
+
+pub store-mark-spec : {M : Type 1} → statement M
+store-mark-spec = tie.close (tie.spec mark-word-requires element-set-from-words returns)
