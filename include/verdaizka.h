@@ -1,16 +1,33 @@
 /* The pulse core of a two-axis cutting table for C.
  *
  * The core turns lines and arcs into step pulses for X and Y, one clock tick at a time, so that the path keeps to the block
- * and the speed to the feed. It holds no memory of its own: all that it knows stands in a record of 18 words that the
+ * and the speed to the feed. It holds no memory of its own: all that it knows stands in a record of 19 words that the
  * caller owns. Nothing is allocated, nothing is static, and two records never touch one another.
  *
- * The code behind each call is proved to answer as said here for every content of the record and every argument; the
+ * The code behind each call is proved to answer as said here for every content of the words and every argument; the
  * compiler and this text are not part of the proof. What the caller owes: pointers that are not null and point to as much as
  * the type says, that don't overlap, and one call at a time on one record.
  *
  * Use: vz_make once; then for each block a vz_load_.. and vz_tick (from the clock's interrupt) or vz_run until the block ends.
- * A job text is checked beforehand by vz_check_start and vz_check_fill, on words of its own.
- * Link: tools/archive writes target/libverdaizka.a. examples/c has whole programs: square_and_circle.c, check_a_job.c.
+ * A board that is given a job text reads it line by line with vz_read_line; vz_check_start and vz_check_fill list it beforehand.
+ *
+ * Needed: C11 or C++11, and an x86-64 machine: tools/archive writes target/libverdaizka.a for it, which calls no library.
+ *     cc -std=c11 -Iinclude program.c target/libverdaizka.a
+ * examples/c has whole programs: square_and_circle.c, run_a_job.c, check_a_job.c.
+ *
+ * Answers: a refusal is negative everywhere, minus the number of the question that was answered by no, so `if (answer < 0)` sees
+ * every one. What a refusal writes: vz_run sets *ticks and vz_check_fill *written to 0; vz_make and vz_check_start make their
+ * words anew. All else stays as it was, every word and every byte.
+ *
+ * Work: every call does a bounded number of steps but for what it writes or reads. At most, beside sums, products and tests:
+ *     vz_make, vz_hold, vz_release, vz_stop, vz_tick   no loop, no root, no division
+ *     vz_load_line, vz_load_cw, vz_load_ccw            one root: one division of doubles and, where its guess fails, 32 halvings
+ *     vz_run                                           one such root, five divisions, a turn a cycle, and the bytes of its ticks cleared once
+ *     vz_read_line                                     a turn for each byte of the line, then a load
+ *     vz_check_start                                   as vz_make
+ *     vz_check_fill                                    for each text line it lists: vz_read_line, another root, a division, the row's digits
+ * Whole numbers confirm the guess, so no setting of the floating-point unit makes an answer another; a program that has unmasked its
+ * exceptions masks them again before it calls.
  *
  * Units
  *   length   whole pulses. A millimetre is p pulses. X points right, Y up; the machine starts at (0, 0).
@@ -33,42 +50,56 @@ extern "C" {
 #define VZ_ASSERT _Static_assert
 #endif
 
+/* An answer that nobody looks at may be a refusal. */
+#if defined(__GNUC__) || defined(__clang__)
+#define VZ_ANSWERS __attribute__((warn_unused_result))
+#else
+#define VZ_ANSWERS
+#endif
+
 /* ---- the record */
 
-#define VZ_RECORD_WORDS 18
+/* The number of this layout of words. Every record has it in its first word, so one that was saved under another layout gets 9
+ * and is not misread. A program can ask at its start whether archive and header belong together: after a vz_make that word is
+ * VZ_ABI. */
+#define VZ_ABI 1
+
+#define VZ_RECORD_WORDS 19
 
 /* Written by the calls alone. It may be read, copied, saved and brought back; a copy is a machine of its own. */
 typedef struct vz_record {
     int64_t word[VZ_RECORD_WORDS];
 } vz_record;
 
-VZ_ASSERT(sizeof(vz_record) == 8 * VZ_RECORD_WORDS, "a record is 18 words of 64 bits");
+VZ_ASSERT(sizeof(vz_record) == 8 * VZ_RECORD_WORDS, "a record is 19 words of 64 bits");
 
 /* Which word is what. */
 enum vz_word {
-    VZ_WORD_P = 0,         /* pulses per millimetre */
-    VZ_WORD_W = 1,         /* ticks per second */
-    VZ_WORD_X_LOWER = 2,   /* travel, in pulses */
-    VZ_WORD_X_UPPER = 3,
-    VZ_WORD_Y_LOWER = 4,
-    VZ_WORD_Y_UPPER = 5,
-    VZ_WORD_X = 6,         /* where the machine stands, in pulses */
-    VZ_WORD_Y = 7,
-    VZ_WORD_HELD = 8,      /* 1 held, 0 not */
-    VZ_WORD_REMAINDER = 9, /* what the feed has left over, below 60 * w; it goes on to the next block */
-    VZ_WORD_WORK = 10,     /* what is in work: 0 nothing, 1 a line, 2 an arc clockwise, 3 an arc counterclockwise */
-    VZ_WORD_NUMBERS = 11   /* seven words. Line: start x, start y, end x, end y, feed, cycles, cycles done.
-                              Arc: centre x, centre y, square of the radius, end x, end y, feed, 0. Nothing: all 0. */
+    VZ_WORD_ABI = 0,        /* VZ_ABI */
+    VZ_WORD_P = 1,          /* pulses per millimetre */
+    VZ_WORD_W = 2,          /* ticks per second */
+    VZ_WORD_X_LOWER = 3,    /* travel, in pulses */
+    VZ_WORD_X_UPPER = 4,
+    VZ_WORD_Y_LOWER = 5,
+    VZ_WORD_Y_UPPER = 6,
+    VZ_WORD_X = 7,          /* where the machine stands, in pulses */
+    VZ_WORD_Y = 8,
+    VZ_WORD_HELD = 9,       /* 1 held, 0 not */
+    VZ_WORD_REMAINDER = 10, /* what the feed has left over, below 60 * w; it goes on to the next block */
+    VZ_WORD_WORK = 11,      /* what is in work: 0 nothing, 1 a line, 2 an arc clockwise, 3 an arc counterclockwise */
+    VZ_WORD_NUMBERS = 12    /* seven words. Line: start x, start y, end x, end y, feed, cycles, cycles done.
+                               Arc: centre x, centre y, square of the radius, end x, end y, feed, 0. Nothing: all 0. */
 };
 
-/* ---- refusals: what each number says, and its usual cure. A refused call changes nothing, but for vz_make. */
+/* ---- refusals: what each number says, and its usual cure */
 
 enum vz_refusal {
     VZ_REFUSED_P = 1,       /* p is not in 1..1,000. Take whole pulses per millimetre. */
     VZ_REFUSED_W = 2,       /* w is not in 1,000..20,000. Set the clock to 1 to 20 kHz. */
     VZ_REFUSED_TRAVEL = 3,  /* an axis is not -1,000,000 <= lower <= 0 <= upper <= 1,000,000. Put (0, 0) inside the travel. */
-    VZ_REFUSED_RECORD = 9,  /* the words are no sound record: never made, or written by something else than these calls.
-                               Call vz_make, find the table's zero again, and look for what wrote there. */
+    VZ_REFUSED_RECORD = 9,  /* the words are no sound record: never made, saved under another layout, or written by something
+                               else than these calls. Call vz_make, find the table's zero again, and look for what wrote there.
+                               Of the calls on a job text also: the known G and F, or the progress, are none. */
     VZ_REFUSED_BUSY = 10,   /* a block is in work. Tick to its end, or vz_stop. */
     VZ_REFUSED_FEED = 11,   /* the feed is not in 1..60 * w. Slow down, or make with a faster clock. */
     VZ_REFUSED_END = 12,    /* the end is outside the travel. */
@@ -79,10 +110,10 @@ enum vz_refusal {
     VZ_REFUSED_WAY = 16     /* the arc leaves the travel on its way, though both ends are inside. */
 };
 
-/* Of a job text these too, before those of a load; they stand in a listing and are answered by no call. */
+/* Of a job text these too, before those of a load. vz_read_line answers them but the first; a listing has them all. */
 enum vz_text_refusal {
-    VZ_REFUSED_LONG_TEXT = 30, /* the text has more than 65,536 bytes; told of line 1. Cut the job into two. */
-    VZ_REFUSED_LONG_LINE = 31, /* the line has more than 80 bytes without its LF. */
+    VZ_REFUSED_LONG_TEXT = 30, /* the text has more than VZ_TEXT_BYTES bytes; told of line 1. Cut the job into two. */
+    VZ_REFUSED_LONG_LINE = 31, /* the line has more than VZ_LINE_BYTES bytes without its LF. */
     VZ_REFUSED_WORDS = 32,     /* it is not made of words: N, G or F with 1 to 7 digits; X, Y, I or J with an optional sign, 1 to 7
                                   digits and optionally a point with 1 to 3 digits; blanks between. A carriage return is none. */
     VZ_REFUSED_TWICE = 33,     /* a letter stands twice. */
@@ -92,26 +123,29 @@ enum vz_text_refusal {
     VZ_REFUSED_IJ = 37         /* I or J stands under G 1; or an arc has X or Y but neither I nor J. */
 };
 
+#define VZ_TEXT_BYTES 65536
+#define VZ_LINE_BYTES 80
+
 /* ---- make */
 
 /* Makes the record a fresh machine with these settings: at (0, 0), nothing in work, not held. Whatever the words were before.
- * Answers 0; or 1, 2 or 3, the first question that says no, and then the machine is one of p 50, w 5,000 and the widest travel. */
-int64_t vz_make(vz_record *record, int64_t p, int64_t w, int64_t x_lower, int64_t x_upper, int64_t y_lower, int64_t y_upper);
+ * Answers 0; or -1, -2 or -3, the first question that says no, and then the machine is one of p 50, w 5,000 and the widest travel. */
+VZ_ANSWERS int64_t vz_make(vz_record *record, int64_t p, int64_t w, int64_t x_lower, int64_t x_upper, int64_t y_lower, int64_t y_upper);
 
 /* ---- load: a block comes into work. It begins where the machine stands; x and y are its end, counted from (0, 0).
  * Answers the register width, positive: the fewest bits for the longer axis of a line, or for the radius of an arc.
  * Or minus the first refusal: -9, -10 to -12, then -13 for a line, -14 to -16 for an arc. A load moves nothing. */
 
-int64_t vz_load_line(vz_record *record, int64_t x, int64_t y, int64_t feed);
+VZ_ANSWERS int64_t vz_load_line(vz_record *record, int64_t x, int64_t y, int64_t feed);
 
 /* (i, j) is the centre seen from the start. An end equal to the start is a full turn. */
-int64_t vz_load_cw(vz_record *record, int64_t x, int64_t y, int64_t feed, int64_t i, int64_t j);
-int64_t vz_load_ccw(vz_record *record, int64_t x, int64_t y, int64_t feed, int64_t i, int64_t j);
+VZ_ANSWERS int64_t vz_load_cw(vz_record *record, int64_t x, int64_t y, int64_t feed, int64_t i, int64_t j);
+VZ_ANSWERS int64_t vz_load_ccw(vz_record *record, int64_t x, int64_t y, int64_t feed, int64_t i, int64_t j);
 
 /* ---- tick: one tick of the clock.
  * Answers the tick byte, 0 to 63, or -9. While idle or held the byte is 0 and nothing changes. */
 
-int64_t vz_tick(vz_record *record);
+VZ_ANSWERS int64_t vz_tick(vz_record *record);
 
 /* The tick byte: X code + 4 * Y code + 16 if a cycle was done + 32 if the block ended with it. A code is a pulse: */
 enum vz_code { VZ_NONE = 0, VZ_PLUS = 1, VZ_MINUS = 2 };
@@ -125,7 +159,7 @@ enum vz_code { VZ_NONE = 0, VZ_PLUS = 1, VZ_MINUS = 2 };
  * The tick bytes go to the front of out, its other bytes stay. *ticks is always written: how many ticks were done.
  * Answers the report, or -9 with 0 ticks. length is that of out, which is not null even where length is 0. */
 
-int64_t vz_run(vz_record *record, uint64_t budget, uint8_t *out, size_t length, uint64_t *ticks);
+VZ_ANSWERS int64_t vz_run(vz_record *record, uint64_t budget, uint8_t *out, size_t length, uint64_t *ticks);
 
 enum vz_report {
     VZ_IDLE = 0,  /* nothing was in work: 0 ticks */
@@ -138,11 +172,35 @@ enum vz_report {
 /* ---- hold, release, stop: 0, or -9 */
 
 /* While held, ticks send nothing and the block waits. The core knows no acceleration: the pulses stop with the next tick. */
-int64_t vz_hold(vz_record *record);
-int64_t vz_release(vz_record *record);
+VZ_ANSWERS int64_t vz_hold(vz_record *record);
+VZ_ANSWERS int64_t vz_release(vz_record *record);
 
 /* Drops the block in work and sets the remainder to 0. The machine stands where it is; a hold stays. */
-int64_t vz_stop(vz_record *record);
+VZ_ANSWERS int64_t vz_stop(vz_record *record);
+
+/* ---- a line of a job text, read at the record: what the line asks is loaded, so that a board needs no parser of its own */
+
+#define VZ_KNOWN_WORDS 2
+
+/* The G and F that the lines before have made known; they count until changed. Before the first line: VZ_NOTHING_KNOWN. */
+typedef struct vz_known {
+    int64_t word[VZ_KNOWN_WORDS];
+} vz_known;
+
+VZ_ASSERT(sizeof(vz_known) == 8 * VZ_KNOWN_WORDS, "what is known is 2 words of 64 bits");
+
+enum vz_known_word {
+    VZ_KNOWN_MOTION = 0, /* the G that is known: 1, 2 or 3, 0 none */
+    VZ_KNOWN_FEED = 1    /* the F that is known, in millimetres per minute, -1 none */
+};
+
+#define VZ_NOTHING_KNOWN { { 0, -1 } }
+
+/* line is one line without its LF, length bytes; not null even where length is 0. Call it once the block before has ended.
+ * Answers the register width of the block that the line loaded, positive; 0 where the line asks for none (no X, Y, I or J, or
+ * a straight line to where the machine stands); or minus the first refusal: -9, -31 to -37, then those of a load. A refused line
+ * leaves record and known as they were. */
+VZ_ANSWERS int64_t vz_read_line(vz_record *record, vz_known *known, const uint8_t *line, size_t length);
 
 /* ---- check: the listing of a job text, before a tool moves. It is handed out piece by piece into a buffer of any size; nothing
  * is driven. The listing is text, each line with an LF, numbers in decimal with one blank between them:
@@ -153,44 +211,47 @@ int64_t vz_stop(vz_record *record);
  *     total 2 4737 284220                  the last line: blocks, cycles and ticks
  *     line 3 refused 15                    or, in its place, the text line that is refused and the number
  *
- * All that a check knows stands in 26 words that the caller owns, as a record's 18. The text is not among them: the caller
- * keeps it, whole and unchanged, from the first call to the last. */
+ * All that a check knows stands in a record of its own, the machine that the job would run on, where its last block ended, and in
+ * 8 words of progress beside it. The text is not among them: the caller keeps it, whole and unchanged, from the first call to
+ * the last. */
 
-#define VZ_CHECK_WORDS 26
+#define VZ_PROGRESS_WORDS 8
 
-/* Written by the calls alone; it may be copied and saved, as a record may. */
-typedef struct vz_check {
-    int64_t word[VZ_CHECK_WORDS];
-} vz_check;
+/* Written by the calls alone; it may be copied and saved with its record. */
+typedef struct vz_progress {
+    int64_t word[VZ_PROGRESS_WORDS];
+} vz_progress;
 
-VZ_ASSERT(sizeof(vz_check) == 8 * VZ_CHECK_WORDS, "a check is 26 words of 64 bits");
+VZ_ASSERT(sizeof(vz_progress) == 8 * VZ_PROGRESS_WORDS, "a check's progress is 8 words of 64 bits");
 
-/* Words 0 to 17 are the record of the machine that the job would run on, where its last block ended. Then: */
-enum vz_check_word {
-    VZ_CHECK_STAGE = 18,  /* what comes next: 0 the header, 1 the row of the next text line, 2 nothing any more */
-    VZ_CHECK_AT = 19,     /* where the next text line begins, in bytes */
-    VZ_CHECK_MOTION = 20, /* the G that is known: 1, 2 or 3, 0 none */
-    VZ_CHECK_FEED = 21,   /* the F that is known, in millimetres per minute, -1 none */
-    VZ_CHECK_LINES = 22,  /* text lines read */
-    VZ_CHECK_BLOCKS = 23, /* of the blocks so far: their number, */
-    VZ_CHECK_CYCLES = 24, /* cycles */
-    VZ_CHECK_TICKS = 25   /* and ticks */
+enum vz_progress_word {
+    VZ_PROGRESS_STAGE = 0,  /* what comes next: 0 the header, 1 the row of the next text line, 2 nothing any more */
+    VZ_PROGRESS_AT = 1,     /* where the next text line begins, in bytes */
+    VZ_PROGRESS_MOTION = 2, /* as in vz_known */
+    VZ_PROGRESS_FEED = 3,
+    VZ_PROGRESS_LINES = 4,  /* text lines read */
+    VZ_PROGRESS_BLOCKS = 5, /* of the blocks so far: their number, */
+    VZ_PROGRESS_CYCLES = 6, /* cycles */
+    VZ_PROGRESS_TICKS = 7   /* and ticks */
 };
 
-/* Begins the check of a job on a fresh machine with these settings, which it takes and answers as vz_make does: 0; or 1, 2 or 3,
+/* Begins the check of a job on a fresh machine with these settings, which it takes and answers as vz_make does: 0; or -1, -2 or -3,
  * and then the check is one of p 50, w 5,000 and the widest travel. Whatever the words were before. */
-int64_t vz_check_start(vz_check *check, int64_t p, int64_t w, int64_t x_lower, int64_t x_upper, int64_t y_lower, int64_t y_upper);
+VZ_ANSWERS int64_t vz_check_start(vz_record *record, vz_progress *progress, int64_t p, int64_t w, int64_t x_lower, int64_t x_upper,
+                                  int64_t y_lower, int64_t y_upper);
+
+/* A row has at most so many bytes. */
+#define VZ_ROW_BYTES 160
 
 /* Hands out the next rows, as many whole ones as surely fit, to the front of out; its other bytes stay. *written is always set:
- * how many bytes. Answers 0 while there is more, 1 once all is handed out; or -9 where the words are no check, with 0 bytes and
- * nothing else changed. The pieces, one after the other, are the listing of the text. Where a stray write left a check whose
- * machine is not sound, the listing ends by refusing the next text line with 9.
+ * how many bytes. Answers 0 while there is more, 1 once all is handed out; or -9 where the words are no sound record and progress
+ * of a check, with 0 bytes and nothing else changed. The pieces, one after the other, are the listing of the text.
  *
- * A row has at most 160 bytes. Less room than that writes nothing and answers 0 again, so that a loop until 1 needs at least 160
- * bytes in each call. text is the whole text, text_length bytes, the same at each call; neither it nor out is null, even where
- * a length is 0. A text of more than 65,536 bytes is refused by question 30, whatever stands in it: 65,537 of them are enough
- * to hand over. */
-int64_t vz_check_fill(vz_check *check, const uint8_t *text, size_t text_length, uint8_t *out, size_t out_length, uint64_t *written);
+ * Less room than VZ_ROW_BYTES writes nothing and answers 0 again, so that a loop until 1 needs at least that in each call. text is
+ * the whole text, text_length bytes, the same at each call; neither it nor out is null, even where a length is 0. A text of more
+ * than VZ_TEXT_BYTES is refused by question 30, whatever stands in it: one byte more than that is enough to hand over. */
+VZ_ANSWERS int64_t vz_check_fill(vz_record *record, vz_progress *progress, const uint8_t *text, size_t text_length, uint8_t *out,
+                                 size_t out_length, uint64_t *written);
 
 #undef VZ_ASSERT
 

@@ -89,7 +89,7 @@ int main(void)
     int64_t no = vz_make(&m, P, W, 0, 20 * P, -20 * P, 20 * P);
     int good = 1;
     if (no != 0) {
-        printf("make    refused %" PRId64 "\n", no);
+        printf("make    refused %" PRId64 "\n", -no);
         return 1;
     }
     good &= cut(&m, vz_load_line(&m, SIDE, 0, FEED), (struct block){"right", SIDE, 0, SIDE, 0, by_runs});

@@ -210,7 +210,7 @@ mod tests {
         assert_eq!(visited(2, Kind::Clockwise, (1, 0), (1, 0)).len(), 8);
         assert!(is_circle_point(2, Point::new(0, 1)));
         assert!(!is_circle_point(2, Point::new(0, 2)));
-        // Readings B10: "N 3 from (1, 1) to (1, 1) is 8 cycles".
+        // N no sum of two squares (docs/DECISIONS.md, "N in 1..2,000,000,000,000" and made-up arcs).
         assert_eq!(visited(3, Kind::OtherWay, (1, 1), (1, 1)).len(), 8);
     }
 
@@ -220,7 +220,7 @@ mod tests {
         assert_eq!(visited(1, Kind::OtherWay, (1, 0), (0, 1)), [(0, 1)]);
     }
 
-    /// Readings B5.
+    /// docs/DECISIONS.md, "Register width of an arc".
     #[test]
     fn m_on_an_axis_is_the_nearest_root() {
         assert_eq!((m_on_an_axis(58), width(58)), (8, 4));
@@ -234,7 +234,7 @@ mod tests {
     }
 
     /// "the next point" by the definition over all circle points: exactly one, a neighbour, and
-    /// the one that the search among neighbours finds (readings, section A).
+    /// the one that the search among neighbours finds (docs/DECISIONS.md, "The next point").
     #[test]
     fn next_is_one_and_a_neighbour() {
         for n in 1..=400 {
@@ -302,8 +302,8 @@ mod tests {
         }
     }
 
-    /// Readings, section A: the nearest point along the longer coordinate, no ties, no two on one
-    /// ray, and on each such line of points exactly one.
+    /// The nearest point along the longer coordinate, no ties (docs/DECISIONS.md, "It is a circle point if -m ≤ F < m."), no two
+    /// on one ray.
     #[test]
     fn nearest_along_the_longer_coordinate() {
         for n in 1..=1_000i64 {
@@ -322,7 +322,7 @@ mod tests {
         }
     }
 
-    /// Readings, section A: the closed count of a full turn, tried against the walk.
+    /// A full turn in closed form, which nothing here uses, tried against the walk.
     #[test]
     fn closed_count_agrees_with_the_walk() {
         for n in 1..=3_000i64 {

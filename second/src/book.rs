@@ -352,7 +352,7 @@ mod tests {
         }
     }
 
-    /// Readings B20: "(1, 1): bytes 21, 48".
+    /// A cycle without a pulse (docs/DECISIONS.md, "Tick bytes"): (1, 1) has the bytes 21, 48.
     #[test]
     fn bytes_of_the_diagonal() {
         let mut book = usual();
@@ -360,7 +360,7 @@ mod tests {
         assert_eq!(bytes(&mut book), [21, 48]);
     }
 
-    /// Readings B6.
+    /// docs/DECISIONS.md, "A run with nothing to do".
     #[test]
     fn reports_of_runs() {
         let mut book = usual();

@@ -1,18 +1,17 @@
-//! The runner of call files: each `>` line is a call, answered by a `<` line.
+//! The runner of call files: each `>` line is a call, answered by a `<` line. `docs/CALL-FILES.md` has the format.
 
 use std::fmt;
 use std::io::{self, BufRead, Write};
-use std::str::Split;
 
-use crate::arc::Kind;
 use crate::book::{Load, Why};
 use crate::crc::Crc;
+use crate::fields::Fields;
+use crate::job::{Meaning, Reader};
 use crate::machine::Machine;
-use crate::point::Point;
 use crate::settings::{Settings, USUAL};
 use crate::sound::{Record, Work};
 
-#[derive(Clone, Copy, PartialEq, Eq, Debug)]
+#[derive(Clone, PartialEq, Eq, Debug)]
 pub enum Call {
     Make(Settings),
     Record(Record),
@@ -21,77 +20,130 @@ pub enum Call {
     Hold,
     Release,
     Stop,
-    Run { budget: u64, length: u64, fill: u8 },
+    Run {
+        budget: u64,
+        length: u64,
+        fill: u8,
+    },
+    /// A line of a job text, of bytes 32 to 126.
+    Text(String),
 }
 
-/// Why a file was left: the line that is none of those known, or the reading or writing.
-pub enum Left {
-    AtLine(usize),
+/// The line at which a file was left, and why.
+#[derive(Debug)]
+pub struct Left {
+    pub line: usize,
+    why: Reason,
+}
+
+#[derive(Debug)]
+enum Reason {
+    NoCall,
     Io(io::Error),
 }
 
-impl From<io::Error> for Left {
-    fn from(error: io::Error) -> Left {
-        Left::Io(error)
+impl fmt::Display for Left {
+    fn fmt(&self, out: &mut fmt::Formatter) -> fmt::Result {
+        match &self.why {
+            Reason::NoCall => write!(out, "line {} is no call", self.line),
+            Reason::Io(error) => write!(out, "line {}: {error}", self.line),
+        }
     }
+}
+
+/// Which lines stand after a call: its answer, or the whole record too.
+#[derive(Clone, Copy, PartialEq, Eq)]
+pub enum Told {
+    Answers,
+    Records,
 }
 
 /// Writes every line anew, each `>` line followed by its answer. Before the first make the machine is
 /// the fresh one with p 50, w 5,000 and the widest travel.
-pub fn answer_file(input: &mut impl BufRead, out: &mut impl Write) -> Result<(), Left> {
-    let mut machine = Machine::make(USUAL).0;
+pub fn answer_file(input: &mut impl BufRead, told: Told, out: &mut impl Write) -> Result<(), Left> {
+    let mut runner = Runner::fresh();
     let mut line = Vec::new();
-    let mut number = 0;
-    loop {
+    for number in 1.. {
+        let left = |why| Left { line: number, why };
+        let io = |error| left(Reason::Io(error));
         line.clear();
-        if input.read_until(b'\n', &mut line)? == 0 {
-            return Ok(());
+        if input.read_until(b'\n', &mut line).map_err(io)? == 0 {
+            break;
         }
-        number += 1;
         let text = line.strip_suffix(b"\n").unwrap_or(&line);
-        if text.first() == Some(&b'#') {
-            out.write_all(text)?;
-            out.write_all(b"\n")?;
-            continue;
+        match text.first() {
+            Some(b'#') => writeln_bytes(text, out).map_err(io)?,
+            // What an earlier run told, so that its file can be put to the runner again.
+            Some(b'<' | b'=') => (),
+            _ => {
+                let call = std::str::from_utf8(text).ok().and_then(Call::of_line).ok_or(left(Reason::NoCall))?;
+                writeln_bytes(text, out).map_err(io)?;
+                runner.write_answer(&call, told, out).map_err(io)?;
+            }
         }
-        let call = std::str::from_utf8(text).ok().and_then(Call::of_line).ok_or(Left::AtLine(number))?;
-        out.write_all(text)?;
-        writeln!(out, "\n{}", answer(&mut machine, &call))?;
     }
+    Ok(())
 }
 
-/// Does the call and tells `< ANSWER | X Y HELD REM BUSY`.
-pub fn answer(machine: &mut Machine, call: &Call) -> String {
-    let told = match do_call(machine, call) {
-        Ok(told) => told,
-        Err(number) => format!("refused {number}"),
-    };
-    let shown = machine.shown();
-    let (held, busy) = (u8::from(shown.held), u8::from(shown.busy));
-    format!("< {told} | {} {} {held} {} {busy}", shown.x, shown.y, shown.remainder)
+fn writeln_bytes(line: &[u8], out: &mut impl Write) -> io::Result<()> {
+    out.write_all(line)?;
+    out.write_all(b"\n")
 }
 
-fn do_call(machine: &mut Machine, call: &Call) -> Result<String, u32> {
-    match *call {
-        Call::Make(settings) => {
-            let (made, refusal) = Machine::make(settings);
-            *machine = made;
-            refusal.map_or(Ok("made".to_string()), Err)
+/// The machine of a call file, and the G and F known beside it.
+pub struct Runner {
+    pub machine: Machine,
+    pub known: Reader,
+}
+
+impl Runner {
+    pub fn fresh() -> Runner {
+        Runner { machine: Machine::make(USUAL).0, known: Reader::default() }
+    }
+
+    fn write_answer(&mut self, call: &Call, told: Told, out: &mut impl Write) -> io::Result<()> {
+        writeln!(out, "{}", self.answer(call))?;
+        match told {
+            Told::Answers => Ok(()),
+            Told::Records => writeln!(out, "= {}", self.machine.record()),
         }
-        Call::Record(record) => {
-            *machine = Machine::of_record(&record);
-            Ok("set".to_string())
-        }
-        Call::Load(load) => machine.load(&load).map(|bits| format!("bits {bits}")),
-        Call::Tick => machine.tick().map(|byte| format!("byte {byte}")),
-        Call::Hold => machine.hold().map(|()| "done".to_string()),
-        Call::Release => machine.release().map(|()| "done".to_string()),
-        Call::Stop => machine.stop().map(|()| "done".to_string()),
-        // The book is fed "of a buffer only the length".
-        Call::Run { budget, length, .. } => {
-            let mut tape = Tape::new();
-            let (why, ticks) = machine.run(budget, length, |byte| tape.write(byte))?;
-            Ok(format!("{} {ticks} {}", word(why), tape.told()))
+    }
+
+    /// Does the call and tells `< ANSWER | X Y HELD REM BUSY`.
+    pub fn answer(&mut self, call: &Call) -> String {
+        let told = self.call(call).unwrap_or_else(|number| format!("refused {number}"));
+        let Record { point, held, remainder, work, .. } = self.machine.record();
+        format!("< {told} | {point} {} {remainder} {}", u8::from(held), u8::from(work != Work::Nothing))
+    }
+
+    fn call(&mut self, call: &Call) -> Result<String, u32> {
+        let machine = &mut self.machine;
+        match *call {
+            Call::Make(settings) => {
+                let (made, refusal) = Machine::make(settings);
+                *self = Runner { machine: made, known: Reader::default() };
+                refusal.map_or(Ok("made".to_string()), Err)
+            }
+            Call::Record(record) => {
+                *self = Runner { machine: Machine::of_record(&record), known: Reader::default() };
+                Ok("set".to_string())
+            }
+            Call::Load(load) => machine.load(&load).map(|bits| format!("bits {bits}")),
+            Call::Tick => machine.tick().map(|byte| format!("byte {byte}")),
+            Call::Hold => machine.hold().map(|()| "done".to_string()),
+            Call::Release => machine.release().map(|()| "done".to_string()),
+            Call::Stop => machine.stop().map(|()| "done".to_string()),
+            // The book is fed "of a buffer only the length".
+            Call::Run { budget, length, .. } => {
+                let mut tape = Tape::new();
+                let (why, ticks) = machine.run(budget, length, |byte| tape.write(byte))?;
+                Ok(format!("{} {ticks} {}", word(why), tape.told()))
+            }
+            Call::Text(ref line) => match self.known.line(machine.asked()?, line.as_bytes()) {
+                Meaning::Loaded { bits } => Ok(format!("bits {bits}")),
+                Meaning::NoBlock => Ok("none".to_string()),
+                Meaning::Refused(number) => Err(number),
+            },
         }
     }
 }
@@ -137,114 +189,29 @@ impl Tape {
     }
 }
 
-/// The words of a line after `> `, one blank between, read from the left.
-struct Words<'a>(Split<'a, char>);
-
-impl Words<'_> {
-    fn word(&mut self) -> Option<&str> {
-        self.0.next()
-    }
-
-    fn u64(&mut self) -> Option<u64> {
-        self.word().filter(|word| !word.starts_with('+'))?.parse().ok()
-    }
-
-    fn i64(&mut self) -> Option<i64> {
-        self.word().filter(|word| !word.starts_with('+'))?.parse().ok()
-    }
-
-    fn point(&mut self) -> Option<Point> {
-        Some(Point::new(self.i64()?, self.i64()?))
-    }
-
-    fn kind(&mut self) -> Option<Kind> {
-        Kind::of_number(self.u64()?)
-    }
-
-    fn mark(&mut self) -> Option<bool> {
-        match self.word()? {
-            "0" => Some(false),
-            "1" => Some(true),
-            _ => None,
+impl Call {
+    fn of_line(line: &str) -> Option<Call> {
+        let call = line.strip_prefix("> ")?;
+        // All that follows the blank is the line, blanks at its end too.
+        if let Some(text) = call.strip_prefix("text ") {
+            return text.bytes().all(|byte| (32..=126).contains(&byte)).then(|| Call::Text(text.to_string()));
         }
+        let mut fields = Fields::of(call);
+        let call = Call::of_fields(&mut fields)?;
+        fields.end().map(|()| call)
     }
 
-    fn settings(&mut self) -> Option<Settings> {
-        Some(Settings {
-            p: self.u64()?,
-            w: self.u64()?,
-            x_lower: self.i64()?,
-            x_upper: self.i64()?,
-            y_lower: self.i64()?,
-            y_upper: self.i64()?,
-        })
-    }
-
-    fn record(&mut self) -> Option<Record> {
-        Some(Record { settings: self.settings()?, point: self.point()?, held: self.mark()?, remainder: self.u64()?, work: self.work()? })
-    }
-
-    fn work(&mut self) -> Option<Work> {
-        match self.word()? {
-            "none" => Some(Work::Nothing),
-            "line" => Some(Work::Line { start: self.point()?, end: self.point()?, f: self.u64()?, c: self.u64()? }),
-            "arc" => Some(Work::Arc { kind: self.kind()?, centre: self.point()?, n: self.u64()?, end: self.point()?, f: self.u64()? }),
-            _ => None,
-        }
-    }
-
-    fn load(&mut self) -> Option<Load> {
-        match self.word()? {
-            "L" => Some(Load::Line { end: self.point()?, f: self.u64()? }),
-            "A" => Some(Load::Arc { kind: self.kind()?, end: self.point()?, f: self.u64()?, i: self.i64()?, j: self.i64()? }),
-            _ => None,
-        }
-    }
-
-    fn call(&mut self) -> Option<Call> {
-        match self.word()? {
-            "make" => Some(Call::Make(self.settings()?)),
-            "record" => Some(Call::Record(self.record()?)),
-            "load" => Some(Call::Load(self.load()?)),
+    fn of_fields(fields: &mut Fields) -> Option<Call> {
+        match fields.word()? {
+            "make" => Some(Call::Make(fields.settings()?)),
+            "record" => Some(Call::Record(fields.record()?)),
+            "load" => Some(Call::Load(fields.load()?)),
             "tick" => Some(Call::Tick),
             "hold" => Some(Call::Hold),
             "release" => Some(Call::Release),
             "stop" => Some(Call::Stop),
-            "run" => Some(Call::Run { budget: self.u64()?, length: self.u64()?, fill: u8::try_from(self.u64()?).ok()? }),
+            "run" => Some(Call::Run { budget: fields.u64()?, length: fields.u64()?, fill: u8::try_from(fields.u64()?).ok()? }),
             _ => None,
-        }
-    }
-}
-
-impl Call {
-    fn of_line(line: &str) -> Option<Call> {
-        let mut words = Words(line.strip_prefix("> ")?.split(' '));
-        let call = words.call()?;
-        match words.word() {
-            None => Some(call),
-            Some(_) => None,
-        }
-    }
-}
-
-impl fmt::Display for Point {
-    fn fmt(&self, out: &mut fmt::Formatter) -> fmt::Result {
-        write!(out, "{} {}", self.x, self.y)
-    }
-}
-
-impl fmt::Display for Settings {
-    fn fmt(&self, out: &mut fmt::Formatter) -> fmt::Result {
-        write!(out, "{} {} {} {} {} {}", self.p, self.w, self.x_lower, self.x_upper, self.y_lower, self.y_upper)
-    }
-}
-
-impl fmt::Display for Work {
-    fn fmt(&self, out: &mut fmt::Formatter) -> fmt::Result {
-        match self {
-            Work::Nothing => write!(out, "none"),
-            Work::Line { start, end, f, c } => write!(out, "line {start} {end} {f} {c}"),
-            Work::Arc { kind, centre, n, end, f } => write!(out, "arc {} {centre} {n} {end} {f}", kind.number()),
         }
     }
 }
@@ -253,9 +220,7 @@ impl fmt::Display for Call {
     fn fmt(&self, out: &mut fmt::Formatter) -> fmt::Result {
         match self {
             Call::Make(settings) => write!(out, "> make {settings}"),
-            Call::Record(Record { settings, point, held, remainder, work }) => {
-                write!(out, "> record {settings} {point} {} {remainder} {work}", u8::from(*held))
-            }
+            Call::Record(record) => write!(out, "> record {record}"),
             Call::Load(Load::Line { end, f }) => write!(out, "> load L {end} {f}"),
             Call::Load(Load::Arc { kind, end, f, i, j }) => write!(out, "> load A {} {end} {f} {i} {j}", kind.number()),
             Call::Tick => write!(out, "> tick"),
@@ -263,6 +228,7 @@ impl fmt::Display for Call {
             Call::Release => write!(out, "> release"),
             Call::Stop => write!(out, "> stop"),
             Call::Run { budget, length, fill } => write!(out, "> run {budget} {length} {fill}"),
+            Call::Text(line) => write!(out, "> text {line}"),
         }
     }
 }
@@ -272,28 +238,53 @@ mod tests {
     use super::*;
     use crate::gen;
 
-    fn answers(text: &str) -> Result<String, usize> {
+    fn told(text: &str, told: Told) -> Result<String, usize> {
         let mut out = Vec::new();
-        match answer_file(&mut text.as_bytes(), &mut out) {
-            Ok(()) => Ok(String::from_utf8(out).unwrap()),
-            Err(Left::AtLine(number)) => Err(number),
-            Err(Left::Io(_)) => Err(0),
-        }
+        let done = answer_file(&mut text.as_bytes(), told, &mut out);
+        done.map(|()| String::from_utf8(out).unwrap()).map_err(|left| left.line)
+    }
+
+    fn answers(text: &str) -> Result<String, usize> {
+        told(text, Told::Answers)
+    }
+
+    /// These calls get these answers.
+    fn all_answered(pairs: &[(&str, &str)]) {
+        let calls: String = pairs.iter().map(|(call, _)| format!("> {call}\n")).collect();
+        let expected: String = pairs.iter().map(|(call, answer)| format!("> {call}\n< {answer}\n")).collect();
+        assert_eq!(answers(&calls).unwrap(), expected);
     }
 
     #[test]
     fn a_small_file() {
-        let text = "# a comment\n> make 50 5000 -10 10 -10 10\n> load L 1 1 300000\n> run 9 9 7\n> make 0 1 2 3 4 5\n> load A 3 0 0 300000 0 1\n> tick\n> hold\n> run 0 0 255\n> stop\n";
-        let expected = "# a comment\n> make 50 5000 -10 10 -10 10\n< made | 0 0 0 0 0\n> load L 1 1 300000\n< bits 1 | 0 0 0 0 1\n> run 9 9 7\n< ended 2 1530 | 1 1 0 0 0\n> make 0 1 2 3 4 5\n< refused 1 | 0 0 0 0 0\n> load A 3 0 0 300000 0 1\n< bits 1 | 0 0 0 0 1\n> tick\n< byte 21 | 1 1 0 0 1\n> hold\n< done | 1 1 1 0 1\n> run 0 0 255\n< held 0 - | 1 1 1 0 1\n> stop\n< done | 1 1 1 0 0\n";
-        assert_eq!(answers(text).unwrap(), expected);
+        all_answered(&[
+            ("make 50 5000 -10 10 -10 10", "made | 0 0 0 0 0"),
+            ("load L 1 1 300000", "bits 1 | 0 0 0 0 1"),
+            ("run 9 9 7", "ended 2 1530 | 1 1 0 0 0"),
+            ("make 0 1 2 3 4 5", "refused 1 | 0 0 0 0 0"),
+            ("load A 3 0 0 300000 0 1", "bits 1 | 0 0 0 0 1"),
+            ("tick", "byte 21 | 1 1 0 0 1"),
+            ("hold", "done | 1 1 1 0 1"),
+            ("run 0 0 255", "held 0 - | 1 1 1 0 1"),
+            ("stop", "done | 1 1 1 0 0"),
+        ]);
+        assert_eq!(answers("# a comment\n#\n> tick").unwrap(), "# a comment\n#\n> tick\n< byte 0 | 0 0 0 0 0\n");
     }
 
     #[test]
     fn an_unsound_record_answers_9() {
-        let text = "> record 50 5000 -10 10 -10 10 11 0 1 7 none\n> tick\n> load L 0 0 0\n> run 1 1 1\n> stop\n> release\n> hold\n> make 50 5000 0 0 0 0\n";
-        let told = answers(text).unwrap();
-        assert_eq!(told.matches("< refused 9 | 11 0 1 7 0\n").count(), 6);
-        assert!(told.contains("< set | 11 0 1 7 0\n") && told.ends_with("< made | 0 0 0 0 0\n"));
+        let refused = "refused 9 | 11 0 1 7 0";
+        all_answered(&[
+            ("record 50 5000 -10 10 -10 10 11 0 1 7 none", "set | 11 0 1 7 0"),
+            ("tick", refused),
+            ("load L 0 0 0", refused),
+            ("run 1 1 1", refused),
+            ("stop", refused),
+            ("release", refused),
+            ("hold", refused),
+            ("text ?", refused),
+            ("make 50 5000 0 0 0 0", "made | 0 0 0 0 0"),
+        ]);
     }
 
     #[test]
@@ -309,11 +300,71 @@ mod tests {
             "> load A 4 0 0 1 1 1",
             "> load L 1 1",
             "> load L +1 1 1",
-            "< made",
+            "> load L 01 1 1",
+            "> load L -0 1 1",
+            "> load L 1 1 18446744073709551616",
             "> tick\r",
+            "> text",
+            "> text G1\tX1",
+            "> text G1 X1\r",
+            "> text é",
         ] {
             assert_eq!(answers(&format!("# ok\n> tick\n{line}\n")), Err(3), "{line}");
         }
+    }
+
+    /// G and F known stand beside the record: a refused line leaves them, a make and a record forget them.
+    #[test]
+    fn lines_of_a_job_text() {
+        all_answered(&[
+            ("make 50 5000 -10 10 -10 10", "made | 0 0 0 0 0"),
+            ("text G1 F100 ", "none | 0 0 0 0 0"),
+            ("text X0.02", "bits 1 | 0 0 0 0 1"),
+            ("text X0.04", "refused 10 | 0 0 0 0 1"),
+            ("text  Y0 ", "none | 0 0 0 0 1"),
+            ("text ?", "refused 32 | 0 0 0 0 1"),
+            ("run 99 99 0", "ended 60 #55cc8932 | 1 0 0 0 0"),
+            ("text Y0.04 G4", "refused 34 | 1 0 0 0 0"),
+            ("text Y0.04 G2", "refused 37 | 1 0 0 0 0"),
+            ("text Y0.04", "bits 2 | 1 0 0 0 1"),
+            ("make 50 5000 -10 10 -10 10", "made | 0 0 0 0 0"),
+            ("text Y0.04", "refused 36 | 0 0 0 0 0"),
+            ("text ", "none | 0 0 0 0 0"),
+            ("text G1 F1", "none | 0 0 0 0 0"),
+            ("record 10 5000 -10 10 -10 10 0 0 0 0 none", "set | 0 0 0 0 0"),
+            ("text X0.1", "refused 36 | 0 0 0 0 0"),
+            ("text G1 X0.1 F30000", "bits 1 | 0 0 0 0 1"),
+        ]);
+    }
+
+    /// A file with its answers and records, put to the runner again, gives itself.
+    #[test]
+    fn answers_and_records_of_an_input_are_skipped() {
+        for index in 0..50 {
+            let calls: String = gen::history(4, index).iter().map(|call| format!("{call}\n")).collect();
+            for kind in [Told::Answers, Told::Records] {
+                let once = told(&calls, kind).unwrap();
+                assert_eq!(told(&once, kind).unwrap(), once);
+            }
+        }
+    }
+
+    /// A record is told as `record` takes it, so that setting it changes nothing.
+    #[test]
+    fn whole_records() {
+        let text =
+            "> load L 3 4 300000\n> tick\n> stop\n> load A 3 1 1 299999 0 5\n> hold\n> record 7 1 2 3 4 5 6 7 1 8 arc 2 9 10 11 12 13 14\n";
+        let expected = [
+            "50 5000 -1000000 1000000 -1000000 1000000 0 0 0 0 line 0 0 3 4 300000 0",
+            "50 5000 -1000000 1000000 -1000000 1000000 1 1 0 0 line 0 0 3 4 300000 1",
+            "50 5000 -1000000 1000000 -1000000 1000000 1 1 0 0 none",
+            "50 5000 -1000000 1000000 -1000000 1000000 1 1 0 0 arc 3 1 6 25 1 1 299999",
+            "50 5000 -1000000 1000000 -1000000 1000000 1 1 1 0 arc 3 1 6 25 1 1 299999",
+            "7 1 2 3 4 5 6 7 1 8 arc 2 9 10 11 12 13 14",
+        ];
+        let all = told(text, Told::Records).unwrap();
+        let found: Vec<&str> = all.lines().filter_map(|line| line.strip_prefix("= ")).collect();
+        assert_eq!(found, expected);
     }
 
     /// More than 48 ticks are told by their CRC-32, 48 in hex.

@@ -5,13 +5,14 @@ use std::io::{self, Write};
 
 use crate::arc::{is_circle_point, Circle, Kind, LARGEST_N};
 use crate::book::{Book, Load};
-use crate::calls::{answer, Call};
+use crate::calls::{Call, Runner};
+use crate::gen_jobs;
+use crate::job::Reader;
 use crate::line;
-use crate::machine::Machine;
 use crate::point::{Point, ORIGIN};
 use crate::rng::Rng;
 use crate::root::root_up;
-use crate::settings::{Settings, USUAL};
+use crate::settings::Settings;
 use crate::sound::{Record, Work};
 
 pub fn write_calls(seed: u64, count: u64, out: &mut impl Write) -> io::Result<()> {
@@ -28,21 +29,21 @@ pub fn write_calls(seed: u64, count: u64, out: &mut impl Write) -> io::Result<()
 pub fn history(seed: u64, index: u64) -> Vec<Call> {
     let rng = &mut Rng::new(seed, index);
     let first = if rng.percent(75) { Call::Make(settings(rng)) } else { Call::Record(record(rng)) };
-    let mut machine = Machine::make(USUAL).0;
-    answer(&mut machine, &first);
+    let mut runner = Runner::fresh();
+    runner.answer(&first);
     let mut calls = vec![first];
     for _ in 0..rng.between(2, 40) {
-        let call = match machine.book() {
-            Some(book) => next_call(rng, book),
+        let call = match runner.machine.book() {
+            Some(book) => next_call(rng, book, &runner.known),
             None => call_on_unsound(rng),
         };
-        answer(&mut machine, &call);
+        runner.answer(&call);
         calls.push(call);
     }
     calls
 }
 
-fn next_call(rng: &mut Rng, book: &Book) -> Call {
+fn next_call(rng: &mut Rng, book: &Book, known: &Reader) -> Call {
     let chance = rng.below(100);
     if book.held && chance < 40 {
         return Call::Release;
@@ -52,15 +53,25 @@ fn next_call(rng: &mut Rng, book: &Book) -> Call {
         (_, 3..=4) => Call::Release,
         (false, 5..=6) | (true, 5..=9) => Call::Stop,
         (false, 7..=12) | (true, 10..=34) => Call::Tick,
-        (false, 13..=18) | (true, 35..=92) => run(rng, book),
-        (true, _) => Call::Load(load(rng, book)),
-        (false, 19..=98) => Call::Load(load(rng, book)),
+        (false, 13..=18) | (true, 35..=88) => run(rng, book),
+        (false, 19..=58) | (true, 89..=94) => Call::Load(load(rng, book)),
+        (true, _) | (false, 59..=97) => Call::Text(text(rng, book, known)),
+        (false, 98) => Call::Make(settings(rng)),
         (false, _) => Call::Record(record(rng)),
     }
 }
 
+/// A line of a job text for this machine, at times damaged, in the bytes that a call file may have.
+fn text(rng: &mut Rng, book: &Book, known: &Reader) -> String {
+    let mut line = gen_jobs::line(rng, known, book);
+    if rng.percent(35) {
+        gen_jobs::damage(rng, &mut line);
+    }
+    line.into_iter().filter(|byte| (32..=126).contains(byte)).map(char::from).collect()
+}
+
 fn call_on_unsound(rng: &mut Rng) -> Call {
-    match rng.below(12) {
+    match rng.below(14) {
         0 => Call::Tick,
         1 => Call::Hold,
         2 => Call::Release,
@@ -68,7 +79,8 @@ fn call_on_unsound(rng: &mut Rng) -> Call {
         4 => Call::Run { budget: rng.below(3), length: rng.below(60), fill: rng.below(256) as u8 },
         5 => Call::Load(Load::Line { end: Point::new(1, 0), f: rng.below(3) }),
         6 => Call::Load(Load::Arc { kind: kind(rng), end: ORIGIN, f: 1, i: 1, j: 0 }),
-        7..=9 => Call::Record(record(rng)),
+        7..=8 => Call::Text(rng.one_of(&["G1 X1 F100", "", "N1", "G9", "?"], "X1").to_string()),
+        9..=11 => Call::Record(record(rng)),
         _ => Call::Make(settings(rng)),
     }
 }
@@ -142,7 +154,7 @@ fn settings(rng: &mut Rng) -> Settings {
 }
 
 fn sound_settings(rng: &mut Rng) -> Settings {
-    let p = if rng.percent(50) { 50 } else { rng.one_of(&[1, 2, 1_000, 999, 40], 1) };
+    let p = if rng.percent(50) { 50 } else { rng.one_of(&[1, 2, 3, 7, 10, 40, 80, 999, 1_000], 1) };
     let w = if rng.percent(40) { 5_000 } else { rng.one_of(&[1_000, 20_000, 1_001, 19_999, 7_777], 1_000) };
     let mut bound = || match rng.below(10) {
         0 => 0,
@@ -234,7 +246,7 @@ fn line_end(rng: &mut Rng, book: &Book) -> Point {
     }
 }
 
-fn into_travel(settings: &Settings, at: Point) -> Point {
+pub fn into_travel(settings: &Settings, at: Point) -> Point {
     Point::new(at.x.max(settings.x_lower).min(settings.x_upper), at.y.max(settings.y_lower).min(settings.y_upper))
 }
 
@@ -306,7 +318,7 @@ pub fn circle_point(rng: &mut Rng, n: i64) -> Option<Point> {
     None
 }
 
-fn turned(rng: &mut Rng, at: Point) -> Point {
+pub fn turned(rng: &mut Rng, at: Point) -> Point {
     let (x, y) = if rng.percent(50) { (at.x, at.y) } else { (at.y, at.x) };
     Point::new(x * sign(rng), y * sign(rng))
 }
@@ -363,9 +375,13 @@ fn in_travel(rng: &mut Rng, settings: &Settings) -> Point {
     let any = Point::new(size(rng) * sign(rng), size(rng) * sign(rng));
     match rng.below(5) {
         0 => Point::new(settings.x_upper, settings.y_lower),
-        1 => Point::new(rng.between(settings.x_lower, settings.x_upper), rng.between(settings.y_lower, settings.y_upper)),
+        1 => any_in_travel(rng, settings),
         _ => into_travel(settings, any),
     }
+}
+
+pub fn any_in_travel(rng: &mut Rng, settings: &Settings) -> Point {
+    Point::new(rng.between(settings.x_lower, settings.x_upper), rng.between(settings.y_lower, settings.y_upper))
 }
 
 fn with_line(rng: &mut Rng, idle: Record) -> Record {
@@ -417,7 +433,7 @@ fn damage(rng: &mut Rng, made: &mut Record) {
     }
 }
 
-fn hurt_settings(rng: &mut Rng, settings: &mut Settings) {
+pub fn hurt_settings(rng: &mut Rng, settings: &mut Settings) {
     match rng.below(6) {
         0 => settings.p = rng.one_of(&[0, 1_001, u64::MAX], 0),
         1 => settings.w = rng.one_of(&[0, 999, 20_001, u64::MAX, u64::MAX / 60 + 1], 0),
@@ -472,27 +488,58 @@ mod tests {
     use super::*;
     use std::collections::HashMap;
 
-    /// Every answer of the paper turns up in a modest number of histories.
-    #[test]
-    fn histories_meet_every_answer() {
-        let mut met: HashMap<String, u64> = HashMap::new();
+    /// Which counts a call goes into: that of all, and those of the lines of text by where they are read.
+    fn counts(call: &Call, runner: &Runner) -> Vec<&'static str> {
+        let mut all = vec!["any"];
+        if matches!(call, Call::Text(_)) {
+            let book = runner.machine.book();
+            all.push("text");
+            all.extend(book.filter(|book| book.settings.p != 50).map(|_| "text at another p"));
+            all.extend(book.filter(|book| book.block.is_some()).map(|_| "text at work"));
+        }
+        all
+    }
+
+    /// How often each answer turns up in each count, by its first word, a refusal by its number too.
+    fn met() -> HashMap<(&'static str, String), u64> {
+        let mut met = HashMap::new();
         for index in 0..3_000 {
-            let mut machine = Machine::make(USUAL).0;
+            let mut runner = Runner::fresh();
             for call in history(1, index) {
-                let told = answer(&mut machine, &call);
+                let counts = counts(&call, &runner);
+                let told = runner.answer(&call);
                 let mut words = told.split(' ').skip(1);
                 let first = words.next().unwrap_or("").to_string();
                 let key = if first == "refused" { format!("refused {}", words.next().unwrap_or("")) } else { first };
-                *met.entry(key).or_default() += 1;
+                counts.into_iter().for_each(|count| *met.entry((count, key.clone())).or_default() += 1);
             }
         }
         println!("{met:?}");
-        let refused = [1, 2, 3, 9, 10, 11, 12, 13, 14, 15, 16].map(|n| format!("refused {n}"));
-        let others = ["made", "set", "bits", "byte", "done", "idle", "held", "ended", "spent", "full"].map(String::from);
-        for key in refused.iter().chain(&others) {
-            assert!(met.get(key).is_some_and(|&times| times > 20), "{key}");
+        met
+    }
+
+    /// Every answer of the paper turns up in a modest number of histories; a line of text meets its own questions and load's but
+    /// 13, at a p other than 50 too, and at a machine at work those that stand before 10.
+    #[test]
+    fn histories_meet_every_answer() {
+        let met = met();
+        let times = |count, key: &str| met.get(&(count, key.to_string())).copied().unwrap_or(0);
+        for number in [1, 2, 3, 9, 10, 11, 12, 13, 14, 15, 16].map(|n| format!("refused {n}")) {
+            assert!(times("any", &number) > 20, "{number}");
         }
-        assert!(!met.contains_key("refused 0"));
+        for word in ["made", "set", "bits", "none", "byte", "done", "idle", "held", "ended", "spent", "full"] {
+            assert!(times("any", word) > 20, "{word}");
+        }
+        for number in
+            (31..=37).chain([10, 11, 12, 14, 15, 16]).map(|n| format!("refused {n}")).chain(["bits".to_string(), "none".to_string()])
+        {
+            assert!(times("text", &number) > 20 && times("text at another p", &number) > 10, "{number}");
+        }
+        for number in (31..=37).chain([10]).map(|n| format!("refused {n}")) {
+            assert!(times("text at work", &number) > 3, "{number}");
+        }
+        assert!(times("text", "refused 9") > 20 && times("text at work", "none") > 3);
+        assert_eq!((times("text", "refused 13"), times("text at work", "bits"), times("any", "refused 0")), (0, 0, 0));
     }
 
     #[test]

@@ -1,29 +1,58 @@
-//! Made-up job texts, valid and damaged, for p 50, w 5,000 and the widest travel.
+//! Made-up job texts, valid and damaged, for p 50, w 5,000 and the widest travel or for settings made up too.
 
 use std::io::{self, Write};
+use std::ops::Range;
 
 use crate::book::Book;
-use crate::gen::{circle_point, point_at_the_ends_of_f};
+use crate::gen::{any_in_travel, circle_point, hurt_settings, into_travel, point_at_the_ends_of_f, turned};
 use crate::job::Reader;
-use crate::point::Point;
+use crate::point::{Point, ORIGIN};
 use crate::rng::Rng;
-use crate::settings::USUAL;
+use crate::settings::{Settings, USUAL};
+use crate::stream;
 
-/// Many texts in one stream: `%job INDEX LENGTH`, LF, the text's bytes, LF.
+/// Many texts for the usual settings in one stream.
 pub fn write_jobs(seed: u64, count: u64, out: &mut impl Write) -> io::Result<()> {
-    for index in 0..count {
-        let text = job(seed, index);
-        writeln!(out, "%job {index} {}", text.len())?;
-        out.write_all(&text)?;
-        out.write_all(b"\n")?;
+    (0..count).try_for_each(|index| stream::write(index, None, &job(seed, index), out))
+}
+
+/// The same with settings of their own.
+pub fn write_jobs_at(seed: u64, numbers: Range<u64>, out: &mut impl Write) -> io::Result<()> {
+    for index in numbers {
+        let (settings, text) = job_at(seed, index);
+        stream::write(index, Some(settings), &text, out)?;
     }
     Ok(())
 }
 
 /// The job of this number: the worked ones first, then made-up ones.
 pub fn job(seed: u64, index: u64) -> Vec<u8> {
-    let worked = usize::try_from(index).ok().and_then(worked);
-    worked.unwrap_or_else(|| made_up(&mut Rng::new(seed, index)))
+    worked(index).unwrap_or_else(|| made_up(&mut Rng::new(seed, index), USUAL))
+}
+
+/// The job of this number and its settings. The worked texts come first here too: at another p they mean another thing.
+pub fn job_at(seed: u64, index: u64) -> (Settings, Vec<u8>) {
+    let rng = &mut Rng::new(seed, index);
+    let settings = table(rng);
+    (settings, worked(index).unwrap_or_else(|| made_up(rng, settings)))
+}
+
+/// The settings of a table: any p, narrow and one-sided travel, once in a while refused ones.
+fn table(rng: &mut Rng) -> Settings {
+    let p = rng.one_of(&[1, 2, 3, 7, 8, 10, 40, 50, 80, 125, 999, 1_000], 50);
+    let w = if rng.percent(50) { rng.one_of(&[1_000, 1_001, 5_000, 19_999, 20_000], 5_000) } else { 1_000 + rng.below(19_001) };
+    let mut bound = || match rng.below(8) {
+        0 => 0,
+        1 => rng.between(0, 99),
+        2..=3 => rng.between(100, 9_999),
+        4 => rng.between(10_000, 999_999),
+        _ => 1_000_000,
+    };
+    let mut made = Settings { p, w, x_lower: -bound(), x_upper: bound(), y_lower: -bound(), y_upper: bound() };
+    if rng.percent(8) {
+        hurt_settings(rng, &mut made);
+    }
+    made
 }
 
 /// Texts that each aim at one rule.
@@ -129,7 +158,8 @@ const WORKED: [&str; 86] = [
     "X+5Y-0G1F6000\nX-0.000Y+0.020\n",
 ];
 
-fn worked(index: usize) -> Option<Vec<u8>> {
+fn worked(index: u64) -> Option<Vec<u8>> {
+    let index = usize::try_from(index).ok()?;
     if let Some(text) = WORKED.get(index) {
         return Some(text.as_bytes().to_vec());
     }
@@ -181,9 +211,9 @@ fn filled(bytes: usize, first: &[u8]) -> Vec<u8> {
     text
 }
 
-fn made_up(rng: &mut Rng) -> Vec<u8> {
+fn made_up(rng: &mut Rng, settings: Settings) -> Vec<u8> {
     let mut text = Vec::new();
-    let (mut reader, mut book) = (Reader::default(), Book::make(USUAL).0);
+    let (mut reader, mut book) = (Reader::default(), Book::make(settings).0);
     for _ in 0..rng.between(1, 14) {
         let line = line(rng, &reader, &book);
         reader.line(&mut book, &line);
@@ -201,17 +231,19 @@ fn made_up(rng: &mut Rng) -> Vec<u8> {
 }
 
 /// A line that is good where the reader stands, now and then aimed at a refusal.
-fn line(rng: &mut Rng, reader: &Reader, book: &Book) -> Vec<u8> {
+pub fn line(rng: &mut Rng, reader: &Reader, book: &Book) -> Vec<u8> {
     let mut words = Vec::new();
     let g = match reader.g {
         Some(g) if rng.percent(50) => g,
+        // No circle fits where the machine stands at an edge.
+        _ if clearance(book) < 2 && rng.percent(80) => 1,
         _ => 1 + rng.below(3),
     };
     if reader.g != Some(g) || rng.percent(20) {
         words.push(format!("G{}", digits(rng, g)));
     }
     if (reader.f.is_none() && !rng.percent(2)) || rng.percent(25) {
-        let f = feed(rng);
+        let f = feed(rng, &book.settings);
         words.push(format!("F{}", digits(rng, f)));
     }
     if rng.percent(30) {
@@ -219,21 +251,42 @@ fn line(rng: &mut Rng, reader: &Reader, book: &Book) -> Vec<u8> {
         words.push(format!("N{}", digits(rng, n)));
     }
     if !rng.percent(8) {
-        words.extend(if g == 1 { straight(rng, book.point) } else { round(rng, g, book.point) });
+        words.extend(if g == 1 { straight(rng, book) } else { round(rng, g, book) });
     }
     joined(rng, words)
 }
 
 /// "F": 6000 is the most at p 50, w 5,000.
-fn feed(rng: &mut Rng) -> u64 {
+fn feed(rng: &mut Rng, settings: &Settings) -> u64 {
+    let most = settings.q0() / settings.p;
     match rng.below(40) {
         0 => 0,
-        1 => 6_001,
+        1 => most + 1,
         2 => 9_999_999,
-        3..=8 => 6_000,
+        3..=8 => most,
         9..=11 => 1 + rng.below(50),
-        _ => 1 + rng.below(6_000),
+        _ => 1 + rng.below(most),
     }
+}
+
+/// From one position that thousandths of a millimetre can say to the next, in pulses: p over what it shares with 1,000.
+fn step(settings: &Settings) -> i64 {
+    let p = settings.p as i64;
+    let shared = (1..=p).filter(|by| p % by == 0 && 1_000 % by == 0).max();
+    p / shared.unwrap_or(1)
+}
+
+/// In a narrow travel most ways are bent into it, so that a job goes on.
+fn is_narrow(settings: &Settings) -> bool {
+    Settings { p: USUAL.p, w: USUAL.w, ..*settings } != USUAL
+}
+
+/// The way to the nearest bound, in steps.
+fn clearance(book: &Book) -> i64 {
+    let (at, settings) = (book.point, &book.settings);
+    let x = (at.x - settings.x_lower).min(settings.x_upper - at.x);
+    let y = (at.y - settings.y_lower).min(settings.y_upper - at.y);
+    x.min(y) / step(settings)
 }
 
 fn pulses(rng: &mut Rng) -> i64 {
@@ -250,60 +303,84 @@ fn pulses(rng: &mut Rng) -> i64 {
 
 /// Mostly small; 0 once in a while, a very great circle hardly ever.
 fn radius(rng: &mut Rng) -> i64 {
-    let most = match rng.below(1_000) {
-        0..=9 => 0,
-        10..=499 => 9,
-        500..=799 => 90,
-        800..=979 => 900,
-        980..=998 => 9_000,
+    let most = match rng.below(10_000) {
+        0..=99 => 0,
+        100..=4_999 => 9,
+        5_000..=7_999 => 90,
+        8_000..=9_799 => 900,
+        9_800..=9_998 => 9_000,
         _ => 1_000_000,
     };
     rng.between(most.min(1), most)
 }
 
-fn straight(rng: &mut Rng, at: Point) -> Vec<String> {
-    let (x, y) = match rng.below(12) {
-        0 => (at.x, at.y),
-        1 => (0, 0),
-        2 => (pulses(rng), pulses(rng)),
-        _ => (at.x + pulses(rng), at.y + pulses(rng)),
+fn straight(rng: &mut Rng, book: &Book) -> Vec<String> {
+    let (at, settings) = (book.point, &book.settings);
+    let step = step(settings);
+    let way = |rng: &mut Rng| Point::new(pulses(rng) * step, pulses(rng) * step);
+    let mut end = match rng.below(12) {
+        0 => at,
+        1 => ORIGIN,
+        2 => way(rng),
+        _ => at.moved_by(way(rng)),
     };
-    let mut words = Vec::new();
-    if x != at.x || rng.percent(30) {
-        words.push(length(rng, 'X', x));
+    if is_narrow(settings) && rng.percent(90) {
+        let inside = if rng.percent(50) { any_in_travel(rng, settings) } else { into_travel(settings, end) };
+        end = Point::new(inside.x / step * step, inside.y / step * step);
     }
-    if y != at.y || rng.percent(30) {
-        words.push(length(rng, 'Y', y));
+    let mut words = Vec::new();
+    if end.x != at.x || rng.percent(30) {
+        words.push(length(rng, 'X', end.x, settings.p));
+    }
+    if end.y != at.y || rng.percent(30) {
+        words.push(length(rng, 'Y', end.y, settings.p));
     }
     words
 }
 
-fn round(rng: &mut Rng, g: u64, at: Point) -> Vec<String> {
-    let long = radius(rng);
+/// (I, J). In a narrow travel mostly such that the whole circle is in it, if one can be.
+fn centre(rng: &mut Rng, book: &Book) -> Point {
+    let step = step(&book.settings);
+    let room = clearance(book) / 3;
+    let mut long = radius(rng);
+    if is_narrow(&book.settings) && long > room && rng.percent(90) {
+        long = 1 + long % room.max(1);
+    }
     let short = if rng.percent(40) { 0 } else { rng.between(-long, long) };
     let (i, j) = if rng.percent(50) { (long, short) } else { (short, -long) };
-    let n = i * i + j * j;
-    let start = Point::new(-i, -j);
-    let end = match rng.below(10) {
+    Point::new(i * step, j * step)
+}
+
+/// An end seen from the centre: full turns, anywhere on the circle, at the ends of F, and one pulse beside.
+fn arc_end(rng: &mut Rng, n: i64, start: Point, step: i64) -> Point {
+    match rng.below(10) {
         0..=3 => start,
+        // Of the points of the circle a coarse step says hardly any but the mirror images of the start.
+        4..=8 if step > 1 => turned(rng, start),
         4..=8 => circle_point(rng, n.max(1)).unwrap_or(start),
         9 if rng.percent(50) => point_at_the_ends_of_f(rng, n.max(1)).unwrap_or(start),
         _ if rng.percent(60) => start,
         _ => Point::new(start.x + rng.between(-1, 1), start.y + rng.between(-1, 1)),
-    };
-    let (x, y) = (at.x + i + end.x, at.y + j + end.y);
+    }
+}
+
+fn round(rng: &mut Rng, g: u64, book: &Book) -> Vec<String> {
+    let (at, p) = (book.point, book.settings.p);
+    let Point { x: i, y: j } = centre(rng, book);
+    let seen = arc_end(rng, i * i + j * j, Point::new(-i, -j), step(&book.settings));
+    let (x, y) = (at.x + i + seen.x, at.y + j + seen.y);
     let mut words = Vec::new();
     if x != at.x || rng.percent(20) {
-        words.push(length(rng, 'X', x));
+        words.push(length(rng, 'X', x, p));
     }
     if y != at.y || rng.percent(20) {
-        words.push(length(rng, 'Y', y));
+        words.push(length(rng, 'Y', y, p));
     }
     if i != 0 || rng.percent(20) {
-        words.push(length(rng, 'I', i));
+        words.push(length(rng, 'I', i, p));
     }
     if j != 0 || (i == 0 && g == 2) || rng.percent(20) {
-        words.push(length(rng, 'J', j));
+        words.push(length(rng, 'J', j, p));
     }
     words
 }
@@ -317,9 +394,9 @@ fn digits(rng: &mut Rng, value: u64) -> String {
     }
 }
 
-/// Pulses at p 50 as millimetres: a pulse is 20 thousandths.
-fn length(rng: &mut Rng, letter: char, pulses: i64) -> String {
-    let thousandths = pulses.unsigned_abs() * 20;
+/// Pulses as millimetres; at p 50 a pulse is 20 thousandths.
+fn length(rng: &mut Rng, letter: char, pulses: i64, p: u64) -> String {
+    let thousandths = pulses.unsigned_abs() * 1_000 / p;
     let whole = digits(rng, thousandths / 1_000);
     let part = format!("{:03}", thousandths % 1_000);
     let short = part.trim_end_matches('0');
@@ -352,7 +429,7 @@ fn joined(rng: &mut Rng, mut words: Vec<String>) -> Vec<u8> {
 }
 
 /// One thing wrong somewhere in the text.
-fn damage(rng: &mut Rng, text: &mut Vec<u8>) {
+pub fn damage(rng: &mut Rng, text: &mut Vec<u8>) {
     let at = rng.below(text.len() as u64 + 1) as usize;
     let end_of_line = text.iter().skip(at).position(|&byte| byte == b'\n').map_or(text.len(), |more| at + more);
     match rng.below(16) {
@@ -406,25 +483,56 @@ mod tests {
     use crate::listing::{check, Pace};
     use std::collections::HashMap;
 
-    #[test]
-    fn jobs_meet_every_refusal() {
+    /// How often each last line turns up: the number of a refusal, or `total`.
+    fn met(jobs: impl Iterator<Item = (Settings, Vec<u8>)>) -> HashMap<String, u64> {
         let mut met: HashMap<String, u64> = HashMap::new();
-        for index in 0..6_000 {
+        for (settings, text) in jobs {
             let mut out = Vec::new();
-            check(&job(1, index), Pace::AtOnce, &mut out).unwrap();
+            check(&text, &settings, Pace::AtOnce, &mut out).unwrap();
             let out = String::from_utf8(out).unwrap();
             let last: Vec<&str> = out.lines().last().unwrap().split(' ').collect();
             let key = if last[0] == "line" { last[3].to_string() } else { last[0].to_string() };
             *met.entry(key).or_default() += 1;
         }
         println!("{met:?}");
+        met
+    }
+
+    fn every_refusal(met: &HashMap<String, u64>) {
         for number in [11, 12, 14, 15, 16, 30, 31, 32, 33, 34, 35, 36, 37] {
             assert!(met.contains_key(&number.to_string()), "{number}");
         }
-        assert!(met["total"] > 1_500);
         for never in [0, 9, 10, 13] {
             assert!(!met.contains_key(&never.to_string()), "{never} cannot come out of the check program");
         }
+    }
+
+    #[test]
+    fn jobs_meet_every_refusal() {
+        let met = met((0..2_000).map(|index| (USUAL, job(1, index))));
+        every_refusal(&met);
+        assert!(met["total"] > 500);
+    }
+
+    /// At settings of their own too, those refused included, and a good part of the jobs is read to its end.
+    #[test]
+    fn jobs_at_other_settings() {
+        let met = met((0..2_000).map(|index| job_at(1, index)));
+        every_refusal(&met);
+        assert!(met["total"] > 500);
+        for number in 1..=3 {
+            assert!((0..2_000).any(|index| job_at(1, index).0.refusal() == Some(number)), "{number}");
+        }
+    }
+
+    /// Seed 9 is one of tests/second: among its jobs is a long listing at another p, which comes in many pieces.
+    #[test]
+    fn a_long_listing() {
+        let (settings, text) = job_at(9, 96);
+        let mut out = Vec::new();
+        check(&text, &settings, Pace::AtOnce, &mut out).unwrap();
+        assert!(settings.refusal().is_none() && settings.p != USUAL.p && text.len() == 65_536);
+        assert!(out.iter().filter(|&&byte| byte == b'\n').count() > 5_000);
     }
 
     #[test]

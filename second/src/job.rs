@@ -140,7 +140,7 @@ mod tests {
         None
     }
 
-    /// Readings C1, C5, C6, C7.
+    /// docs/DECISIONS.md, "Job text, the order".
     #[test]
     fn each_question_over_the_whole_line_before_the_next() {
         for (line, number) in [
@@ -173,7 +173,7 @@ mod tests {
         }
     }
 
-    /// Readings B3, C6: G and F are known after a line that makes no block; I and J never carry over.
+    /// G and F are known after a line that makes no block (docs/DECISIONS.md, "Job text, the order"); I and J never carry over.
     #[test]
     fn g_and_f_count_until_changed() {
         assert_eq!(refusal(&["G1 X0 F0", "X1"]), Some(11));

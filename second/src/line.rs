@@ -82,7 +82,7 @@ mod tests {
                 assert_eq!(last, (a, b));
             }
         }
-        // Readings, section A: "nearly sharp: 10000/20689 = 0.4833 at (108, 95), c 122".
+        // One half is nearly sharp: 10000/20689 = 0.4833 at (108, 95), c 122.
         assert!(largest.0 * 20689 >= 10000 * largest.1);
         let (x, y) = points(108, 95)[121];
         assert_eq!((108 * y - 95 * x).pow(2), 10000);

@@ -1,10 +1,12 @@
 //! "The check program": a job text to its listing.
 
+use std::fmt;
 use std::io::{self, Write};
 
 use crate::book::{Book, Path};
 use crate::job::{Meaning, Reader};
-use crate::settings::USUAL;
+use crate::settings::Settings;
+use crate::sound::record_of;
 
 /// How a block comes to its end: by the tick number of "Feed divider", or tick by tick.
 #[derive(Clone, Copy, PartialEq, Eq, Debug)]
@@ -16,38 +18,80 @@ pub enum Pace {
 /// "is the text at most 65,536 bytes (asked once, line 1)? 30."
 const LONGEST_TEXT: usize = 65_536;
 
-/// "the last line gives blocks, cycles and ticks"
-#[derive(Default)]
-struct Total {
+/// A check on its way or over: the machine where the last block ended, the G and F known, and "blocks, cycles and ticks" so far.
+pub struct Check {
+    book: Book,
+    known: Reader,
+    pace: Pace,
     blocks: u64,
     cycles: u128,
     ticks: u128,
 }
 
-pub fn check(text: &[u8], pace: Pace, out: &mut impl Write) -> io::Result<()> {
+/// `RECORD known G F done BLOCKS CYCLES TICKS`; 0 and -1 where no G and no F is known.
+impl fmt::Display for Check {
+    fn fmt(&self, out: &mut fmt::Formatter) -> fmt::Result {
+        let (g, f) = (self.known.g.unwrap_or(0), self.known.f.map_or(-1, i128::from));
+        write!(out, "{} known {g} {f} done {} {} {}", record_of(&self.book), self.blocks, self.cycles, self.ticks)
+    }
+}
+
+/// The check at a machine with these settings. Where they are refused a first line tells it, and the machine is the one that such
+/// a make answers.
+pub fn check(text: &[u8], settings: &Settings, pace: Pace, out: &mut impl Write) -> io::Result<Check> {
+    let (book, refusal) = Book::make(*settings);
+    if let Some(number) = refusal {
+        writeln!(out, "settings refused {number}")?;
+    }
     writeln!(out, "block line kind cycles x y bits")?;
-    if text.len() > LONGEST_TEXT {
-        return writeln!(out, "line 1 refused 30");
+    let mut check = Check { book, known: Reader::default(), pace, blocks: 0, cycles: 0, ticks: 0 };
+    let refused = if text.len() > LONGEST_TEXT { Some((1, 30)) } else { check.rows(text, out)? };
+    match refused {
+        // "At a refusal the rows so far stand and the last line is `line 3 refused 15`"
+        Some((line, number)) => writeln!(out, "line {line} refused {number}")?,
+        None => writeln!(out, "total {} {} {}", check.blocks, check.cycles, check.ticks)?,
     }
-    let (mut reader, mut book, mut total) = (Reader::default(), Book::make(USUAL).0, Total::default());
-    for (at, line) in lines(text).enumerate() {
-        let number = at + 1;
-        match reader.line(&mut book, line) {
-            Meaning::NoBlock => (),
-            // "At a refusal the rows so far stand and the last line is `line 3 refused 15`"
-            Meaning::Refused(refusal) => return writeln!(out, "line {number} refused {refusal}"),
-            Meaning::Loaded { bits } => row(&mut book, pace, number, bits, &mut total, out)?,
+    Ok(check)
+}
+
+impl Check {
+    /// A row for each block; the text line that is refused, if one is, with its number.
+    fn rows(&mut self, text: &[u8], out: &mut impl Write) -> io::Result<Option<(usize, u32)>> {
+        for (at, line) in lines(text).enumerate() {
+            match self.known.line(&mut self.book, line) {
+                Meaning::NoBlock => (),
+                Meaning::Refused(refusal) => return Ok(Some((at + 1, refusal))),
+                Meaning::Loaded { bits } => self.row(at + 1, bits, out)?,
+            }
         }
+        Ok(None)
     }
-    writeln!(out, "total {} {} {}", total.blocks, total.cycles, total.ticks)
+
+    /// "Fields: block number, text line, L or A, cycles, absolute end, register width". "Each block is
+    /// loaded once the one before has ended, remainder kept."
+    fn row(&mut self, line: usize, bits: u32, out: &mut impl Write) -> io::Result<()> {
+        let book = &mut self.book;
+        let kind = match book.block.map(|block| block.path) {
+            Some(Path::Arc { .. }) => 'A',
+            _ => 'L',
+        };
+        let (cycles, ticks) = match self.pace {
+            Pace::AtOnce => (book.block.map_or(0, |block| block.k), book.finish_at_once()),
+            Pace::TickByTick => tick_to_the_end(book),
+        };
+        self.blocks += 1;
+        self.cycles += u128::from(cycles);
+        self.ticks += ticks;
+        writeln!(out, "{} {line} {kind} {cycles} {} {bits}", self.blocks, book.point)
+    }
 }
 
 /// The tick bytes of the job's blocks, at most so many: every one is ticked.
-pub fn ticks(text: &[u8], most: u64, out: &mut impl Write) -> io::Result<()> {
+pub fn ticks(text: &[u8], settings: &Settings, most: u64, out: &mut impl Write) -> io::Result<()> {
     if text.len() > LONGEST_TEXT {
         return Ok(());
     }
-    let (mut reader, mut book, mut left) = (Reader::default(), Book::make(USUAL).0, most);
+    let (mut reader, mut book, mut left) = (Reader::default(), Book::make(*settings).0, most);
     for line in lines(text) {
         if let Meaning::Refused(_) = reader.line(&mut book, line) {
             return Ok(());
@@ -70,23 +114,6 @@ fn lines(text: &[u8]) -> impl Iterator<Item = &[u8]> {
     without_last_lf.split(|&byte| byte == 10).filter(move |_| !none)
 }
 
-/// "Fields: block number, text line, L or A, cycles, absolute end, register width". "Each block is
-/// loaded once the one before has ended, remainder kept."
-fn row(book: &mut Book, pace: Pace, line: usize, bits: u32, total: &mut Total, out: &mut impl Write) -> io::Result<()> {
-    let kind = match book.block.map(|block| block.path) {
-        Some(Path::Arc { .. }) => 'A',
-        _ => 'L',
-    };
-    let (cycles, ticks) = match pace {
-        Pace::AtOnce => (book.block.map_or(0, |block| block.k), book.finish_at_once()),
-        Pace::TickByTick => tick_to_the_end(book),
-    };
-    total.blocks += 1;
-    total.cycles += u128::from(cycles);
-    total.ticks += ticks;
-    writeln!(out, "{} {line} {kind} {cycles} {} {} {bits}", total.blocks, book.point.x, book.point.y)
-}
-
 /// Cycles by the bytes that mark one, ticks by counting, the end by the byte that marks it.
 fn tick_to_the_end(book: &mut Book) -> (u64, u128) {
     let (mut cycles, mut ticks) = (0, 0);
@@ -104,11 +131,16 @@ fn tick_to_the_end(book: &mut Book) -> (u64, u128) {
 mod tests {
     use super::*;
     use crate::gen_jobs;
+    use crate::settings::USUAL;
+
+    fn listing_at(text: &[u8], settings: &Settings, pace: Pace) -> String {
+        let mut out = Vec::new();
+        check(text, settings, pace, &mut out).unwrap();
+        String::from_utf8(out).unwrap()
+    }
 
     fn listing(text: &[u8], pace: Pace) -> String {
-        let mut out = Vec::new();
-        check(text, pace, &mut out).unwrap();
-        String::from_utf8(out).unwrap()
+        listing_at(text, &USUAL, pace)
     }
 
     fn fast(text: &[u8]) -> String {
@@ -157,16 +189,43 @@ mod tests {
         }
     }
 
-    /// "a separate slow mode": ticks one by one and the tick number agree on generated jobs.
+    /// Another p is another length, and another travel another 12; settings that are refused are told first.
+    #[test]
+    fn other_settings() {
+        let narrow = Settings { p: 10, w: 1_000, x_lower: 0, x_upper: 20, y_lower: -5, y_upper: 0 };
+        let at_narrow = |text: &[u8]| listing_at(text, &narrow, Pace::AtOnce);
+        assert_eq!(at_narrow(b"G1X2F6000"), format!("{HEADER}1 1 L 20 20 0 5\ntotal 1 20 20\n"));
+        assert_eq!(at_narrow(b"G1X2F6001"), format!("{HEADER}line 1 refused 11\n"));
+        assert_eq!(at_narrow(b"G1X2.1F1"), format!("{HEADER}line 1 refused 12\n"));
+        assert_eq!(at_narrow(b"G1X0.02F1"), format!("{HEADER}line 1 refused 35\n"));
+        let refused = Settings { x_lower: 1, ..narrow };
+        assert_eq!(
+            listing_at(b"G1X0.02F6000", &refused, Pace::AtOnce),
+            format!("settings refused 3\n{HEADER}1 1 L 1 1 0 1\ntotal 1 1 1\n")
+        );
+    }
+
+    /// What is left is the machine at the end of the last block, and what is known; a refused line adds nothing.
+    #[test]
+    fn what_a_job_leaves() {
+        let end = |text: &[u8]| check(text, &USUAL, Pace::AtOnce, &mut Vec::new()).unwrap().to_string();
+        let usual = "50 5000 -1000000 1000000 -1000000 1000000";
+        assert_eq!(end(b""), format!("{usual} 0 0 0 0 none known 0 -1 done 0 0 0"));
+        assert_eq!(end(b"G1X0.02F7\nG2F8\nG3F9X1"), format!("{usual} 1 0 0 300 none known 2 8 done 1 1 858"));
+        assert_eq!(end(&[b'\n'; 65_537]), format!("{usual} 0 0 0 0 none known 0 -1 done 0 0 0"));
+    }
+
+    /// "a separate slow mode": ticks one by one and the tick number agree on generated jobs, at the usual settings and at others.
     #[test]
     fn ticking_agrees_with_the_tick_number() {
         let mut compared = 0;
-        for index in 0..4_000 {
-            let text = gen_jobs::job(7, index);
-            let at_once = fast(&text);
-            let ticks = at_once.lines().last().and_then(|last| last.split(' ').nth(3)).and_then(|n| n.parse::<u64>().ok());
-            if ticks.is_some_and(|ticks| ticks < 200_000) {
-                assert_eq!(at_once, listing(&text, Pace::TickByTick), "job {index}");
+        for index in 0..2_000 {
+            let (settings, text) = if index % 2 == 0 { (USUAL, gen_jobs::job(7, index)) } else { gen_jobs::job_at(7, index) };
+            let (mut at_once, mut slowly) = (Vec::new(), Vec::new());
+            let end = check(&text, &settings, Pace::AtOnce, &mut at_once).unwrap();
+            if (1..100_000).contains(&end.ticks) {
+                let other = check(&text, &settings, Pace::TickByTick, &mut slowly).unwrap();
+                assert_eq!((at_once, end.to_string()), (slowly, other.to_string()), "job {index}");
                 compared += 1;
             }
         }

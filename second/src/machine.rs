@@ -3,21 +3,11 @@
 
 use crate::book::{Book, Load, Why};
 use crate::settings::Settings;
-use crate::sound::{book_of, Record, Work};
+use crate::sound::{book_of, record_of, Record};
 
 pub enum Machine {
     Sound(Book),
     Unsound(Record),
-}
-
-/// What a line of a call file shows of a record.
-#[derive(Clone, Copy, PartialEq, Eq, Debug)]
-pub struct Shown {
-    pub x: i64,
-    pub y: i64,
-    pub held: bool,
-    pub remainder: u64,
-    pub busy: bool,
 }
 
 const UNSOUND: u32 = 9;
@@ -42,7 +32,8 @@ impl Machine {
         }
     }
 
-    fn asked(&mut self) -> Result<&mut Book, u32> {
+    /// The book, if question 9 lets a call through.
+    pub fn asked(&mut self) -> Result<&mut Book, u32> {
         match self {
             Machine::Sound(book) => Ok(book),
             Machine::Unsound(_) => Err(UNSOUND),
@@ -77,11 +68,10 @@ impl Machine {
         Ok(())
     }
 
-    pub fn shown(&self) -> Shown {
-        let (point, held, remainder, busy) = match self {
-            Machine::Sound(book) => (book.point, book.held, book.remainder, book.block.is_some()),
-            Machine::Unsound(record) => (record.point, record.held, record.remainder, record.work != Work::Nothing),
-        };
-        Shown { x: point.x, y: point.y, held, remainder, busy }
+    pub fn record(&self) -> Record {
+        match self {
+            Machine::Sound(book) => record_of(book),
+            Machine::Unsound(record) => *record,
+        }
     }
 }

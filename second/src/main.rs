@@ -7,6 +7,7 @@ mod circles;
 mod crc;
 #[cfg(test)]
 mod demand3;
+mod fields;
 mod gen;
 mod gen_jobs;
 mod job;
@@ -18,6 +19,7 @@ mod rng;
 mod root;
 mod settings;
 mod sound;
+mod stream;
 mod words;
 
 use std::fs::{self, File};
@@ -25,19 +27,24 @@ use std::io::{self, BufRead, BufReader, BufWriter, Read, Write};
 use std::path::Path;
 use std::process::ExitCode;
 
-use calls::Left;
+use calls::{Left, Told};
+use fields::Fields;
 use listing::Pace;
+use settings::{Settings, USUAL};
 
 const USAGE: &str = "\
-second check [FILE]                  job text to its listing
-second check-slow [FILE]             the same, every tick ticked
-second ticks MOST [FILE]             the tick bytes of a job text, at most so many
-second checks [FILE]                 a stream of jobs (gen jobs) to `%job INDEX LENGTH` lines and listings
-second calls [FILE]                  call file to call file with answers
+second check [AT] [FILE]             job text to its listing
+second check-slow [AT] [FILE]        the same, every tick ticked
+second ticks MOST [AT] [FILE]        the tick bytes of a job text, at most so many
+second checks [FILE]                 a stream of jobs to their `%job` lines, listings and what they leave
+second calls [--records] [FILE]      call file to call file with answers, and with the whole record after each
 second gen calls SEED COUNT          so many histories
 second gen jobs SEED COUNT [DIR]     so many job texts, as a stream or as files DIR/INDEX.txt
 second gen job SEED INDEX            the one job text of that number
-second circles MAXN [totals]         all arcs of all circles to MAXN";
+second gen jobs-at SEED COUNT        as a stream, each with settings of its own
+second gen job-at SEED INDEX         the one of that number, as a stream
+second circles MAXN [totals]         all arcs of all circles to MAXN
+AT is --at P W XLO XHI YLO YHI, the settings; without it p 50, w 5,000 and the widest travel";
 
 enum Failure {
     Usage,
@@ -52,10 +59,7 @@ impl From<io::Error> for Failure {
 
 impl From<Left> for Failure {
     fn from(left: Left) -> Failure {
-        match left {
-            Left::AtLine(number) => Failure::Told(format!("line {number}: no call that is known")),
-            Left::Io(error) => error.into(),
-        }
+        Failure::Told(left.to_string())
     }
 }
 
@@ -78,18 +82,46 @@ fn main() -> ExitCode {
 
 fn run(arguments: &[&str], out: &mut impl Write) -> Result<(), Failure> {
     match *arguments {
-        ["check", ref file @ ..] => Ok(listing::check(&all_of(file)?, Pace::AtOnce, out)?),
-        ["check-slow", ref file @ ..] => Ok(listing::check(&all_of(file)?, Pace::TickByTick, out)?),
-        ["ticks", most, ref file @ ..] => Ok(listing::ticks(&all_of(file)?, number(most)?, out)?),
-        ["checks", ref file @ ..] => checks(&all_of(file)?, out),
-        ["calls", ref file @ ..] => Ok(calls::answer_file(&mut opened(file)?, out)?),
+        ["check", ref rest @ ..] => check(rest, Pace::AtOnce, out),
+        ["check-slow", ref rest @ ..] => check(rest, Pace::TickByTick, out),
+        ["ticks", most, ref rest @ ..] => {
+            let (settings, file) = at(rest)?;
+            Ok(listing::ticks(&all_of(file)?, &settings, number(most)?, out)?)
+        }
+        ["checks", ref file @ ..] => Ok(stream::check_all(&all_of(file)?, out)?),
+        ["calls", "--records", ref file @ ..] => Ok(calls::answer_file(&mut opened(file)?, Told::Records, out)?),
+        ["calls", ref file @ ..] => Ok(calls::answer_file(&mut opened(file)?, Told::Answers, out)?),
         ["gen", "calls", seed, count] => Ok(gen::write_calls(number(seed)?, number(count)?, out)?),
         ["gen", "jobs", seed, count] => Ok(gen_jobs::write_jobs(number(seed)?, number(count)?, out)?),
         ["gen", "jobs", seed, count, directory] => job_files(number(seed)?, number(count)?, Path::new(directory)),
         ["gen", "job", seed, index] => Ok(out.write_all(&gen_jobs::job(number(seed)?, number(index)?))?),
+        ["gen", "jobs-at", seed, count] => Ok(gen_jobs::write_jobs_at(number(seed)?, 0..number(count)?, out)?),
+        ["gen", "job-at", seed, index] => {
+            let index = number(index)?;
+            Ok(gen_jobs::write_jobs_at(number(seed)?, index..index.saturating_add(1), out)?)
+        }
         ["circles", most] => Ok(circles::write_all(largest_n(most)?, out)?),
         ["circles", most, "totals"] => Ok(circles::write_totals(largest_n(most)?, out)?),
         _ => Err(Failure::Usage),
+    }
+}
+
+fn check(rest: &[&str], pace: Pace, out: &mut impl Write) -> Result<(), Failure> {
+    let (settings, file) = at(rest)?;
+    listing::check(&all_of(file)?, &settings, pace, out)?;
+    Ok(())
+}
+
+/// The settings that `--at` gives, the usual ones where it does not stand, and the words after them.
+fn at<'a>(rest: &'a [&'a str]) -> Result<(Settings, &'a [&'a str]), Failure> {
+    match rest {
+        ["--at", p, w, xlo, xhi, ylo, yhi, file @ ..] => {
+            let words = [*p, *w, *xlo, *xhi, *ylo, *yhi].join(" ");
+            let mut fields = Fields::of(&words);
+            let settings = fields.settings().filter(|_| fields.end().is_some()).ok_or(Failure::Usage)?;
+            Ok((settings, file))
+        }
+        _ => Ok((USUAL, rest)),
     }
 }
 
@@ -117,26 +149,6 @@ fn all_of(file: &[&str]) -> Result<Vec<u8>, Failure> {
     let mut text = Vec::new();
     opened(file)?.read_to_end(&mut text)?;
     Ok(text)
-}
-
-/// Each job of a stream: its `%job` line, then its listing.
-fn checks(stream: &[u8], out: &mut impl Write) -> Result<(), Failure> {
-    let mut rest = stream;
-    while !rest.is_empty() {
-        let (head, length, after) = job_head(rest).ok_or(Failure::Told("not a stream of jobs".to_string()))?;
-        let (text, after) = after.split_at_checked(length).ok_or(Failure::Told(format!("{head}: cut short")))?;
-        writeln!(out, "{head}")?;
-        listing::check(text, Pace::AtOnce, out)?;
-        rest = after.strip_prefix(b"\n").unwrap_or(after);
-    }
-    Ok(())
-}
-
-fn job_head(stream: &[u8]) -> Option<(&str, usize, &[u8])> {
-    let lf = stream.iter().position(|&byte| byte == b'\n')?;
-    let head = std::str::from_utf8(&stream[..lf]).ok().filter(|head| head.starts_with("%job "))?;
-    let length = head.split(' ').nth(2)?.parse().ok()?;
-    Some((head, length, &stream[lf + 1..]))
 }
 
 fn job_files(seed: u64, count: u64, directory: &Path) -> Result<(), Failure> {

@@ -78,7 +78,6 @@ fn sound_arc(record: &Record, kind: Kind, centre: Point, n: u64, end: Point, f: 
 }
 
 /// The record of a book, as the machine would hold it.
-#[cfg(test)]
 pub fn record_of(book: &Book) -> Record {
     let work = match book.block {
         None => Work::Nothing,

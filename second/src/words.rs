@@ -106,7 +106,7 @@ mod tests {
         words(line.as_bytes()).is_some()
     }
 
-    /// Readings C2 and C3.
+    /// 01's own words on words; CR is no blank (docs/DECISIONS.md, "The lines of a text").
     #[test]
     fn lines_that_are_words() {
         for line in ["", "   ", "N20 G01 X20 Y40 F100", "G1X5Y-6", "X+5", "X-0", "X-0.000", "G0000001", "N0", " X9999999.999 ", "N1N1"] {

@@ -1,27 +1,81 @@
-//! Safe Rust over the C interface of the proved pulse core (`include/verdaizka.h`). The calls themselves are proved; this file and its declarations
-//! of them are not.
+//! Safe Rust over the C interface of the proved pulse core (`include/verdaizka.h`). The calls themselves are proved; this file and its
+//! declarations of them are not.
 
 pub mod crc;
+pub mod fields;
 
-/// The record as the core has it, in words of 64 bits; `include/verdaizka.h` says which is what.
-pub const WORDS: usize = 18;
+/// The record as the core has it, in words of 64 bits.
+pub const WORDS: usize = 19;
 
-/// A check as the core has it: the words of its machine's record, then how far it has come.
-pub const CHECK_WORDS: usize = 26;
+/// The G and F that a job text has made known, in words of 64 bits.
+pub const KNOWN_WORDS: usize = 2;
+
+/// How far a check has come, in words of 64 bits.
+pub const PROGRESS_WORDS: usize = 8;
+
+/// Word 0 of every record: the layout that this file knows. Words with another number there are no record.
+pub const ABI: i64 = 1;
+
+/// Which word is what, as `include/verdaizka.h` says it.
+pub mod word {
+    pub const ABI: usize = 0;
+    pub const P: usize = 1;
+    pub const W: usize = 2;
+    pub const X_LOWER: usize = 3;
+    pub const X_UPPER: usize = 4;
+    pub const Y_LOWER: usize = 5;
+    pub const Y_UPPER: usize = 6;
+    pub const X: usize = 7;
+    pub const Y: usize = 8;
+    pub const HELD: usize = 9;
+    pub const REMAINDER: usize = 10;
+    /// 0 nothing, then the kinds below.
+    pub const WORK: usize = 11;
+    /// The seven numbers of what is in work.
+    pub const NUMBERS: usize = 12;
+
+    pub const KIND_LINE: i64 = 1;
+    pub const KIND_CW: i64 = 2;
+    pub const KIND_CCW: i64 = 3;
+
+    /// Of `Known`: 1, 2 or 3, 0 none; and millimetres per minute, -1 none.
+    pub const KNOWN_G: usize = 0;
+    pub const KNOWN_F: usize = 1;
+
+    /// Of a check's progress: 0 before the header, 1 at the text lines, 2 over.
+    pub const STAGE: usize = 0;
+    /// Where the next text line begins, in bytes.
+    pub const AT: usize = 1;
+    pub const PROGRESS_G: usize = 2;
+    pub const PROGRESS_F: usize = 3;
+    pub const LINES: usize = 4;
+    pub const BLOCKS: usize = 5;
+    pub const CYCLES: usize = 6;
+    pub const TICKS: usize = 7;
+}
 
 // A slice passes as its pointer and its length.
 extern "C" {
-    fn vz_make(words: *mut i64, p: i64, w: i64, xlo: i64, xhi: i64, ylo: i64, yhi: i64) -> i64;
-    fn vz_load_line(words: *mut i64, x: i64, y: i64, feed: i64) -> i64;
-    fn vz_load_cw(words: *mut i64, x: i64, y: i64, feed: i64, i: i64, j: i64) -> i64;
-    fn vz_load_ccw(words: *mut i64, x: i64, y: i64, feed: i64, i: i64, j: i64) -> i64;
-    fn vz_tick(words: *mut i64) -> i64;
-    fn vz_run(words: *mut i64, budget: u64, out: *mut u8, len: usize, ticks: *mut u64) -> i64;
-    fn vz_hold(words: *mut i64) -> i64;
-    fn vz_release(words: *mut i64) -> i64;
-    fn vz_stop(words: *mut i64) -> i64;
-    fn vz_check_start(words: *mut i64, p: i64, w: i64, xlo: i64, xhi: i64, ylo: i64, yhi: i64) -> i64;
-    fn vz_check_fill(words: *mut i64, text: *const u8, text_len: usize, out: *mut u8, out_len: usize, written: *mut u64) -> i64;
+    fn vz_make(record: *mut i64, p: i64, w: i64, xlo: i64, xhi: i64, ylo: i64, yhi: i64) -> i64;
+    fn vz_load_line(record: *mut i64, x: i64, y: i64, feed: i64) -> i64;
+    fn vz_load_cw(record: *mut i64, x: i64, y: i64, feed: i64, i: i64, j: i64) -> i64;
+    fn vz_load_ccw(record: *mut i64, x: i64, y: i64, feed: i64, i: i64, j: i64) -> i64;
+    fn vz_tick(record: *mut i64) -> i64;
+    fn vz_run(record: *mut i64, budget: u64, out: *mut u8, length: usize, ticks: *mut u64) -> i64;
+    fn vz_hold(record: *mut i64) -> i64;
+    fn vz_release(record: *mut i64) -> i64;
+    fn vz_stop(record: *mut i64) -> i64;
+    fn vz_read_line(record: *mut i64, known: *mut i64, line: *const u8, length: usize) -> i64;
+    fn vz_check_start(record: *mut i64, progress: *mut i64, p: i64, w: i64, xlo: i64, xhi: i64, ylo: i64, yhi: i64) -> i64;
+    fn vz_check_fill(
+        record: *mut i64,
+        progress: *mut i64,
+        text: *const u8,
+        text_length: usize,
+        out: *mut u8,
+        out_length: usize,
+        written: *mut u64,
+    ) -> i64;
 }
 
 /// The number of the question that was answered by no.
@@ -37,17 +91,30 @@ pub struct Settings {
     pub y: (i64, i64),
 }
 
+/// The settings of the check program, and of the machine that a refused make answers.
+pub const USUAL: Settings = Settings { p: 50, w: 5_000, x: (-1_000_000, 1_000_000), y: (-1_000_000, 1_000_000) };
+
 #[derive(Clone, Copy, PartialEq, Eq, Debug)]
 pub enum Turn {
     Clockwise,
     Counterclockwise,
 }
 
-/// A block from where the machine stands: its absolute end in pulses, its feed number in pulses per minute and, for an arc, the centre seen from the start.
+/// A block from where the machine stands: its absolute end in pulses, its feed number in pulses per minute and, for an arc, the centre
+/// seen from the start.
 #[derive(Clone, Copy, PartialEq, Eq, Debug)]
 pub enum Block {
     Line { x: i64, y: i64, feed: i64 },
     Arc { turn: Turn, x: i64, y: i64, feed: i64, i: i64, j: i64 },
+}
+
+/// What is in work: positions in pulses, the feed in pulses per minute, of a line its cycles and those done, of an arc the square of its
+/// radius.
+#[derive(Clone, Copy, PartialEq, Eq, Debug)]
+pub enum Work {
+    Nothing,
+    Line { start: (i64, i64), end: (i64, i64), feed: i64, cycles: i64, done: i64 },
+    Arc { turn: Turn, centre: (i64, i64), square: i64, end: (i64, i64), feed: i64 },
 }
 
 /// Why a run ended.
@@ -60,12 +127,7 @@ pub enum Why {
     Full,
 }
 
-/// A machine. Any words may stand in it: a call on words that are no sound record is refused by 9 and leaves them.
-#[derive(Clone, PartialEq, Eq, Debug)]
-pub struct Machine {
-    words: [i64; WORDS],
-}
-
+/// The call's answer, which is not negative, or the number of its refusal, which it tells as a negative one.
 fn answered(told: i64) -> Result<i64, Refused> {
     if told < 0 {
         Err(Refused(u32::try_from(-told).expect("a number of the specification")))
@@ -74,22 +136,47 @@ fn answered(told: i64) -> Result<i64, Refused> {
     }
 }
 
-// Settings have no other answer than done and a question, so their refusals are positive.
-fn made(told: i64) -> Result<(), Refused> {
-    if told == 0 {
-        Ok(())
-    } else {
-        Err(Refused(u32::try_from(told).expect("a number of the specification")))
+/// The G and F that the lines of a job text have made known so far. Any words may stand in it: a line read with words that are none is
+/// refused by 9.
+#[derive(Clone, PartialEq, Eq, Debug)]
+pub struct Known {
+    words: [i64; KNOWN_WORDS],
+}
+
+impl Known {
+    /// As before the first line of a text.
+    pub fn none() -> Known {
+        Known { words: [0, -1] }
+    }
+
+    pub fn from_words(words: [i64; KNOWN_WORDS]) -> Known {
+        Known { words }
+    }
+
+    pub fn words(&self) -> &[i64; KNOWN_WORDS] {
+        &self.words
     }
 }
 
+impl Default for Known {
+    fn default() -> Known {
+        Known::none()
+    }
+}
+
+/// A machine. Any words may stand in it: a call on words that are no sound record is refused by 9 and leaves them.
+#[derive(Clone, PartialEq, Eq, Debug)]
+pub struct Machine {
+    words: [i64; WORDS],
+}
+
 impl Machine {
-    /// The machine that a make answers, and the number where it is refused: then it is the fresh one with p 50, w 5,000 and the widest travel.
+    /// The machine that a make answers, and the number where it is refused: then it is the fresh one with the usual settings.
     pub fn make(s: Settings) -> (Machine, Result<(), Refused>) {
         let mut words = [0; WORDS];
-        // SAFETY: the core writes the 18 words that it is lent.
+        // SAFETY: the core writes the words of the record that it is lent, and no others.
         let told = unsafe { vz_make(words.as_mut_ptr(), s.p, s.w, s.x.0, s.x.1, s.y.0, s.y.1) };
-        (Machine { words }, made(told))
+        (Machine { words }, answered(told).map(|_| ()))
     }
 
     pub fn from_words(words: [i64; WORDS]) -> Machine {
@@ -109,6 +196,14 @@ impl Machine {
             Block::Arc { turn: Turn::Clockwise, x, y, feed, i, j } => unsafe { vz_load_cw(words, x, y, feed, i, j) },
             Block::Arc { turn: Turn::Counterclockwise, x, y, feed, i, j } => unsafe { vz_load_ccw(words, x, y, feed, i, j) },
         })
+    }
+
+    /// One line of a job text, without its LF: the register width of the block that it loaded, none where it made no block. A refused
+    /// line leaves the machine and what is known.
+    pub fn read_line(&mut self, known: &mut Known, line: &[u8]) -> Result<Option<i64>, Refused> {
+        // SAFETY: as in make, for the words of what is known too; the line is lent with its own length.
+        let told = unsafe { vz_read_line(self.words.as_mut_ptr(), known.words.as_mut_ptr(), line.as_ptr(), line.len()) };
+        answered(told).map(|bits| Some(bits).filter(|&bits| bits > 0))
     }
 
     /// The tick byte.
@@ -148,52 +243,80 @@ impl Machine {
     }
 
     pub fn position(&self) -> (i64, i64) {
-        (self.words[6], self.words[7])
+        (self.words[word::X], self.words[word::Y])
     }
 
     pub fn is_held(&self) -> bool {
-        self.words[8] != 0
+        self.words[word::HELD] != 0
     }
 
     pub fn remainder(&self) -> i64 {
-        self.words[9]
+        self.words[word::REMAINDER]
     }
 
     pub fn is_busy(&self) -> bool {
-        self.words[10] != 0
+        self.words[word::WORK] != 0
+    }
+
+    /// What the words say, sound or not; nothing where they name a kind that there is none of.
+    pub fn work(&self) -> Work {
+        let mut numbers = [0; WORDS - word::NUMBERS];
+        numbers.copy_from_slice(&self.words[word::NUMBERS..]);
+        let arc = |turn| {
+            let [x, y, square, end_x, end_y, feed, _] = numbers;
+            Work::Arc { turn, centre: (x, y), square, end: (end_x, end_y), feed }
+        };
+        match self.words[word::WORK] {
+            word::KIND_LINE => {
+                let [x, y, end_x, end_y, feed, cycles, done] = numbers;
+                Work::Line { start: (x, y), end: (end_x, end_y), feed, cycles, done }
+            }
+            word::KIND_CW => arc(Turn::Clockwise),
+            word::KIND_CCW => arc(Turn::Counterclockwise),
+            _ => Work::Nothing,
+        }
     }
 }
 
-/// The check of a job text, whose listing it hands out piece by piece. Any words may stand in it: a fill of words that are no check is refused by 9
-/// and leaves them.
+/// The check of a job text, whose listing it hands out piece by piece: the record of the machine that the job would run on, and how far
+/// it has come. Any words may stand in it: a fill of words that are no check is refused by 9 and leaves them.
 #[derive(Clone, PartialEq, Eq, Debug)]
 pub struct Check {
-    words: [i64; CHECK_WORDS],
+    machine: [i64; WORDS],
+    progress: [i64; PROGRESS_WORDS],
 }
 
 impl Check {
     /// The check of a job at a fresh machine with these settings, and the number where they are refused, as a make answers them.
     pub fn start(s: Settings) -> (Check, Result<(), Refused>) {
-        let mut words = [0; CHECK_WORDS];
-        // SAFETY: the core writes the 26 words that it is lent.
-        let told = unsafe { vz_check_start(words.as_mut_ptr(), s.p, s.w, s.x.0, s.x.1, s.y.0, s.y.1) };
-        (Check { words }, made(told))
+        let (mut machine, mut progress) = ([0; WORDS], [0; PROGRESS_WORDS]);
+        let (record, way) = (machine.as_mut_ptr(), progress.as_mut_ptr());
+        // SAFETY: the core writes the words of the record and of the progress that it is lent, and no others.
+        let told = unsafe { vz_check_start(record, way, s.p, s.w, s.x.0, s.x.1, s.y.0, s.y.1) };
+        (Check { machine, progress }, answered(told).map(|_| ()))
     }
 
-    pub fn from_words(words: [i64; CHECK_WORDS]) -> Check {
-        Check { words }
+    pub fn from_words(machine: [i64; WORDS], progress: [i64; PROGRESS_WORDS]) -> Check {
+        Check { machine, progress }
     }
 
-    pub fn words(&self) -> &[i64; CHECK_WORDS] {
-        &self.words
+    /// The words of its machine's record, where the last block ended.
+    pub fn machine(&self) -> &[i64; WORDS] {
+        &self.machine
     }
 
-    /// How many bytes of the listing stand at the front of the buffer, and whether they were the last. The text is the whole one, the same at each fill;
-    /// a buffer of less than 160 bytes gets none.
+    /// The words of how far it has come.
+    pub fn progress(&self) -> &[i64; PROGRESS_WORDS] {
+        &self.progress
+    }
+
+    /// How many bytes of the listing stand at the front of the buffer, and whether they were the last. The text is the whole one, the
+    /// same at each fill; a buffer of less than 160 bytes gets none.
     pub fn fill(&mut self, text: &[u8], out: &mut [u8]) -> Result<(usize, bool), Refused> {
         let mut written = 0;
+        let (record, way) = (self.machine.as_mut_ptr(), self.progress.as_mut_ptr());
         // SAFETY: as in start; the text and the buffer are lent with their own lengths.
-        let told = unsafe { vz_check_fill(self.words.as_mut_ptr(), text.as_ptr(), text.len(), out.as_mut_ptr(), out.len(), &mut written) };
+        let told = unsafe { vz_check_fill(record, way, text.as_ptr(), text.len(), out.as_mut_ptr(), out.len(), &mut written) };
         let over = answered(told)? == 1;
         Ok((usize::try_from(written).expect("a length"), over))
     }

@@ -1,6 +1,6 @@
-//! The wrapper cuts a square and a circle: the tick bytes add up to the position, the record can be taken out and brought back, refusals carry their number.
+//! The wrapper cuts a square and a circle: the tick bytes add up to the position, and the record can be taken out and brought back.
 
-use verdaizka::{Block, Machine, Refused, Settings, Turn, Why};
+use verdaizka::{Block, Machine, Settings, Turn, Why};
 
 const SETTINGS: Settings = Settings { p: 50, w: 5_000, x: (-1_000, 1_000), y: (-1_000, 1_000) };
 const FEED: i64 = 60_000;
@@ -43,20 +43,6 @@ fn square_and_circle() {
     let (x, y, ticks) = cut(&mut machine);
     assert_eq!((x, y, ticks), (0, 0, 1_416 * 5));
     assert_eq!((machine.position(), machine.is_busy(), machine.remainder()), ((0, 0), false, 0));
-}
-
-#[test]
-fn refusals_carry_their_number() {
-    let (fresh, made) = Machine::make(Settings { p: 0, ..SETTINGS });
-    assert_eq!(made, Err(Refused(1)));
-    assert_eq!(fresh.words()[..6], [50, 5_000, -1_000_000, 1_000_000, -1_000_000, 1_000_000]);
-    let (mut machine, _) = Machine::make(SETTINGS);
-    let before = machine.clone();
-    assert_eq!(machine.load(Block::Line { x: 1_001, y: 0, feed: FEED }), Err(Refused(12)));
-    assert_eq!(machine, before);
-    let mut garbage = Machine::from_words([7; 18]);
-    assert_eq!(garbage.tick(), Err(Refused(9)));
-    assert_eq!(garbage.words(), &[7; 18]);
 }
 
 #[test]

@@ -1,124 +1,166 @@
-//! The runner of call files: every line is written anew, each `>` line followed by the core's answer.
+//! The runner of call files (`docs/CALL-FILES.md`): every line is written anew, each `>` line followed by the core's answer.
 //!
-//! `> make P W XLO XHI YLO YHI`, `> record P W XLO XHI YLO YHI X Y HELD REM none|line SX SY EX EY F C|arc KIND CX CY N EX EY F`, `> load L EX EY F`,
-//! `> load A KIND EX EY F I J`, `> tick`, `> hold`, `> release`, `> stop`, `> run BUDGET LENGTH FILL`; `#` lines are copied. KIND is 2 or 3, HELD 0 or 1,
-//! FILL a byte; positions, bounds and offsets fit i64, all other numbers u64. Any other line ends the runner with its number and exit status 1.
+//! `calls [--records]` reads standard input. With `--records` a line `= RECORD` stands after each answer, and every word of the core's
+//! record is compared with it. Exit status 2, with what was answered so far: a line that is no call, a run that asks for more memory than
+//! there is, and reading or writing that failed; standard error has the line and why.
 
+use std::fmt;
 use std::io::{self, BufRead, BufWriter, Write};
 use std::process::ExitCode;
-use std::str::Split;
 use verdaizka::crc::Crc;
-use verdaizka::{Block, Machine, Refused, Settings, Turn, Why, WORDS};
+use verdaizka::fields::{is_of, record_told, Fields};
+use verdaizka::{word, Block, Known, Machine, Refused, Settings, Why, USUAL};
 
-/// The record, and what a line tells of it. A record may be made up with numbers that its words cannot hold; it is told as it was set, and stays refused.
-struct State {
+/// The longest buffer that a run is lent, in bytes: a system that promises more memory than it has would end the runner unheard.
+const LONGEST_BUFFER: usize = 1 << 30;
+
+enum Call<'a> {
+    Make(Settings),
+    /// With its words as they stand in the line where some are numbers that no word of the core's record holds.
+    Record(Machine, Option<&'a str>),
+    Load(Block),
+    Tick,
+    Hold,
+    Release,
+    Stop,
+    Run {
+        budget: u64,
+        length: u64,
+        fill: u8,
+    },
+    Text(&'a [u8]),
+}
+
+impl<'a> Call<'a> {
+    fn of_line(line: &'a [u8]) -> Option<Call<'a>> {
+        let call = std::str::from_utf8(line).ok()?.strip_prefix("> ")?;
+        // All that follows the blank is the line, blanks at its end too.
+        if let Some(text) = call.strip_prefix("text ") {
+            return text.bytes().all(|byte| (32..=126).contains(&byte)).then_some(Call::Text(text.as_bytes()));
+        }
+        let mut fields = Fields::of(call);
+        let made = match fields.word()? {
+            "make" => Call::Make(fields.settings()?),
+            "record" => {
+                let machine = fields.record()?;
+                Call::Record(machine, call.strip_prefix("record ").filter(|_| fields.is_beyond()))
+            }
+            "load" => Call::Load(fields.block()?),
+            "tick" => Call::Tick,
+            "hold" => Call::Hold,
+            "release" => Call::Release,
+            "stop" => Call::Stop,
+            "run" => Call::Run { budget: fields.u64()?, length: fields.u64()?, fill: u8::try_from(fields.u64()?).ok()? },
+            _ => return None,
+        };
+        fields.end()?;
+        Some(made)
+    }
+}
+
+/// Why a file was left.
+enum Left {
+    NoCall,
+    Undone(String),
+    Io(io::Error),
+}
+
+impl From<io::Error> for Left {
+    fn from(error: io::Error) -> Left {
+        Left::Io(error)
+    }
+}
+
+impl fmt::Display for Left {
+    fn fmt(&self, out: &mut fmt::Formatter) -> fmt::Result {
+        match self {
+            Left::NoCall => write!(out, " is no call"),
+            Left::Undone(why) => write!(out, ": {why}"),
+            Left::Io(error) => write!(out, ": {error}"),
+        }
+    }
+}
+
+/// The machine of a file, and the G and F known beside it.
+struct Runner {
     machine: Machine,
+    known: Known,
+    /// A record made up with numbers that its words cannot hold is told as it was set, and stays refused.
     made_up: Option<String>,
 }
 
-/// The words of a line, one blank between, read from the left.
-struct Words<'a> {
-    rest: Split<'a, char>,
-    /// A number came that no word of a record holds.
-    beyond: bool,
-}
-
-impl<'a> Words<'a> {
-    fn word(&mut self) -> Option<&'a str> {
-        self.rest.next()
+impl Runner {
+    fn of(machine: Machine) -> Runner {
+        Runner { machine, known: Known::none(), made_up: None }
     }
 
-    fn end(&mut self) -> Option<()> {
-        self.word().is_none().then_some(())
-    }
-
-    fn i64(&mut self) -> Option<i64> {
-        self.word().filter(|w| !w.starts_with('+'))?.parse().ok()
-    }
-
-    fn u64(&mut self) -> Option<u64> {
-        self.word().filter(|w| !w.starts_with('+'))?.parse().ok()
-    }
-
-    /// A number that is not negative: one that no word holds is -1, which is out of every range.
-    fn count(&mut self) -> Option<i64> {
-        let count = i64::try_from(self.u64()?);
-        self.beyond |= count.is_err();
-        Some(count.unwrap_or(-1))
-    }
-
-    fn settings(&mut self) -> Option<Settings> {
-        Some(Settings { p: self.count()?, w: self.count()?, x: (self.i64()?, self.i64()?), y: (self.i64()?, self.i64()?) })
-    }
-
-    fn turn(&mut self) -> Option<Turn> {
-        match self.u64()? {
-            2 => Some(Turn::Clockwise),
-            3 => Some(Turn::Counterclockwise),
-            _ => None,
-        }
-    }
-
-    fn block(&mut self) -> Option<Block> {
-        match self.word()? {
-            "L" => Some(Block::Line { x: self.i64()?, y: self.i64()?, feed: self.count()? }),
-            "A" => {
-                let turn = self.turn()?;
-                Some(Block::Arc { turn, x: self.i64()?, y: self.i64()?, feed: self.count()?, i: self.i64()?, j: self.i64()? })
+    /// The answer or the number of its refusal; or why the call cannot be done here.
+    fn call(&mut self, call: Call) -> Result<Result<String, Refused>, Left> {
+        let done = |answer: Result<(), Refused>| answer.map(|()| "done".to_string());
+        Ok(match call {
+            Call::Make(settings) => {
+                let (machine, made) = Machine::make(settings);
+                *self = Runner::of(machine);
+                made.map(|()| "made".to_string())
             }
-            _ => None,
-        }
+            Call::Record(machine, made_up) => {
+                *self = Runner { made_up: made_up.map(str::to_string), ..Runner::of(machine) };
+                Ok("set".to_string())
+            }
+            Call::Load(block) => self.machine.load(block).map(|bits| format!("bits {bits}")),
+            Call::Tick => self.machine.tick().map(|byte| format!("byte {byte}")),
+            Call::Hold => done(self.machine.hold()),
+            Call::Release => done(self.machine.release()),
+            Call::Stop => done(self.machine.stop()),
+            Call::Run { budget, length, fill } => self.run(budget, &mut lent(length, fill)?, fill)?,
+            Call::Text(line) => {
+                let read = self.machine.read_line(&mut self.known, line);
+                read.map(|bits| bits.map_or("none".to_string(), |bits| format!("bits {bits}")))
+            }
+        })
     }
 
-    fn record(&mut self) -> Option<State> {
-        let mut words = [0; WORDS];
-        for (at, word) in words.iter_mut().enumerate().take(8) {
-            *word = if at < 2 { self.count()? } else { self.i64()? };
+    fn run(&mut self, budget: u64, out: &mut [u8], fill: u8) -> Result<Result<String, Refused>, Left> {
+        let told = self.machine.run(budget, out);
+        let ticks = told.map_or(0, |(_, ticks)| ticks);
+        let bytes = usize::try_from(ticks).ok().and_then(|ticks| out.split_at_checked(ticks));
+        let (done, rest) = bytes.ok_or_else(|| Left::Undone(format!("{ticks} ticks in a buffer of {}", out.len())))?;
+        if rest.iter().any(|&byte| byte != fill) {
+            return Err(Left::Undone("a byte past the ticks was changed".to_string()));
         }
-        words[8] = i64::from(match self.word()? {
-            "0" => false,
-            "1" => true,
-            _ => return None,
-        });
-        let remainder = self.rest.clone().next();
-        words[9] = self.count()?;
-        match self.word()? {
-            "none" => {}
-            "line" => {
-                let (sx, sy, ex, ey) = (self.i64()?, self.i64()?, self.i64()?, self.i64()?);
-                words[10..].copy_from_slice(&[1, sx, sy, ex, ey, self.count()?, cycles(sx, sy, ex, ey), self.count()?]);
-            }
-            "arc" => {
-                let kind = if self.turn()? == Turn::Clockwise { 2 } else { 3 };
-                words[10..].copy_from_slice(&[kind, self.i64()?, self.i64()?, self.count()?, self.i64()?, self.i64()?, self.count()?, 0]);
-            }
-            _ => return None,
-        }
-        let machine = Machine::from_words(words);
-        let made_up =
-            self.beyond.then(|| format!("{} {} {} {} {}", words[6], words[7], words[8], remainder.unwrap_or(""), u8::from(words[10] != 0)));
-        Some(State { machine, made_up })
+        Ok(told.map(|(why, _)| format!("{} {ticks} {}", why_told(why), bytes_told(done))))
+    }
+
+    fn record_told(&self) -> String {
+        self.made_up.clone().unwrap_or_else(|| record_told(&self.machine))
     }
 }
 
-/// The line's own q, the least whole number whose square is at least the sum of the squared increments; 0, which is never right, where it is beyond any
-/// line in travel.
-fn cycles(sx: i64, sy: i64, ex: i64, ey: i64) -> i64 {
-    let (a, b) = ((i128::from(ex) - i128::from(sx)).abs(), (i128::from(ey) - i128::from(sy)).abs());
-    if a > 4_000_000 || b > 4_000_000 {
-        return 0;
+fn why_told(why: Why) -> &'static str {
+    match why {
+        Why::Idle => "idle",
+        Why::Held => "held",
+        Why::Ended => "ended",
+        Why::Spent => "spent",
+        Why::Full => "full",
     }
-    let sum = a * a + b * b;
-    let (mut low, mut high) = (0i128, 8_000_000);
-    while low < high {
-        let middle = (low + high) / 2;
-        if middle * middle >= sum {
-            high = middle;
-        } else {
-            low = middle + 1;
-        }
-    }
-    i64::try_from(low).expect("at most 8,000,000")
+}
+
+fn lent(length: u64, fill: u8) -> Result<Vec<u8>, Left> {
+    let fits = usize::try_from(length).ok().filter(|&length| length <= LONGEST_BUFFER);
+    let undone = |why: &dyn fmt::Display| Left::Undone(format!("no buffer of {length} bytes: {why}"));
+    let length = fits.ok_or_else(|| undone(&format_args!("this runner lends {LONGEST_BUFFER} at most")))?;
+    let mut out = Vec::new();
+    out.try_reserve_exact(length).map_err(|error| undone(&error))?;
+    out.resize(length, fill);
+    Ok(out)
+}
+
+/// X Y HELD REM BUSY of a record told, in which the words from P on stand in their order.
+fn state_of(record: &str) -> String {
+    let words: Vec<&str> = record.split(' ').collect();
+    let (x, work) = (word::X - word::P, word::WORK - word::P);
+    format!("{} {}", words[x..work].join(" "), u8::from(words[work] != "none"))
 }
 
 fn bytes_told(bytes: &[u8]) -> String {
@@ -129,102 +171,60 @@ fn bytes_told(bytes: &[u8]) -> String {
     }
 }
 
-impl State {
-    fn told(&self) -> String {
-        if let Some(made_up) = &self.made_up {
-            return made_up.clone();
+fn answer(runner: &mut Runner, line: &[u8], records: bool, out: &mut impl Write) -> Result<(), Left> {
+    let told = runner.call(Call::of_line(line).ok_or(Left::NoCall)?)?;
+    let told = told.unwrap_or_else(|Refused(number)| format!("refused {number}"));
+    let record = runner.record_told();
+    out.write_all(line)?;
+    writeln!(out, "\n< {told} | {}", state_of(&record))?;
+    if records {
+        if !is_of(&record, &runner.machine) {
+            return Err(Left::Undone(format!("{:?} are not the words of {record}", runner.machine.words())));
         }
-        let (x, y) = self.machine.position();
-        format!("{x} {y} {} {} {}", u8::from(self.machine.is_held()), self.machine.remainder(), u8::from(self.machine.is_busy()))
+        writeln!(out, "= {record}")?;
     }
-
-    fn run(&mut self, budget: u64, length: usize, fill: u8) -> Result<String, Refused> {
-        let mut out = vec![fill; length];
-        let (why, ticks) = self.machine.run(budget, &mut out)?;
-        let done = usize::try_from(ticks).expect("no more ticks than bytes");
-        assert!(out[done..].iter().all(|&b| b == fill), "a byte past the ticks was changed");
-        let why = match why {
-            Why::Idle => "idle",
-            Why::Held => "held",
-            Why::Ended => "ended",
-            Why::Spent => "spent",
-            Why::Full => "full",
-        };
-        Ok(format!("{why} {ticks} {}", bytes_told(&out[..done])))
-    }
-
-    /// The answer of a call; none where the line is no call.
-    fn call(&mut self, line: &str) -> Option<String> {
-        let mut words = Words { rest: line.strip_prefix("> ")?.split(' '), beyond: false };
-        let done = |r: Result<(), Refused>| r.map(|()| "done".to_string());
-        let name = words.word()?;
-        let told = match name {
-            "make" => {
-                let settings = words.settings()?;
-                words.end()?;
-                let (machine, made) = Machine::make(settings);
-                *self = State { machine, made_up: None };
-                made.map(|()| "made".to_string())
-            }
-            "record" => {
-                let state = words.record()?;
-                words.end()?;
-                *self = state;
-                Ok("set".to_string())
-            }
-            "load" => {
-                let block = words.block()?;
-                words.end()?;
-                self.machine.load(block).map(|bits| format!("bits {bits}"))
-            }
-            "run" => {
-                let (budget, length, fill) = (words.u64()?, usize::try_from(words.u64()?).ok()?, u8::try_from(words.u64()?).ok()?);
-                words.end()?;
-                self.run(budget, length, fill)
-            }
-            _ => {
-                words.end()?;
-                match name {
-                    "tick" => self.machine.tick().map(|byte| format!("byte {byte}")),
-                    "hold" => done(self.machine.hold()),
-                    "release" => done(self.machine.release()),
-                    "stop" => done(self.machine.stop()),
-                    _ => return None,
-                }
-            }
-        };
-        let answer = told.unwrap_or_else(|Refused(number)| format!("refused {number}"));
-        Some(format!("< {answer} | {}", self.told()))
-    }
+    Ok(())
 }
 
-fn answer_file(input: &mut impl BufRead, out: &mut impl Write) -> io::Result<Result<(), usize>> {
-    let usual = Settings { p: 50, w: 5_000, x: (-1_000_000, 1_000_000), y: (-1_000_000, 1_000_000) };
-    let mut state = State { machine: Machine::make(usual).0, made_up: None };
-    for (at, line) in input.lines().enumerate() {
-        let line = line?;
-        if line.starts_with('#') {
-            writeln!(out, "{line}")?;
-            continue;
+/// Where it was left, the number of the line too.
+fn answer_file(input: &mut impl BufRead, records: bool, out: &mut impl Write) -> Result<(), (usize, Left)> {
+    let mut runner = Runner::of(Machine::make(USUAL).0);
+    let mut line = Vec::new();
+    for number in 1.. {
+        let left = |left: Left| (number, left);
+        line.clear();
+        if input.read_until(b'\n', &mut line).map_err(|error| left(error.into()))? == 0 {
+            break;
         }
-        let Some(answer) = state.call(&line) else { return Ok(Err(at + 1)) };
-        writeln!(out, "{line}\n{answer}")?;
+        let text = line.strip_suffix(b"\n").unwrap_or(&line);
+        match text.first() {
+            Some(b'#') => out.write_all(text).and_then(|()| out.write_all(b"\n")).map_err(|error| left(error.into()))?,
+            // What an earlier run told, so that its file can be put to the runner again.
+            Some(b'<' | b'=') => (),
+            _ => answer(&mut runner, text, records, out).map_err(left)?,
+        }
     }
-    Ok(Ok(()))
+    Ok(())
+}
+
+/// Where standard error is closed there is nobody left to tell.
+fn end_by_2(why: &dyn fmt::Display) -> ExitCode {
+    let _ = writeln!(io::stderr(), "calls: {why}");
+    ExitCode::from(2)
 }
 
 fn main() -> ExitCode {
+    let arguments: Vec<_> = std::env::args_os().skip(1).collect();
+    let records = arguments == ["--records"];
+    if !records && !arguments.is_empty() {
+        return end_by_2(&"usage: calls [--records]");
+    }
     let mut out = BufWriter::new(io::stdout().lock());
-    let left = answer_file(&mut io::stdin().lock(), &mut out).and_then(|left| out.flush().map(|()| left));
-    match left {
-        Ok(Ok(())) => ExitCode::SUCCESS,
-        Ok(Err(line)) => {
-            eprintln!("calls: line {line} is no call");
-            ExitCode::FAILURE
-        }
-        Err(error) => {
-            eprintln!("calls: {error}");
-            ExitCode::FAILURE
-        }
+    let answered = answer_file(&mut io::stdin().lock(), records, &mut out);
+    let flushed = out.flush();
+    match (answered, flushed) {
+        (Ok(()), Ok(())) => ExitCode::SUCCESS,
+        (Err((number, left)), _) => end_by_2(&format_args!("line {number}{left}")),
+        (Ok(()), Err(error)) => end_by_2(&error),
     }
 }

@@ -1,9 +1,10 @@
-//! All arcs of all small circles, cut by the core: `circles MAXN` writes a line `N POINTS ARCS CYCLES CRC` for each N, as `second circles MAXN totals` does.
-//! The circle points of N are those at which the core calls an arc in work sound.
+//! All arcs of all small circles, cut by the core: `circles MAXN` writes a line `N POINTS ARCS CYCLES CRC` for each N, as
+//! `second circles MAXN totals` does. The circle points of N are those at which the core calls an arc in work sound.
 
 use std::io::{self, BufWriter, Write};
+use std::process::ExitCode;
 use verdaizka::crc::Crc;
-use verdaizka::{Machine, Why, WORDS};
+use verdaizka::{word, Machine, Why, ABI, WORDS};
 
 const CLOCK: i64 = 1_000;
 /// A feed number at the capacity: every tick is a cycle.
@@ -14,16 +15,15 @@ type Point = (i64, i64);
 /// An arc in work about the origin, at `at`.
 fn arc(n: i64, kind: i64, at: Point, end: Point) -> Machine {
     let mut words = [0; WORDS];
-    words[..6].copy_from_slice(&[50, CLOCK, -1_000_000, 1_000_000, -1_000_000, 1_000_000]);
-    (words[6], words[7]) = at;
-    words[10..].copy_from_slice(&[kind, 0, 0, n, end.0, end.1, FEED, 0]);
+    words[..=word::Y].copy_from_slice(&[ABI, 50, CLOCK, -1_000_000, 1_000_000, -1_000_000, 1_000_000, at.0, at.1]);
+    words[word::WORK..].copy_from_slice(&[kind, 0, 0, n, end.0, end.1, FEED, 0]);
     Machine::from_words(words)
 }
 
 fn points(n: i64) -> Vec<Point> {
     let reach = (1..).find(|r| r * r > n).expect("a root");
     let square = (-reach..=reach).flat_map(|x| (-reach..=reach).map(move |y| (x, y)));
-    square.filter(|&p| arc(n, 3, p, p).hold().is_ok()).collect()
+    square.filter(|&p| arc(n, word::KIND_CCW, p, p).hold().is_ok()).collect()
 }
 
 fn pulse(code: u8) -> i64 {
@@ -54,13 +54,11 @@ fn cut(n: i64, kind: i64, start: Point, end: Point) -> (u64, u32) {
     }
 }
 
-fn main() -> io::Result<()> {
-    let most = std::env::args().nth(1).and_then(|n| n.parse().ok()).expect("usage: circles MAXN");
-    let mut out = BufWriter::new(io::stdout().lock());
+fn write_totals(most: i64, out: &mut impl Write) -> io::Result<()> {
     for n in 1..=most {
         let all = points(n);
         let (mut arcs, mut cycles, mut crc) = (0u64, 0u64, Crc::new());
-        for kind in [2, 3] {
+        for kind in [word::KIND_CW, word::KIND_CCW] {
             for &start in &all {
                 for &end in &all {
                     let (of_arc, visited) = cut(n, kind, start, end);
@@ -73,4 +71,16 @@ fn main() -> io::Result<()> {
         writeln!(out, "{n} {} {arcs} {cycles} {:08x}", all.len(), crc.value())?;
     }
     out.flush()
+}
+
+fn main() -> ExitCode {
+    let Some(most) = std::env::args().nth(1).and_then(|n| n.parse().ok()) else {
+        eprintln!("usage: circles MAXN");
+        return ExitCode::from(2);
+    };
+    if let Err(error) = write_totals(most, &mut BufWriter::new(io::stdout().lock())) {
+        eprintln!("circles: {error}");
+        return ExitCode::from(2);
+    }
+    ExitCode::SUCCESS
 }
