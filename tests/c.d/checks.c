@@ -6,6 +6,12 @@
 
 #include "verdaizka.h"
 
+/* A check: the words of its record, and of its progress. */
+struct check {
+    vz_record record;
+    vz_progress progress;
+};
+
 static int wrong = 0;
 
 static void is(const char *what, int64_t got, int64_t expected)
@@ -18,45 +24,45 @@ static void is(const char *what, int64_t got, int64_t expected)
 
 static const char job[] = "G1 X10 F300\nX0\n";
 
-static int64_t fill(vz_check *c, void *out, size_t length, uint64_t *written)
+static int64_t fill(struct check *c, void *out, size_t length, uint64_t *written)
 {
-    return vz_check_fill(c, (const uint8_t *)job, strlen(job), out, length, written);
+    return vz_check_fill(&c->record, &c->progress, (const uint8_t *)job, strlen(job), out, length, written);
 }
 
-static vz_check started(void)
+static struct check started(void)
 {
-    vz_check c;
-    is("start", vz_check_start(&c, 50, 5000, -1000, 1000, -1000, 1000), 0);
+    struct check c;
+    is("start", vz_check_start(&c.record, &c.progress, 50, 5000, -1000, 1000, -1000, 1000), 0);
     return c;
 }
 
 static void start(void)
 {
-    vz_check c;
-    is("p", vz_check_start(&c, 0, 5000, 0, 0, 0, 0), VZ_REFUSED_P);
-    is("w", vz_check_start(&c, 50, 20001, 0, 0, 0, 0), VZ_REFUSED_W);
-    is("travel", vz_check_start(&c, 50, 5000, 0, 0, 1, 1), VZ_REFUSED_TRAVEL);
-    is("p of a refused start", c.word[VZ_WORD_P], 50);
-    is("travel of a refused start", c.word[VZ_WORD_Y_LOWER], -1000000);
-    is("feed of a start", c.word[VZ_CHECK_FEED], -1);
+    struct check c;
+    is("p", vz_check_start(&c.record, &c.progress, 0, 5000, 0, 0, 0, 0), -VZ_REFUSED_P);
+    is("w", vz_check_start(&c.record, &c.progress, 50, 20001, 0, 0, 0, 0), -VZ_REFUSED_W);
+    is("travel", vz_check_start(&c.record, &c.progress, 50, 5000, 0, 0, 1, 1), -VZ_REFUSED_TRAVEL);
+    is("p of a refused start", c.record.word[VZ_WORD_P], 50);
+    is("travel of a refused start", c.record.word[VZ_WORD_Y_LOWER], -1000000);
+    is("feed of a start", c.progress.word[VZ_PROGRESS_FEED], -1);
 }
 
 /* The smallest buffer that gets on takes a row for each call, and hands out the same bytes as a large one. */
 static void pieces(void)
 {
     char large[1000], small[1000];
-    uint8_t row[160];
+    uint8_t row[VZ_ROW_BYTES];
     uint64_t all = 0, sum = 0, written = 0;
-    vz_check c = started();
+    struct check c = started();
     int64_t told;
     is("a large buffer", fill(&c, large, sizeof large, &all), 1);
-    is("feed", c.word[VZ_CHECK_FEED], 300);
-    is("motion", c.word[VZ_CHECK_MOTION], 1);
-    is("blocks", c.word[VZ_CHECK_BLOCKS], 2);
+    is("feed", c.progress.word[VZ_PROGRESS_FEED], 300);
+    is("motion", c.progress.word[VZ_PROGRESS_MOTION], 1);
+    is("blocks", c.progress.word[VZ_PROGRESS_BLOCKS], 2);
     is("nothing more", fill(&c, large + all, sizeof large - all, &written), 1);
     is("bytes after the last", (int64_t)written, 0);
     c = started();
-    is("159 bytes", fill(&c, row, 159, &written), 0);
+    is("159 bytes", fill(&c, row, VZ_ROW_BYTES - 1, &written), 0);
     is("bytes in 159", (int64_t)written, 0);
     do {
         told = fill(&c, row, sizeof row, &written);
@@ -69,9 +75,9 @@ static void pieces(void)
 }
 
 /* One word of a check changed, or many. */
-static void refused(const char *what, const vz_check *bad)
+static void refused(const char *what, const struct check *bad)
 {
-    vz_check c = *bad;
+    struct check c = *bad;
     uint8_t out[200], before[200];
     uint64_t written = 5;
     memset(before, 7, sizeof before);
@@ -82,47 +88,42 @@ static void refused(const char *what, const vz_check *bad)
     is("the buffer of a refused fill", memcmp(out, before, sizeof out), 0);
 }
 
-static void changed(const char *what, int word, int64_t to)
+static void record_changed(const char *what, int word, int64_t to)
 {
-    vz_check c = started();
-    c.word[word] = to;
+    struct check c = started();
+    c.record.word[word] = to;
     refused(what, &c);
 }
 
-/* A machine that is not sound refuses the next text line. */
-static void unsound(void)
+static void progress_changed(const char *what, int word, int64_t to)
 {
-    static const char expected[] = "line 1 refused 9\n";
-    vz_check c = started();
-    char out[320];
-    uint64_t written;
-    c.word[VZ_CHECK_STAGE] = 1;
-    c.word[VZ_WORD_X] = 1001;
-    is("an unsound machine", fill(&c, out, sizeof out, &written), 1);
-    is("length of its row", (int64_t)written, (int64_t)strlen(expected));
-    is("its row", memcmp(out, expected, strlen(expected)), 0);
+    struct check c = started();
+    c.progress.word[word] = to;
+    refused(what, &c);
 }
 
 int main(void)
 {
-    vz_check noise;
+    struct check noise;
     uint64_t seed = 1;
     start();
     pieces();
-    unsound();
-    changed("p", VZ_WORD_P, -50);
-    changed("held 2", VZ_WORD_HELD, 2);
-    changed("kind 4", VZ_WORD_WORK, 4);
-    changed("stage 3", VZ_CHECK_STAGE, 3);
-    changed("at", VZ_CHECK_AT, -1);
-    changed("motion 4", VZ_CHECK_MOTION, 4);
-    changed("feed -2", VZ_CHECK_FEED, -2);
-    changed("feed of 33 bits", VZ_CHECK_FEED, INT64_C(4294967296));
-    changed("ticks", VZ_CHECK_TICKS, INT64_MIN);
+    record_changed("ABI", VZ_WORD_ABI, VZ_ABI + 1);
+    record_changed("p", VZ_WORD_P, -50);
+    record_changed("x outside", VZ_WORD_X, 1001);
+    record_changed("held 2", VZ_WORD_HELD, 2);
+    record_changed("kind 4", VZ_WORD_WORK, 4);
+    progress_changed("stage 3", VZ_PROGRESS_STAGE, 3);
+    progress_changed("at", VZ_PROGRESS_AT, -1);
+    progress_changed("motion 4", VZ_PROGRESS_MOTION, 4);
+    progress_changed("feed -2", VZ_PROGRESS_FEED, -2);
+    progress_changed("feed of 33 bits", VZ_PROGRESS_FEED, INT64_C(4294967296));
+    progress_changed("ticks", VZ_PROGRESS_TICKS, INT64_MIN);
     for (int turn = 0; turn < 1000; turn++) {
-        for (int i = 0; i < VZ_CHECK_WORDS; i++) {
+        noise = started();
+        for (int i = 0; i < VZ_PROGRESS_WORDS; i++) {
             seed = seed * 6364136223846793005u + 1442695040888963407u;
-            noise.word[i] = (int64_t)seed;
+            noise.progress.word[i] = (int64_t)seed;
         }
         refused("noise", &noise);
     }

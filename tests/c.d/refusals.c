@@ -28,7 +28,8 @@ static void refused(const char *what, const vz_record *bad)
 {
     uint8_t out[4] = {7, 7, 7, 7};
     uint64_t ticks = 5;
-    for (int call = 0; call < 8; call++) {
+    vz_known known = VZ_NOTHING_KNOWN, before = known;
+    for (int call = 0; call < 9; call++) {
         vz_record m = *bad;
         int64_t got = call == 0   ? vz_tick(&m)
                       : call == 1 ? vz_hold(&m)
@@ -37,10 +38,12 @@ static void refused(const char *what, const vz_record *bad)
                       : call == 4 ? vz_load_line(&m, 1, 1, 1)
                       : call == 5 ? vz_load_cw(&m, 0, 0, 1, 1, 0)
                       : call == 6 ? vz_load_ccw(&m, 0, 0, 1, 1, 0)
+                      : call == 7 ? vz_read_line(&m, &known, (const uint8_t *)"G1 F1", 5)
                                   : vz_run(&m, 4, out, sizeof out, &ticks);
         is(what, got, -VZ_REFUSED_RECORD);
         is("words that stay", memcmp(&m, bad, sizeof m), 0);
     }
+    is("what is known at a refused line", memcmp(&known, &before, sizeof known), 0);
     is("ticks of a refused run", (int64_t)ticks, 0);
     is("bytes of a refused run", memcmp(out, "\7\7\7\7", 4), 0);
 }
@@ -48,27 +51,72 @@ static void refused(const char *what, const vz_record *bad)
 static void make(void)
 {
     vz_record m;
-    is("p", vz_make(&m, 0, 5000, 0, 0, 0, 0), VZ_REFUSED_P);
-    is("p", vz_make(&m, -1, 5000, 0, 0, 0, 0), VZ_REFUSED_P);
-    is("w", vz_make(&m, 50, 999, 0, 0, 0, 0), VZ_REFUSED_W);
-    is("w", vz_make(&m, 50, INT64_MIN, 0, 0, 0, 0), VZ_REFUSED_W);
-    is("travel", vz_make(&m, 50, 5000, 1, 2, 0, 0), VZ_REFUSED_TRAVEL);
+    is("p", vz_make(&m, 0, 5000, 0, 0, 0, 0), -VZ_REFUSED_P);
+    is("p", vz_make(&m, -1, 5000, 0, 0, 0, 0), -VZ_REFUSED_P);
+    is("w", vz_make(&m, 50, 999, 0, 0, 0, 0), -VZ_REFUSED_W);
+    is("w", vz_make(&m, 50, INT64_MIN, 0, 0, 0, 0), -VZ_REFUSED_W);
+    is("travel", vz_make(&m, 50, 5000, 1, 2, 0, 0), -VZ_REFUSED_TRAVEL);
     is("p of a refused make", m.word[VZ_WORD_P], 50);
     is("travel of a refused make", m.word[VZ_WORD_X_LOWER], -1000000);
 }
 
+/* A refused load leaves every word. */
+static void load_refused(const char *what, vz_record *m, int64_t got, int64_t number, const vz_record *before)
+{
+    is(what, got, -number);
+    is("words after a refused load", memcmp(m, before, sizeof *m), 0);
+}
+
 static void load(void)
 {
-    vz_record m = fresh();
-    is("feed", vz_load_line(&m, 1, 1, 300001), -VZ_REFUSED_FEED);
-    is("feed", vz_load_line(&m, 1, 1, -1), -VZ_REFUSED_FEED);
-    is("end", vz_load_line(&m, 101, 0, 1), -VZ_REFUSED_END);
-    is("still", vz_load_line(&m, 0, 0, 1), -VZ_REFUSED_STILL);
-    is("centre", vz_load_cw(&m, 0, 0, 1, 0, 0), -VZ_REFUSED_CENTRE);
-    is("circle", vz_load_cw(&m, 3, 0, 1, 5, 0), -VZ_REFUSED_CIRCLE);
-    is("way", vz_load_ccw(&m, 0, 0, 1, 60, 0), -VZ_REFUSED_WAY);
+    vz_record m = fresh(), idle = m, busy;
+    load_refused("feed", &m, vz_load_line(&m, 1, 1, 300001), VZ_REFUSED_FEED, &idle);
+    load_refused("feed", &m, vz_load_line(&m, 1, 1, -1), VZ_REFUSED_FEED, &idle);
+    load_refused("end", &m, vz_load_line(&m, 101, 0, 1), VZ_REFUSED_END, &idle);
+    load_refused("still", &m, vz_load_line(&m, 0, 0, 1), VZ_REFUSED_STILL, &idle);
+    load_refused("centre", &m, vz_load_cw(&m, 0, 0, 1, 0, 0), VZ_REFUSED_CENTRE, &idle);
+    load_refused("circle", &m, vz_load_cw(&m, 3, 0, 1, 5, 0), VZ_REFUSED_CIRCLE, &idle);
+    load_refused("way", &m, vz_load_ccw(&m, 0, 0, 1, 60, 0), VZ_REFUSED_WAY, &idle);
     is("width", vz_load_line(&m, 3, -4, 300000), 3);
-    is("busy", vz_load_line(&m, 1, 1, 1), -VZ_REFUSED_BUSY);
+    busy = m;
+    load_refused("busy", &m, vz_load_line(&m, 1, 1, 1), VZ_REFUSED_BUSY, &busy);
+    load_refused("busy", &m, vz_load_cw(&m, 0, 0, 1, 5, 0), VZ_REFUSED_BUSY, &busy);
+}
+
+/* A text line that is refused leaves the record and what is known. */
+static void line_refused(vz_record *m, vz_known *k, const char *line, int64_t number)
+{
+    vz_record record = *m;
+    vz_known known = *k;
+    is(line, vz_read_line(m, k, (const uint8_t *)line, strlen(line)), -number);
+    is("words after a refused line", memcmp(m, &record, sizeof record), 0);
+    is("what is known after a refused line", memcmp(k, &known, sizeof known), 0);
+}
+
+static void lines(void)
+{
+    static const char blanks[] = "                                                                                 ";
+    vz_record m = fresh();
+    vz_known k = VZ_NOTHING_KNOWN, bad = { { 4, -1 } };
+    is("81 blanks", (int64_t)strlen(blanks), VZ_LINE_BYTES + 1);
+    line_refused(&m, &bad, "F100", VZ_REFUSED_RECORD);
+    bad = (vz_known){ { 0, -2 } };
+    line_refused(&m, &bad, "F100", VZ_REFUSED_RECORD);
+    line_refused(&m, &k, blanks, VZ_REFUSED_LONG_LINE);
+    line_refused(&m, &k, "X1\r", VZ_REFUSED_WORDS);
+    line_refused(&m, &k, "X1 X1", VZ_REFUSED_TWICE);
+    line_refused(&m, &k, "G4", VZ_REFUSED_MOTION);
+    line_refused(&m, &k, "X0.01", VZ_REFUSED_PULSE);
+    line_refused(&m, &k, "X1 G1", VZ_REFUSED_UNKNOWN);
+    is("G1 F100", vz_read_line(&m, &k, (const uint8_t *)"G1 F100", 7), 0);
+    is("G known", k.word[VZ_KNOWN_MOTION], 1);
+    is("F known", k.word[VZ_KNOWN_FEED], 100);
+    line_refused(&m, &k, "I1", VZ_REFUSED_IJ);
+    line_refused(&m, &k, "X3", VZ_REFUSED_END);
+    is("an empty line", vz_read_line(&m, &k, (const uint8_t *)"", 0), 0);
+    is("X0", vz_read_line(&m, &k, (const uint8_t *)"X0", 2), 0);
+    is("X1", vz_read_line(&m, &k, (const uint8_t *)"X1", 2), 6);
+    line_refused(&m, &k, "X0.5", VZ_REFUSED_BUSY);
 }
 
 /* The line (3, -4) at a cycle for each tick: (1, -1), (1, -2), (2, -2), (2, -3), (3, -4). */
@@ -109,19 +157,22 @@ int main(void)
     uint64_t seed = 1;
     make();
     load();
+    lines();
     bytes();
-    vz_load_line(&line, 3, 4, 1);
-    vz_load_cw(&arc, 0, 0, 1, 5, 0);
+    is("a line", vz_load_line(&line, 3, 4, 1), 3);
+    is("an arc", vz_load_cw(&arc, 0, 0, 1, 5, 0), 3);
+    is("ABI of a record", idle.word[VZ_WORD_ABI], VZ_ABI);
+    changed("another layout", idle, VZ_WORD_ABI, VZ_ABI + 1);
     changed("p", idle, VZ_WORD_P, -50);
     changed("x outside", idle, VZ_WORD_X, 101);
     changed("held 2", idle, VZ_WORD_HELD, 2);
     changed("remainder", idle, VZ_WORD_REMAINDER, 300000);
     changed("kind 4", idle, VZ_WORD_WORK, 4);
-    changed("a number of nothing", idle, 17, 1);
+    changed("a number of nothing", idle, VZ_RECORD_WORDS - 1, 1);
     changed("a line's point", line, VZ_WORD_X, 1);
-    changed("cycles done", line, 17, 5);
+    changed("cycles done", line, VZ_RECORD_WORDS - 1, 5);
     changed("an arc as a line", arc, VZ_WORD_WORK, 1);
-    changed("an arc's last word", arc, 17, 1);
+    changed("an arc's last word", arc, VZ_RECORD_WORDS - 1, 1);
     for (int turn = 0; turn < 1000; turn++) {
         for (int i = 0; i < VZ_RECORD_WORDS; i++) {
             seed = seed * 6364136223846793005u + 1442695040888963407u;
