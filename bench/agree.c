@@ -1,4 +1,6 @@
 /* All sides must give the same bytes, answers and records before anything is timed. */
+#include "record.h"
+#include "root.h"
 #include "verdaizka.h"
 #include "works.h"
 
@@ -6,7 +8,9 @@
 #include <stdlib.h>
 #include <string.h>
 
-enum { WORDS = VZ_RECORD_WORDS, SIDES = 3, HISTORIES = 4000, TICKS = 60 };
+_Static_assert(WORDS == VZ_RECORD_WORDS, "the plain programs know the record");
+
+enum { SIDES = 3, HISTORIES = 4000, TICKS = 60 };
 
 static void must(int right, const char *what)
 {
@@ -34,7 +38,7 @@ static void agree_run(const struct work *w, plain_run_line *line, plain_run_arc 
     int64_t words[WORDS];
     struct plain_run plain = plain_begun(w);
     loaded(words, w);
-    for (int i = 0; i < 200 && words[VZ_WORD_WORK] != 0; i++) {
+    for (int i = 0; i < 200 && words[WORD_WORK] != 0; i++) {
         uint64_t ticks;
         must(vz_run((vz_record *)words, UINT64_MAX, out[0], BUFFER - 7, &ticks) >= 0, w->name);
         must(plain_run_on(&plain, line, arc, BUFFER - 7, out[1]) == ticks && memcmp(out[0], out[1], ticks) == 0, w->name);
@@ -69,19 +73,23 @@ static void load_all(int64_t words[SIDES][WORDS], const struct plain_block *b)
     same_records(words, answers, "load");
 }
 
-/* A block near here, most often one that is taken: the end of an arc is the start turned about the centre by quarters, now and then beside it. */
+static int64_t near_zero(int64_t reach) { return drawn(2 * reach + 1) - reach; }
+
+/* A block near here, most often one that is taken: the end of an arc is the start turned about the centre by quarters, now and
+ * then beside it. */
 static struct plain_block drawn_block(const int64_t *words, int64_t reach)
 {
-    struct plain_block b = { 1 + drawn(3), words[VZ_WORD_X] + drawn(2 * reach + 1) - reach, words[VZ_WORD_Y] + drawn(2 * reach + 1) - reach, 1 + drawn(60 * words[VZ_WORD_W]), 0, 0 };
+    const int64_t x = words[WORD_X], y = words[WORD_Y], capacity = 60 * words[WORD_W];
+    struct plain_block b = { 1 + drawn(3), x + near_zero(reach), y + near_zero(reach), 1 + drawn(capacity), 0, 0 };
     if (drawn(16) == 0)
-        b.feed = 60 * words[VZ_WORD_W] * drawn(2) + drawn(2);
+        b.feed = capacity * drawn(2) + drawn(2);
     if (b.kind == 1)
         return b;
-    b.i = drawn(2 * reach + 1) - reach;
-    b.j = drawn(2 * reach + 1) - reach;
+    b.i = near_zero(reach);
+    b.j = near_zero(reach);
     const int64_t turned[4][2] = { { -b.i, -b.j }, { b.j, -b.i }, { b.i, b.j }, { -b.j, b.i } }, *e = turned[drawn(4)];
-    b.x = words[VZ_WORD_X] + b.i + e[0] + (drawn(8) == 0);
-    b.y = words[VZ_WORD_Y] + b.j + e[1];
+    b.x = x + b.i + e[0] + (drawn(8) == 0);
+    b.y = y + b.j + e[1];
     return b;
 }
 
@@ -92,7 +100,7 @@ static int64_t spoil(const int64_t *words, int64_t at)
     case 0: return words[at] + drawn(5) - 2;
     case 1: return (int64_t)((uint64_t)words[at] ^ (uint64_t)1 << drawn(64));
     case 2: return words[drawn(WORDS)];
-    default: return 60 * words[VZ_WORD_W] + drawn(2);
+    default: return 60 * words[WORD_W] + drawn(2);
     }
 }
 
@@ -106,22 +114,53 @@ static void agree_spoilt(int64_t words[SIDES][WORDS])
     call_all(spoilt, tick, "tick on a changed record");
 }
 
-/* Ticks by value, as many as have just been done on the words of the core. */
+/* Ticks by value and in place, as many as have just been done on the words of the core. */
 static void agree_value(const int64_t *before, const int64_t *after, uint64_t sum, uint64_t ticks)
 {
-    plain_ticks *const by_value[] = { c_value_ticks, rust_value_ticks };
-    for (int s = 0; s < 2; s++) {
+    plain_ticks *const by_value[] = { c_value_ticks, c_place_ticks, rust_value_ticks };
+    for (int s = 0; s < 3; s++) {
         int64_t words[WORDS];
         memcpy(words, before, sizeof words);
         must(by_value[s](words, ticks) == sum && memcmp(words, after, sizeof words) == 0, "ticks by value");
     }
 }
 
+/* ---- makes, refused ones too */
+
+static int is_within(int64_t lower, int64_t v, int64_t upper) { return lower <= v && v <= upper; }
+
+static int is_axis(const int64_t *bounds) { return is_within(-1000000, bounds[0], 0) && is_within(0, bounds[1], 1000000); }
+
+/* Minus the first question from 1 to 3 that says no, or 0. */
+static int64_t make_no(const int64_t *s)
+{
+    if (!is_within(1, s[0], 1000))
+        return -1;
+    if (!is_within(1000, s[1], 20000))
+        return -2;
+    return is_axis(s + 2) && is_axis(s + 4) ? 0 : -3;
+}
+
+static void agree_make(void)
+{
+    static const int64_t standard[6] = { 50, 5000, -1000000, 1000000, -1000000, 1000000 };
+    int64_t given[6], words[WORDS], wanted[WORDS] = { [WORD_ABI] = ABI };
+    memcpy(given, standard, sizeof given);
+    given[drawn(6)] = drawn(2) ? near_zero(3) : near_zero(1000002);
+    const int64_t no = make_no(given);
+    memcpy(wanted + WORD_P, no ? standard : given, sizeof given);
+    must(vz_make((vz_record *)words, given[0], given[1], given[2], given[3], given[4], given[5]) == no, "make's answer");
+    must(memcmp(words, wanted, sizeof words) == 0, "the record of a make");
+}
+
+/* ---- histories */
+
 static void agree_history(void)
 {
     int64_t words[SIDES][WORDS], before[WORDS];
     const int64_t reach = drawn(4) ? 12 : 400000, room = 2 * reach;
-    must(vz_make((vz_record *)words[0], 1 + drawn(1000), 1000 + drawn(19001), -drawn(room), drawn(room), -drawn(room), drawn(room)) == 0, "make");
+    const int64_t p = 1 + drawn(1000), w = 1000 + drawn(19001);
+    must(vz_make((vz_record *)words[0], p, w, -drawn(room), drawn(room), -drawn(room), drawn(room)) == 0, "make");
     for (int s = 1; s < SIDES; s++)
         memcpy(words[s], words[0], sizeof words[0]);
     for (int block = 0; block < 4; block++) {
@@ -146,30 +185,40 @@ static void agree_history(void)
 
 static void agree_loads(const struct plain_block *block)
 {
-    int64_t words[WORDS], after[2][WORDS];
+    plain_loads *const by_value[] = { c_value_loads, c_place_loads, rust_value_loads };
+    int64_t words[WORDS];
     uint64_t sum = 0;
     fresh(words);
-    memcpy(after[0], words, sizeof words);
-    memcpy(after[1], words, sizeof words);
     for (uint64_t i = 0; i < 1000; i++) {
         struct plain_block b = plain_nth(*block, i);
         sum = plain_mix(sum, core_load(words, &b));
         sum = plain_mix(sum, core_stop(words));
     }
-    must(c_value_loads(after[0], block, 1000) == sum && memcmp(after[0], words, sizeof words) == 0, "loads by value");
-    must(rust_value_loads(after[1], block, 1000) == sum && memcmp(after[1], words, sizeof words) == 0, "loads by value");
+    for (int s = 0; s < 3; s++) {
+        int64_t other[WORDS];
+        fresh(other);
+        must(by_value[s](other, block, 1000) == sum && memcmp(other, words, sizeof words) == 0, "loads by value");
+    }
 }
 
 static void agree_root(uint64_t s)
 {
-    uint64_t r = c_root(s);
-    must(c_root_newton(s) == r && rust_root(s) == r && (!core_root || core_root(s) == r), "root");
+    uint64_t r = c_root_bits(s);
+    must(c_root(s) == r && c_root_newton(s) == r && rust_root(s) == r && rust_isqrt(s) == r, "root");
+    must(!core_root || core_root(s) == r, "root");
+}
+
+/* r is the nearest root from r * r - r + 1 up to r * r + r. */
+static void agree_nearest(int64_t r)
+{
+    must(nearest_root(r * r + r) == r && nearest_root(r * r + r + 1) == r + 1, "nearest root");
 }
 
 static void agree_roots(void)
 {
     for (int i = 0; i < 20000; i++) {
         uint64_t r = (uint64_t)drawn((int64_t)1 << (1 + drawn(22)));
+        agree_nearest((int64_t)r);
         agree_root(r * r);
         agree_root(r * r + 1);
         agree_root((uint64_t)drawn((int64_t)1 << (1 + drawn(44))));
@@ -184,8 +233,10 @@ void agree(void)
         agree_run(w, rust_line_ticks, rust_arc_ticks);
         agree_run(w, rust_line_cycles, rust_arc_cycles);
     }
-    for (int i = 0; i < HISTORIES; i++)
+    for (int i = 0; i < HISTORIES; i++) {
+        agree_make();
         agree_history();
+    }
     agree_loads(&(struct plain_block){ 1, 900000, -556231, 1, 0, 0 });
     agree_loads(&(struct plain_block){ 3, 0, 0, 1, -500000, 0 });
     agree_roots();

@@ -1,11 +1,12 @@
 /* The proved core beside the plain programs.
- * bench                            the tables: all sides are timed in turns, and the medians are told
+ * bench tables GOALS               the tables: all sides are timed in turns, and the medians are told; the goals' rows go to a file
  * bench agree                      only compares all sides
  * bench list                       what can be counted: table, work, side, times, units in one time, and the names, with tabs between
  * bench do TABLE WORK SIDE TIMES   one work on one side, for a counter of instructions */
 #define _POSIX_C_SOURCE 199309L
 #include "works.h"
 
+#include <inttypes.h>
 #include <stdio.h>
 #include <stdlib.h>
 #include <string.h>
@@ -43,8 +44,8 @@ static double timed(const struct way *side, const struct work *w)
     return (now() - start) / (double)(w->times * w->units);
 }
 
-/* Each round does every work by every side once, so that what else the machine does falls on all of them. Each round begins with another side: in a fixed order
- * something that comes again and again can fall on the same side every time. */
+/* Each round does every work by every side once, so that what else the machine does falls on all of them. Each round begins with
+ * another side: in a fixed order something that comes again and again can fall on the same side every time. */
 static void measure(const struct table *t, int rounds)
 {
     for (int r = 0; r < rounds; r++)
@@ -58,18 +59,64 @@ static void measure(const struct table *t, int rounds)
         }
 }
 
+/* What the rows told of each goal: the least and the greatest, and the rows that missed it. */
+static struct told {
+    const struct goal *goal;
+    const char *way;
+    double least, greatest;
+    int missed;
+    const char *miss[MOST_WORKS];
+} told[32];
+static int told_count;
+
+static struct told *told_of(const struct goal *g, const struct table *t, double value)
+{
+    for (struct told *k = told; k < told + told_count; k++)
+        if (k->goal == g)
+            return k;
+    told[told_count] = (struct told){ .goal = g, .way = t->way[g->way].name, .least = value, .greatest = value };
+    return &told[told_count++];
+}
+
+static int tell(const struct goal *g, const struct table *t, const char *row, double value)
+{
+    struct told *k = told_of(g, t, value);
+    if (value < k->least)
+        k->least = value;
+    if (value > k->greatest)
+        k->greatest = value;
+    if (value > g->limit)
+        k->miss[k->missed++] = row;
+    return value <= g->limit;
+}
+
 static void print_goals(const struct table *t, const struct work *w, const double *ns, const double *ratio)
 {
     int met = 1, any = 0;
     printf(" | ");
-    for (const struct goal *g = w->goals; g < w->goals + 3; g++) {
-        if (g->limit == 0)
-            continue;
+    for (int i = 0; i < MOST_GOALS && w->goals[i]; i++) {
+        const struct goal *g = w->goals[i];
         printf(g->way == 0 ? "%s%s at most %g ns" : "%s%s at most %g", any ? ", " : "", t->way[g->way].name, g->limit);
-        met &= (g->way == 0 ? ns[0] : ratio[g->way]) <= g->limit;
+        met &= tell(g, t, w->name, g->way == 0 ? ns[0] : ratio[g->way]);
         any = 1;
     }
     printf("%s | %s |\n", any ? "" : "none", any ? met ? "yes" : "**no**" : "");
+}
+
+/* A row for each goal, from the figures that the tables show. */
+static void write_goals(FILE *to)
+{
+    for (const struct told *k = told; k < told + told_count; k++) {
+        const int time = k->goal->way == 0;
+        fprintf(to, time ? "| %s at most %g ns" : "| %s at most %g times %s", k->goal->text, k->goal->limit, k->way);
+        fprintf(to, " | %.2f", k->least);
+        if (k->greatest - k->least >= 0.005)
+            fprintf(to, " to %.2f", k->greatest);
+        fprintf(to, time ? " ns | %s" : " | %s", k->missed ? "**no**: " : "yes");
+        for (int i = 0; i < k->missed; i++)
+            fprintf(to, "%s%s", i ? "; " : "", k->miss[i]);
+        fprintf(to, " |\n");
+    }
 }
 
 static void print_row(const struct table *t, int w, int rounds)
@@ -107,32 +154,45 @@ static void print_table(const struct table *t, int rounds)
 
 static void list(void)
 {
+    for (int n = 0; n < table_count; n++) {
+        const struct table *t = &tables[n];
+        for (int w = 0; is_there(t) && w < t->works; w++)
+            for (int s = 0; s < t->ways; s++)
+                printf("%d\t%d\t%d\t%" PRIu64 "\t%" PRIu64 "\t%s\t%s\t%s\t%s\n", n, w, s, t->counted, t->work[w].units, t->name, t->unit,
+                       t->work[w].name, t->way[s].name);
+    }
+}
+
+/* All tables, and the goals to a file; 0, or 2 where that cannot be. */
+static int print_tables(const char *goals)
+{
+    const char *asked = getenv("BENCH_ROUNDS");
+    int rounds = asked ? atoi(asked) : 51;
+    FILE *to = fopen(goals, "w");
+    if (rounds < 1 || rounds > MOST_ROUNDS || !to)
+        return 2;
+    agree();
     for (int t = 0; t < table_count; t++)
-        for (int w = 0; is_there(&tables[t]) && w < tables[t].works; w++)
-            for (int s = 0; s < tables[t].ways; s++)
-                printf("%d\t%d\t%d\t%llu\t%llu\t%s\t%s\t%s\t%s\n", t, w, s, (unsigned long long)tables[t].counted, (unsigned long long)tables[t].work[w].units,
-                       tables[t].name, tables[t].unit, tables[t].work[w].name, tables[t].way[s].name);
+        print_table(&tables[t], rounds);
+    write_goals(to);
+    return fclose(to) == 0 ? 0 : 2;
 }
 
 int main(int count, char **given)
 {
-    if (count == 2 && strcmp(given[1], "list") == 0) {
+    const char *command = count > 1 ? given[1] : "";
+    if (count == 2 && strcmp(command, "list") == 0) {
         list();
         return 0;
     }
-    if (count == 6 && strcmp(given[1], "do") == 0) {
+    if (count == 6 && strcmp(command, "do") == 0) {
         const struct table *t = &tables[atoi(given[2])];
         t->way[atoi(given[4])].go(&t->work[atoi(given[3])], strtoull(given[5], NULL, 10));
         return 0;
     }
-    const char *asked = getenv("BENCH_ROUNDS");
-    int rounds = asked ? atoi(asked) : 51;
-    if (rounds < 1 || rounds > MOST_ROUNDS)
-        return 2;
-    agree();
-    if (count == 2 && strcmp(given[1], "agree") == 0)
+    if (count == 2 && strcmp(command, "agree") == 0) {
+        agree();
         return 0;
-    for (int t = 0; t < table_count; t++)
-        print_table(&tables[t], rounds);
-    return 0;
+    }
+    return count == 3 && strcmp(command, "tables") == 0 ? print_tables(given[2]) : 2;
 }

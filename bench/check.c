@@ -1,125 +1,225 @@
-/* A plain check program over stdio, for timing beside the proved one: the same questions and the same listing, for jobs of straight lines. */
-#include "plain.h"
+/* A plain check program, for timing beside the proved one: the same questions and the same listing, with the settings that 01
+ * gives it. One pass over the text; its own digits, in one buffer that goes out in large pieces; the hardware's root; arcs
+ * counted and tested without a walk. */
+#include "arc.h"
+#include "root.h"
 
-#include <stdint.h>
-#include <stdio.h>
-#include <stdlib.h>
-#include <string.h>
+#include <unistd.h>
 
-enum { P = 50, TRAVEL = 1000000 };
-static const uint64_t CAPACITY = 300000;
-
-struct word {
-    int count, digits, negative;
-    int64_t value;
-};
+enum { P = 50, MOST_TEXT = 65536, MOST_LINE = 80, PIECE = 8192, ROOM = 160 };
+static const int64_t CAPACITY = 300000;
+static const struct settings table = { P, 5000, { -TRAVEL, TRAVEL }, { -TRAVEL, TRAVEL } };
 
 enum letter { N, G, F, X, Y, I, J, LETTERS };
+enum { PLACED = 1 << X | 1 << Y, CENTRED = 1 << I | 1 << J };
 
-struct job {
-    int64_t x, y, motion, feed; /* motion 0 and feed -1: not known yet */
-    uint64_t line, blocks, cycles, ticks, rest;
+/* The words of a line: a bit for each letter that stands, and the numbers, in thousandths from X on. */
+struct words {
+    unsigned stand, twice;
+    int64_t value[LETTERS];
 };
 
-/* The words of a line by their letters; 0, or the number of the question. */
-static int words_of(const char *s, size_t n, struct word *found)
+struct job {
+    struct point at;
+    int64_t motion, feed; /* 0 and -1: not known yet */
+    int64_t line, blocks, cycles, ticks, remainder;
+};
+
+/* ---- what goes out */
+
+static char out[PIECE + ROOM], *next = out;
+
+static void hand_out(void)
 {
-    static const char letters[] = "NGFXYIJ";
-    size_t i = 0;
-    int twice = 0;
-    if (n > 80)
-        return 31;
-    while (i < n) {
-        if (s[i] == ' ') {
-            i++;
-            continue;
-        }
-        const char *at = memchr(letters, s[i], LETTERS);
-        if (!at)
-            return 32;
-        struct word w = { 1, 0, 0, 0 };
-        int fine = at - letters >= X, decimals = 0;
-        i++;
-        if (fine && i < n && (s[i] == '+' || s[i] == '-'))
-            w.negative = s[i++] == '-';
-        for (; i < n && s[i] >= '0' && s[i] <= '9'; i++, w.digits++)
-            w.value = 10 * w.value + (s[i] - '0');
-        if (w.digits < 1 || w.digits > 7)
-            return 32;
-        if (fine && i < n && s[i] == '.') {
-            for (i++; i < n && s[i] >= '0' && s[i] <= '9'; i++, decimals++)
-                w.value = 10 * w.value + (s[i] - '0');
-            if (decimals < 1 || decimals > 3)
-                return 32;
-        }
-        for (; fine && decimals < 3; decimals++)
-            w.value *= 10;
-        struct word *to = &found[at - letters];
-        twice |= to->count;
-        *to = w;
+    for (char *from = out; from < next;) {
+        ssize_t n = write(STDOUT_FILENO, from, (size_t)(next - from));
+        if (n < 0)
+            _exit(1);
+        from += n;
     }
-    return twice ? 33 : 0;
+    next = out;
 }
 
-/* Questions 34 to 37 about the words of a line. */
-static int words_no(const struct word *w, int64_t motion, int64_t feed)
+static void text(const char *s)
 {
-    const int moves = w[X].count || w[Y].count || w[I].count || w[J].count;
-    if (w[G].count && (motion < 1 || motion > 3))
+    while (*s)
+        *next++ = *s++;
+}
+
+/* A number, not negative, and the byte after it. */
+static void number(int64_t n, char after)
+{
+    char *end = next + 1;
+    for (int64_t ten = 10; ten <= n; ten *= 10)
+        end++;
+    char *at = end;
+    for (uint64_t rest = (uint64_t)n; at > next; rest /= 10)
+        *--at = (char)('0' + rest % 10);
+    *end = after;
+    next = end + 1;
+}
+
+static void with_sign(int64_t n, char after)
+{
+    if (n < 0)
+        *next++ = '-';
+    number(n < 0 ? -n : n, after);
+}
+
+/* ---- words */
+
+static int letter_of(char c)
+{
+    switch (c) {
+    case 'N': return N;
+    case 'G': return G;
+    case 'F': return F;
+    case 'X': return X;
+    case 'Y': return Y;
+    case 'I': return I;
+    case 'J': return J;
+    default: return LETTERS;
+    }
+}
+
+/* Digits written after those of `value`: where they end; NULL where there is none, or more than `most`. */
+static const char *digits(const char *at, int most, uint64_t *value)
+{
+    const char *from = at;
+    for (; *at >= '0' && *at <= '9'; at++)
+        *value = 10 * *value + (uint64_t)(*at - '0');
+    return at > from && at - from <= most ? at : NULL;
+}
+
+/* A word from its letter on: where it ends, or NULL. */
+static const char *word(const char *at, struct words *w)
+{
+    static const uint64_t scale[] = { 1000, 100, 10, 1 };
+    const int letter = letter_of(*at++);
+    uint64_t value = 0;
+    int negative = 0;
+    if (letter == LETTERS)
+        return NULL;
+    if (letter >= X && (*at == '+' || *at == '-'))
+        negative = *at++ == '-';
+    at = digits(at, 7, &value);
+    if (at && letter >= X) {
+        const char *point = at;
+        if (*at == '.')
+            at = digits(point + 1, 3, &value);
+        if (at)
+            value *= scale[at == point ? 0 : at - point - 1];
+    }
+    w->twice |= w->stand & 1u << letter;
+    w->stand |= 1u << letter;
+    w->value[letter] = negative ? -(int64_t)value : (int64_t)value;
+    return at;
+}
+
+/* The words of the line that begins here, up to its LF; 0, or the number of the question. */
+static int words_of(const char *from, const char **end, struct words *w)
+{
+    const char *at = from;
+    while (at && *at != '\n')
+        at = *at == ' ' ? at + 1 : word(at, w);
+    for (*end = at ? at : from; **end != '\n';)
+        ++*end;
+    if (*end - from > MOST_LINE)
+        return 31;
+    if (!at)
+        return 32;
+    return w->twice ? 33 : 0;
+}
+
+/* Questions 34 to 37 about the words of a line; motion and feed are those known after it. */
+static int words_no(const struct words *w, int64_t motion, int64_t feed)
+{
+    if (w->stand & 1 << G && !within(1, motion, 3))
         return 34;
     for (int k = X; k <= J; k++)
-        if (w[k].value * P % 1000)
+        if (w->stand & 1u << k && w->value[k] * P % 1000)
             return 35;
-    if (moves && (motion == 0 || feed < 0))
+    if (w->stand & (PLACED | CENTRED) && (motion == 0 || feed < 0))
         return 36;
-    if (motion == 1 && (w[I].count || w[J].count))
-        return 37;
-    if (moves && motion != 1)
-        abort(); /* an arc: not in the jobs that are timed */
-    return 0;
+    const bool placed = w->stand & PLACED, centred = w->stand & CENTRED, right = motion > 1 ? centred || !placed : !centred;
+    return right ? 0 : 37;
 }
 
-static int64_t end_of(const struct word *w, int64_t from)
+static int64_t pulses(const struct words *w, enum letter k, int64_t missing)
 {
-    if (!w->count)
-        return from;
-    return (w->negative ? -w->value : w->value) * P / 1000;
+    return w->stand & 1u << k ? w->value[k] * P / 1000 : missing;
 }
 
-/* A straight line: its row, or the number of the question. */
-static int block(struct job *j, int64_t x, int64_t y, uint64_t feed)
+/* ---- blocks */
+
+/* An accepted block: its row, and the feed to its end. */
+static void block(struct job *j, char kind, int64_t cycles, struct point end, int64_t feed, int bits)
 {
-    if (feed < 1 || feed > CAPACITY)
-        return 11;
-    if (llabs(x) > TRAVEL || llabs(y) > TRAVEL)
-        return 12;
-    uint64_t a = (uint64_t)llabs(x - j->x), b = (uint64_t)llabs(y - j->y), q = c_root(a * a + b * b);
-    uint64_t ticks = (q * CAPACITY - j->rest + feed - 1) / feed;
-    j->rest = j->rest + ticks * feed - q * CAPACITY;
+    const int64_t ticks = (cycles * CAPACITY - j->remainder + feed - 1) / feed;
+    j->remainder += ticks * feed - cycles * CAPACITY;
     j->blocks++;
-    j->cycles += q;
+    j->cycles += cycles;
     j->ticks += ticks;
-    j->x = x;
-    j->y = y;
-    printf("%llu %llu L %llu %lld %lld %d\n", (unsigned long long)j->blocks, (unsigned long long)j->line, (unsigned long long)q, (long long)x, (long long)y,
-           64 - __builtin_clzll(a > b ? a : b));
+    j->at = end;
+    if (next > out + PIECE)
+        hand_out();
+    number(j->blocks, ' ');
+    number(j->line, ' ');
+    *next++ = kind;
+    *next++ = ' ';
+    number(cycles, ' ');
+    with_sign(end.x, ' ');
+    with_sign(end.y, ' ');
+    number(bits, '\n');
+}
+
+static int line_block(struct job *j, struct point end, int64_t feed)
+{
+    const int64_t a = llabs(end.x - j->at.x), b = llabs(end.y - j->at.y);
+    block(j, 'L', least_root(a * a + b * b), end, feed, width(a < b ? b : a));
     return 0;
+}
+
+static int arc_block(struct job *j, struct point end, int64_t feed, bool clockwise, int64_t i, int64_t k)
+{
+    if (!within(-TRAVEL, i, TRAVEL) || !within(-TRAVEL, k, TRAVEL) || (i == 0 && k == 0))
+        return 14;
+    const struct arc a = { { j->at.x + i, j->at.y + k }, end, i * i + k * k, feed };
+    if (!on_circle(a.square, seen(&a, clockwise, end)))
+        return 15;
+    if (!stays(&table, &a, clockwise, j->at))
+        return 16;
+    block(j, 'A', cycles_left(&a, clockwise, j->at), end, feed, width(nearest_root(a.square)));
+    return 0;
+}
+
+/* What a line with X, Y, I or J asks for. */
+static int moved(struct job *j, const struct words *w, int64_t motion, int64_t feed)
+{
+    const struct point end = { pulses(w, X, j->at.x), pulses(w, Y, j->at.y) };
+    if (motion == 1 && same(end, j->at))
+        return 0;
+    if (!within(1, feed, CAPACITY))
+        return 11;
+    if (!inside(&table, end))
+        return 12;
+    if (motion == 1)
+        return line_block(j, end, feed);
+    return arc_block(j, end, feed, motion == 2, pulses(w, I, 0), pulses(w, J, 0));
 }
 
 /* One text line; 0, or the number of the question. */
-static int text_line(struct job *j, const char *s, size_t n)
+static int text_line(struct job *j, const char *from, const char **end)
 {
-    struct word w[LETTERS] = { 0 };
-    int no = words_of(s, n, w);
+    struct words w;
+    w.stand = w.twice = 0;
+    int no = words_of(from, end, &w);
     if (no)
         return no;
-    const int64_t motion = w[G].count ? w[G].value : j->motion, feed = w[F].count ? w[F].value : j->feed;
-    no = words_no(w, motion, feed);
-    if (no)
-        return no;
-    const int64_t x = end_of(&w[X], j->x), y = end_of(&w[Y], j->y);
-    if (x != j->x || y != j->y)
-        no = block(j, x, y, (uint64_t)feed * P);
+    const int64_t motion = w.stand & 1 << G ? w.value[G] : j->motion, feed = w.stand & 1 << F ? w.value[F] : j->feed;
+    no = words_no(&w, motion, feed);
+    if (!no && w.stand & (PLACED | CENTRED))
+        no = moved(j, &w, motion, feed * P);
     if (no)
         return no;
     j->motion = motion;
@@ -127,27 +227,39 @@ static int text_line(struct job *j, const char *s, size_t n)
     return 0;
 }
 
+/* The rows of a job; the last line is the total, or the line that is refused and the number. */
+static void check(const char *job, size_t size)
+{
+    struct job j = { .feed = -1 };
+    int no = size > MOST_TEXT ? 30 : 0;
+    j.line = no ? 1 : 0;
+    for (const char *at = job; !no && at < job + size; at++) {
+        j.line++;
+        no = text_line(&j, at, &at);
+    }
+    text(no ? "line " : "total ");
+    number(no ? j.line : j.blocks, ' ');
+    if (no) {
+        text("refused ");
+        number(no, '\n');
+        return;
+    }
+    number(j.cycles, ' ');
+    number(j.ticks, '\n');
+}
+
 int main(void)
 {
-    static char text[65537];
-    size_t size = fread(text, 1, sizeof text, stdin), at = 0;
-    struct job j = { .feed = -1 };
-    puts("block line kind cycles x y bits");
-    if (size > 65536) {
-        puts("line 1 refused 30");
-        return 0;
+    static char job[MOST_TEXT + 3];
+    size_t size = 0;
+    for (ssize_t n = 1; n > 0 && size <= MOST_TEXT; size += (size_t)n) {
+        n = read(STDIN_FILENO, job + size, MOST_TEXT + 1 - size);
+        if (n < 0)
+            return 1;
     }
-    while (at < size) {
-        const char *lf = memchr(text + at, '\n', size - at);
-        size_t n = lf ? (size_t)(lf - text) - at : size - at;
-        j.line++;
-        int no = text_line(&j, text + at, n);
-        if (no) {
-            printf("line %llu refused %d\n", (unsigned long long)j.line, no);
-            return 0;
-        }
-        at += n + 1;
-    }
-    printf("total %llu %llu %llu\n", (unsigned long long)j.blocks, (unsigned long long)j.cycles, (unsigned long long)j.ticks);
+    job[size] = '\n'; /* the last line may lack it */
+    text("block line kind cycles x y bits\n");
+    check(job, size);
+    hand_out();
     return 0;
 }

@@ -1,4 +1,5 @@
-"""Instructions of the works that bench times, as tables: the difference between a work done twice as often and once, so that the start of the program cancels."""
+"""Instructions of the works that bench times, as tables: a work done twice as often less the work once, so that the start of the
+program cancels."""
 import itertools
 import subprocess
 

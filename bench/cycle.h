@@ -24,7 +24,8 @@ static inline uint8_t line_cycle(struct plain_line *l)
     return byte;
 }
 
-/* The codes of a rise (across grows) and of a fall (along falls) in each quadrant, counterclockwise; clockwise is seen in the mirror of the X axis. */
+/* The codes of a rise (across grows) and of a fall (along falls) in each quadrant, counterclockwise; clockwise is seen in the
+ * mirror of the X axis. */
 static const uint8_t rises[2][4] = { { 4, 2, 8, 1 }, { 8, 2, 4, 1 } };
 static const uint8_t falls[2][4] = { { 2, 8, 1, 4 }, { 2, 4, 1, 8 } };
 

@@ -1,4 +1,4 @@
-/* The machine in plain C. It goes in by value and comes back by value with the answer, as in the core. */
+/* The machine in plain C: in place, and by value, where it goes in by value and comes back beside the answer as in the core. */
 #ifndef MACHINE_H
 #define MACHINE_H
 
@@ -43,6 +43,20 @@ struct machine {
     };
 };
 
+enum { TRAVEL = 1000000 }; /* the farthest that a travel bound may lie, and I and J */
+
+static inline bool within(int64_t lower, int64_t v, int64_t upper) { return lower <= v && v <= upper; }
+
+static inline bool inside(const struct settings *s, struct point p)
+{
+    return within(s->x.lower, p.x, s->x.upper) && within(s->y.lower, p.y, s->y.upper);
+}
+
+static inline bool same(struct point p, struct point q) { return p.x == q.x && p.y == q.y; }
+
+/* The register width that a load answers: the fewest bits that hold v, which is not 0. */
+static inline int width(int64_t v) { return 64 - __builtin_clzll((uint64_t)v); }
+
 /* The answer is a number as in the header. */
 struct answered {
     int64_t answer;
@@ -52,5 +66,10 @@ struct answered {
 struct answered c_tick(struct machine m);
 struct answered c_load(struct machine m, struct plain_block b);
 struct answered c_stop(struct machine m);
+
+/* The same in place. */
+int64_t c_tick_in(struct machine *m);
+int64_t c_load_in(struct machine *m, const struct plain_block *b);
+int64_t c_stop_in(struct machine *m);
 
 #endif

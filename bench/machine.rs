@@ -40,6 +40,11 @@ fn root(v: i64) -> i64 {
     rust_root(v as u64) as i64
 }
 
+/// The root of a whole number never lies halfway.
+fn nearest_root(n: i64) -> i64 {
+    ((n as f64).sqrt() + 0.5) as i64
+}
+
 fn width(v: i64) -> i64 {
     64 - i64::from(v.leading_zeros())
 }
@@ -114,8 +119,7 @@ impl Machine {
             return self.answer(-16);
         }
         self.work = Work::Arc(a);
-        let q = root(square);
-        self.answer(width(if square <= q * (q - 1) { q - 1 } else { q }))
+        self.answer(width(nearest_root(square)))
     }
 }
 

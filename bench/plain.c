@@ -1,8 +1,11 @@
 #include "cycle.h"
+#include "root.h"
 
 #include <string.h>
 
-uint64_t c_root(uint64_t s)
+uint64_t c_root(uint64_t s) { return (uint64_t)least_root((int64_t)s); }
+
+uint64_t c_root_bits(uint64_t s)
 {
     uint64_t r = 0;
     for (uint64_t bit = (uint64_t)1 << 22; bit; bit >>= 1)

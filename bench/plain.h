@@ -1,5 +1,5 @@
-/* Plain programs of the core's semantics, as a firmware engineer would write them, for timing beside it: one in C (plain.c, machine.c, words.c) and one in
- * Rust (plain.rs, path.rs, machine.rs, words.rs). Both offer the same functions, c_.. and rust_... */
+/* Plain programs of the core's semantics, as a firmware engineer would write them, for timing beside it: one in C (plain.c,
+ * machine.c, words.c) and one in Rust (plain.rs, path.rs, machine.rs, words.rs). Both offer the same functions, c_.. and rust_... */
 #ifndef PLAIN_H
 #define PLAIN_H
 
@@ -52,9 +52,10 @@ typedef uint64_t plain_loads(int64_t *words, const struct plain_block *block, ui
 /* Of one side:
  * .._ticks     so many ticks into out, one by one; returns the ticks done, fewer where the block ended
  * .._cycles    the same, but the bytes are cleared first and only the cycles are visited
- * root         the least whole number whose square is at least s, for s below 2^46
- * words_..     a call on the record's 18 words: decode, test, do, encode
- * value_..     the words are decoded once; then n calls, or loads each with a stop, on a struct that goes in and comes back by value; the answers, mixed */
+ * root         the least whole number whose square is at least s, for s below 2^46, by the hardware's root
+ * words_..     a call on the record's words: decode, test, do, encode
+ * value_..     the words are decoded once; then n calls, or loads each with a stop, on a struct that goes in and comes back by
+ *              value; the answers, mixed */
 #define PLAIN_SIDE(SIDE)                                                  \
     plain_run_line SIDE##_line_ticks, SIDE##_line_cycles;                 \
     plain_run_arc SIDE##_arc_ticks, SIDE##_arc_cycles;                    \
@@ -67,7 +68,13 @@ typedef uint64_t plain_loads(int64_t *words, const struct plain_block *block, ui
 PLAIN_SIDE(c)
 PLAIN_SIDE(rust)
 
-/* Another root, by Newton's rule. */
+/* As value_.., on a struct in place. */
+plain_ticks c_place_ticks;
+plain_loads c_place_loads;
+
+/* Other ways to the root: bit by bit, by Newton's rule, and by Rust's library for whole numbers. */
+uint64_t c_root_bits(uint64_t s);
 uint64_t c_root_newton(uint64_t s);
+uint64_t rust_isqrt(uint64_t s);
 
 #endif

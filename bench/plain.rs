@@ -182,9 +182,16 @@ run!(rust_arc_ticks, Arc, ticks);
 run!(rust_line_cycles, Line, cycles);
 run!(rust_arc_cycles, Arc, cycles);
 
-/// The standard library's root, rounded up.
+/// The least root by the hardware's, which is never rounded up to a whole number for s below 2^52.
 #[no_mangle]
 pub extern "C" fn rust_root(s: u64) -> u64 {
+    let r = (s as i64 as f64).sqrt() as i64 as u64;
+    r + u64::from(r * r < s)
+}
+
+/// The root of the standard library for whole numbers, rounded up.
+#[no_mangle]
+pub extern "C" fn rust_isqrt(s: u64) -> u64 {
     let r = s.isqrt();
     r + u64::from(r * r < s)
 }

@@ -1,22 +1,23 @@
-/* The plain C machine behind the header's 18 words, and by value many times over. */
+/* The plain C machine behind the words of a record, and many times over by value and in place. */
 #include "machine.h"
-#include "verdaizka.h"
+#include "record.h"
 
 #include <stdlib.h>
 
 enum { UNSOUND = -9 };
 
-/* Whether the words are a record at all: no mark but 0 and 1, no kind above 3, 0 in what is not used. */
+/* Whether the words are a record at all: of this layout, no mark but 0 and 1, no kind above 3, 0 in what is not used. */
 static bool decode(const int64_t *w, struct machine *m)
 {
-    const int64_t *n = w + VZ_WORD_NUMBERS, kind = w[VZ_WORD_WORK], held = w[VZ_WORD_HELD];
-    if (held < 0 || held > 1 || kind < 0 || kind > 3)
+    const int64_t *n = w + WORD_NUMBERS, kind = w[WORD_WORK], held = w[WORD_HELD];
+    if (w[WORD_ABI] != ABI || held < 0 || held > 1 || kind < 0 || kind > 3)
         return false;
-    m->settings = (struct settings){ w[0], w[1], { w[2], w[3] }, { w[4], w[5] } };
-    m->at = (struct point){ w[VZ_WORD_X], w[VZ_WORD_Y] };
+    const struct range x = { w[WORD_X_LOWER], w[WORD_X_UPPER] }, y = { w[WORD_Y_LOWER], w[WORD_Y_UPPER] };
+    m->settings = (struct settings){ w[WORD_P], w[WORD_W], x, y };
+    m->at = (struct point){ w[WORD_X], w[WORD_Y] };
     m->held = held;
     m->kind = kind;
-    m->remainder = w[VZ_WORD_REMAINDER];
+    m->remainder = w[WORD_REMAINDER];
     if (kind == NOTHING)
         return (n[0] | n[1] | n[2] | n[3] | n[4] | n[5] | n[6]) == 0;
     if (kind == LINE) {
@@ -27,32 +28,33 @@ static bool decode(const int64_t *w, struct machine *m)
     return n[6] == 0;
 }
 
-static void encode(const struct machine *m, int64_t *w)
+static void put(int64_t *to, const int64_t *numbers)
 {
-    const struct settings *s = &m->settings;
-    const struct line *l = &m->line;
-    const struct arc *a = &m->arc;
-    const int64_t head[] = { s->p, s->w, s->x.lower, s->x.upper, s->y.lower, s->y.upper, m->at.x, m->at.y, m->held, m->remainder, m->kind };
-    for (int i = 0; i < VZ_WORD_NUMBERS; i++)
-        w[i] = head[i];
-    int64_t *n = w + VZ_WORD_NUMBERS;
-    for (int i = 0; i < 7; i++)
-        n[i] = 0;
-    if (m->kind == LINE) {
-        const int64_t numbers[] = { l->start.x, l->start.y, l->end.x, l->end.y, l->feed, l->cycles, l->done };
-        for (int i = 0; i < 7; i++)
-            n[i] = numbers[i];
-    } else if (m->kind != NOTHING) {
-        const int64_t numbers[] = { a->centre.x, a->centre.y, a->square, a->end.x, a->end.y, a->feed };
-        for (int i = 0; i < 6; i++)
-            n[i] = numbers[i];
-    }
+    for (int i = 0; i < NUMBERS; i++)
+        to[i] = numbers[i];
 }
 
-static int64_t answer(const struct answered *a, int64_t *words)
+static void encode(const struct machine *m, int64_t *w)
 {
-    encode(&a->machine, words);
-    return a->answer;
+    int64_t *n = w + WORD_NUMBERS;
+    w[WORD_ABI] = ABI;
+    w[WORD_P] = m->settings.p;
+    w[WORD_W] = m->settings.w;
+    w[WORD_X_LOWER] = m->settings.x.lower;
+    w[WORD_X_UPPER] = m->settings.x.upper;
+    w[WORD_Y_LOWER] = m->settings.y.lower;
+    w[WORD_Y_UPPER] = m->settings.y.upper;
+    w[WORD_X] = m->at.x;
+    w[WORD_Y] = m->at.y;
+    w[WORD_HELD] = m->held;
+    w[WORD_REMAINDER] = m->remainder;
+    w[WORD_WORK] = m->kind;
+    if (m->kind == LINE)
+        put(n, (int64_t[]){ m->line.start.x, m->line.start.y, m->line.end.x, m->line.end.y, m->line.feed, m->line.cycles, m->line.done });
+    else if (m->kind != NOTHING)
+        put(n, (int64_t[]){ m->arc.centre.x, m->arc.centre.y, m->arc.square, m->arc.end.x, m->arc.end.y, m->arc.feed, 0 });
+    else
+        put(n, (int64_t[NUMBERS]){ 0 });
 }
 
 int64_t c_words_tick(int64_t *words)
@@ -60,8 +62,9 @@ int64_t c_words_tick(int64_t *words)
     struct machine m;
     if (!decode(words, &m))
         return UNSOUND;
-    struct answered a = c_tick(m);
-    return answer(&a, words);
+    int64_t answer = c_tick_in(&m);
+    encode(&m, words);
+    return answer;
 }
 
 int64_t c_words_load(int64_t *words, const struct plain_block *block)
@@ -69,8 +72,9 @@ int64_t c_words_load(int64_t *words, const struct plain_block *block)
     struct machine m;
     if (!decode(words, &m))
         return UNSOUND;
-    struct answered a = c_load(m, *block);
-    return answer(&a, words);
+    int64_t answer = c_load_in(&m, block);
+    encode(&m, words);
+    return answer;
 }
 
 int64_t c_words_stop(int64_t *words)
@@ -78,8 +82,9 @@ int64_t c_words_stop(int64_t *words)
     struct machine m;
     if (!decode(words, &m))
         return UNSOUND;
-    struct answered a = c_stop(m);
-    return answer(&a, words);
+    int64_t answer = c_stop_in(&m);
+    encode(&m, words);
+    return answer;
 }
 
 uint64_t c_value_ticks(int64_t *words, uint64_t n)
@@ -97,6 +102,18 @@ uint64_t c_value_ticks(int64_t *words, uint64_t n)
     return sum;
 }
 
+uint64_t c_place_ticks(int64_t *words, uint64_t n)
+{
+    struct machine m;
+    uint64_t sum = 0;
+    if (!decode(words, &m))
+        abort();
+    for (uint64_t i = 0; i < n; i++)
+        sum = plain_mix(sum, c_tick_in(&m));
+    encode(&m, words);
+    return sum;
+}
+
 uint64_t c_value_loads(int64_t *words, const struct plain_block *block, uint64_t n)
 {
     struct machine m;
@@ -107,6 +124,21 @@ uint64_t c_value_loads(int64_t *words, const struct plain_block *block, uint64_t
         struct answered a = c_load(m, plain_nth(*block, i)), s = c_stop(a.machine);
         m = s.machine;
         sum = plain_mix(plain_mix(sum, a.answer), s.answer);
+    }
+    encode(&m, words);
+    return sum;
+}
+
+uint64_t c_place_loads(int64_t *words, const struct plain_block *block, uint64_t n)
+{
+    struct machine m;
+    uint64_t sum = 0;
+    if (!decode(words, &m))
+        abort();
+    for (uint64_t i = 0; i < n; i++) {
+        struct plain_block b = plain_nth(*block, i);
+        sum = plain_mix(sum, c_load_in(&m, &b));
+        sum = plain_mix(sum, c_stop_in(&m));
     }
     encode(&m, words);
     return sum;

@@ -1,12 +1,19 @@
-//! The plain Rust machine behind the header's 18 words, and by value many times over.
+//! The plain Rust machine behind the words of a record, and by value many times over.
 use crate::machine::{rust_load, rust_stop, rust_tick, Answered, Block, Machine, Work};
 use crate::path::{Arc, Line, Point, Range, Settings};
 
-type Words = [i64; 18];
+/// Which word is what, `decode` and `encode` say alone.
+type Words = [i64; 19];
 
-/// None where the words are no record at all: a mark but 0 and 1, a kind above 3, not 0 in what is not used.
+/// The number of this layout.
+const ABI: i64 = 1;
+
+/// None where the words are no record at all: of another layout, a mark but 0 and 1, a kind above 3, not 0 in what is not used.
 fn decode(words: &Words) -> Option<Machine> {
-    let [p, w, x_lower, x_upper, y_lower, y_upper, x, y, held, remainder, kind, numbers @ ..] = *words;
+    let [abi, p, w, x_lower, x_upper, y_lower, y_upper, x, y, held, remainder, kind, numbers @ ..] = *words;
+    if abi != ABI {
+        return None;
+    }
     let work = match (kind, numbers) {
         (0, [0, 0, 0, 0, 0, 0, 0]) => Work::Nothing,
         (1, [a, b, c, d, feed, cycles, done]) => {
@@ -33,8 +40,8 @@ fn encode(m: &Machine, words: &mut Words) {
         Work::Line(l) => (1, [l.start.x, l.start.y, l.end.x, l.end.y, l.feed, l.cycles, l.done]),
         Work::Arc(a) => (if a.clockwise { 2 } else { 3 }, [a.centre.x, a.centre.y, a.square, a.end.x, a.end.y, a.feed, 0]),
     };
-    let [a, b, c, d, e, f, g] = n;
-    *words = [p, w, x.lower, x.upper, y.lower, y.upper, m.at.x, m.at.y, i64::from(m.held), m.remainder, kind, a, b, c, d, e, f, g];
+    let (held, [a, b, c, d, e, f, g]) = (i64::from(m.held), n);
+    *words = [ABI, p, w, x.lower, x.upper, y.lower, y.upper, m.at.x, m.at.y, held, m.remainder, kind, a, b, c, d, e, f, g];
 }
 
 fn on_words(words: &mut Words, call: impl FnOnce(Machine) -> Answered) -> i64 {

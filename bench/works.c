@@ -74,8 +74,8 @@ static void runs_core(const struct work *w, uint64_t times)
     uint64_t ticks;
     loaded(words, w);
     for (uint64_t i = 0; i < times; i++) {
-        vz_run((vz_record *)words, UINT64_MAX, out[0], w->units, &ticks);
-        kept = ticks;
+        kept = (uint64_t)vz_run((vz_record *)words, UINT64_MAX, out[0], w->units, &ticks);
+        kept += ticks;
     }
 }
 
@@ -115,6 +115,7 @@ static void ticks_core(const struct work *w, uint64_t times) { words_ticks(w, ti
 static void ticks_c_words(const struct work *w, uint64_t times) { words_ticks(w, times, c_words_tick); }
 static void ticks_rust_words(const struct work *w, uint64_t times) { words_ticks(w, times, rust_words_tick); }
 static void ticks_c(const struct work *w, uint64_t times) { value_ticks(w, times, c_value_ticks); }
+static void ticks_c_place(const struct work *w, uint64_t times) { value_ticks(w, times, c_place_ticks); }
 static void ticks_rust(const struct work *w, uint64_t times) { value_ticks(w, times, rust_value_ticks); }
 
 /* ---- loads, each with the stop that lets the next one in */
@@ -145,6 +146,7 @@ static void loads_core(const struct work *w, uint64_t times) { words_loads(w, ti
 static void loads_c_words(const struct work *w, uint64_t times) { words_loads(w, times, c_words_load, c_words_stop); }
 static void loads_rust_words(const struct work *w, uint64_t times) { words_loads(w, times, rust_words_load, rust_words_stop); }
 static void loads_c(const struct work *w, uint64_t times) { value_loads(w, times, c_value_loads); }
+static void loads_c_place(const struct work *w, uint64_t times) { value_loads(w, times, c_place_loads); }
 static void loads_rust(const struct work *w, uint64_t times) { value_loads(w, times, rust_value_loads); }
 
 /* ---- roots */
@@ -165,52 +167,98 @@ static uint64_t roots_free(uint64_t square, uint64_t times, uint64_t (*root)(uin
     return sum;
 }
 
-static void roots(const struct work *w, uint64_t times, uint64_t (*root)(uint64_t)) { kept = (w->waits ? roots_waiting : roots_free)(w->square, times, root); }
+static void roots(const struct work *w, uint64_t times, uint64_t (*root)(uint64_t))
+{
+    kept = (w->waits ? roots_waiting : roots_free)(w->square, times, root);
+}
+
 static void roots_core(const struct work *w, uint64_t times) { roots(w, times, core_root); }
 static void roots_c(const struct work *w, uint64_t times) { roots(w, times, c_root); }
+static void roots_bits(const struct work *w, uint64_t times) { roots(w, times, c_root_bits); }
 static void roots_newton(const struct work *w, uint64_t times) { roots(w, times, c_root_newton); }
-static void roots_rust(const struct work *w, uint64_t times) { roots(w, times, rust_root); }
+static void roots_isqrt(const struct work *w, uint64_t times) { roots(w, times, rust_isqrt); }
 
 /* ---- the tables and the goals */
 
-static const struct way run_ways[] = { { "core", runs_core },           { "C tick loop", runs_c_loop },       { "C cycle to cycle", runs_c_cycles },
-                                       { "Rust tick loop", runs_rust_loop }, { "Rust cycle to cycle", runs_rust_cycles }, { "memset", runs_memset } };
+enum { LOOP = 1, CYCLES = 2, MEMSET = 5, VALUE = 1 }; /* the ways that goals name */
+
+static const struct way run_ways[] = {
+    { "core", runs_core },
+    { "C tick loop", runs_c_loop },
+    { "C cycle to cycle", runs_c_cycles },
+    { "Rust tick loop", runs_rust_loop },
+    { "Rust cycle to cycle", runs_rust_cycles },
+    { "memset", runs_memset },
+};
+static const struct goal line_loop = { "run on a line at q0", LOOP, 1.5 }, arc_loop = { "run on an arc at q0", LOOP, 1.2 };
+static const struct goal slow_loop = { "run at q0/10 and q0/1000", LOOP, 0.4 }, slow_cycles = { "run at q0/10 and q0/1000", CYCLES, 1.25 };
+static const struct goal long_memset = { "run of 64 KiB at q0/1000", MEMSET, 2 }, short_memset = { "run of 4 KiB at q0/1000", MEMSET, 2.5 };
 static const struct work run_works[] = {
-    { "line, q0", 0, 1, 0, 0, 12, BUFFER, { { 1, 1.5 } } },
-    { "line, q0/10", 0, 10, 0, 0, 40, BUFFER, { { 1, 0.4 }, { 2, 1.25 } } },
-    { "line, q0/1000", 0, 1000, 0, 0, 40, BUFFER, { { 1, 0.4 }, { 2, 1.25 }, { 5, 2 } } },
-    { "line, q0/1000, 4 KiB", 0, 1000, 0, 0, 640, 4096, { { 1, 0.4 }, { 2, 1.25 }, { 5, 2 } } },
-    { "arc, q0", 1, 1, 0, 0, 12, BUFFER, { { 1, 1.2 } } },
-    { "arc, q0/10", 1, 10, 0, 0, 40, BUFFER, { { 1, 0.4 }, { 2, 1.25 } } },
-    { "arc, q0/1000", 1, 1000, 0, 0, 40, BUFFER, { { 1, 0.4 }, { 2, 1.25 }, { 5, 2 } } },
-    { "arc, q0/1000, 4 KiB", 1, 1000, 0, 0, 640, 4096, { { 1, 0.4 }, { 2, 1.25 }, { 5, 2 } } },
-};
-static const struct way tick_ways[] = { { "core, words", ticks_core }, { "C by value", ticks_c }, { "C, words", ticks_c_words }, { "Rust by value", ticks_rust }, { "Rust, words", ticks_rust_words } };
-static const struct work tick_works[] = {
-    { "tick, line, q0", 0, 1, 0, 0, 20000, 1, { { 1, 1.5 } } },
-    { "tick, line, q0/1000", 0, 1000, 0, 0, 20000, 1, { { 1, 1.5 } } },
-    { "tick, arc, q0", 1, 1, 0, 0, 20000, 1, { { 1, 1.5 } } },
-    { "tick, arc, q0/1000", 1, 1000, 0, 0, 20000, 1, { { 1, 1.5 } } },
-};
-static const struct way load_ways[] = { { "core, words", loads_core }, { "C by value", loads_c }, { "C, words", loads_c_words }, { "Rust by value", loads_rust }, { "Rust, words", loads_rust_words } };
-static const struct work load_works[] = {
-    { "load and stop, line", 0, 1, 0, 0, 5000, 1, { { 0, 0 } } },
-    { "load and stop, arc", 1, 1, 0, 0, 5000, 1, { { 0, 0 } } },
-};
-static const struct way root_ways[] = { { "core", roots_core }, { "C bit by bit", roots_c }, { "C Newton", roots_newton }, { "Rust isqrt", roots_rust } };
-static const struct work root_works[] = {
-    { "root of 100", 0, 0, 100, 0, 5000, 1, { { 0, 50 } } },
-    { "root of 2^20", 0, 0, (uint64_t)1 << 20, 0, 5000, 1, { { 0, 50 } } },
-    { "root of 2^43", 0, 0, (uint64_t)1 << 43, 0, 5000, 1, { { 0, 50 } } },
-    { "root of 100, waiting", 0, 0, 100, 1, 5000, 1, { { 0, 50 } } },
-    { "root of 2^20, waiting", 0, 0, (uint64_t)1 << 20, 1, 5000, 1, { { 0, 50 } } },
-    { "root of 2^43, waiting", 0, 0, (uint64_t)1 << 43, 1, 5000, 1, { { 0, 50 } } },
+    { "line, q0", 0, 1, 0, 0, 12, BUFFER, { &line_loop } },
+    { "line, q0/10", 0, 10, 0, 0, 40, BUFFER, { &slow_loop, &slow_cycles } },
+    { "line, q0/1000", 0, 1000, 0, 0, 40, BUFFER, { &slow_loop, &slow_cycles, &long_memset } },
+    { "line, q0/1000, 4 KiB", 0, 1000, 0, 0, 640, 4096, { &slow_loop, &slow_cycles, &short_memset } },
+    { "arc, q0", 1, 1, 0, 0, 12, BUFFER, { &arc_loop } },
+    { "arc, q0/10", 1, 10, 0, 0, 40, BUFFER, { &slow_loop, &slow_cycles } },
+    { "arc, q0/1000", 1, 1000, 0, 0, 40, BUFFER, { &slow_loop, &slow_cycles, &long_memset } },
+    { "arc, q0/1000, 4 KiB", 1, 1000, 0, 0, 640, 4096, { &slow_loop, &slow_cycles, &short_memset } },
 };
 
-#define TABLE(NAME, UNIT, COUNTED, KIND) \
-    { NAME, UNIT, COUNTED, sizeof KIND##_ways / sizeof *KIND##_ways, sizeof KIND##_works / sizeof *KIND##_works, KIND##_ways, KIND##_works }
-const struct table tables[] = { TABLE("run", "tick", 4, run), TABLE("single tick", "call", 2000, tick), TABLE("load", "pair of calls", 1000, load),
-                                TABLE("least root", "call", 1000, root) };
-const int table_count = sizeof tables / sizeof *tables;
+static const struct way tick_ways[] = {
+    { "core, words", ticks_core },
+    { "C by value", ticks_c },
+    { "C, words", ticks_c_words },
+    { "C in place", ticks_c_place },
+    { "Rust by value", ticks_rust },
+    { "Rust, words", ticks_rust_words },
+};
+static const struct goal line_tick = { "single tick on a line at q0", VALUE, 1.25 };
+static const struct goal other_tick = { "single tick on an arc, or at q0/1000", VALUE, 1.5 };
+static const struct work tick_works[] = {
+    { "tick, line, q0", 0, 1, 0, 0, 20000, 1, { &line_tick } },
+    { "tick, line, q0/1000", 0, 1000, 0, 0, 20000, 1, { &other_tick } },
+    { "tick, arc, q0", 1, 1, 0, 0, 20000, 1, { &other_tick } },
+    { "tick, arc, q0/1000", 1, 1000, 0, 0, 20000, 1, { &other_tick } },
+};
+
+static const struct way load_ways[] = {
+    { "core, words", loads_core },
+    { "C by value", loads_c },
+    { "C, words", loads_c_words },
+    { "C in place", loads_c_place },
+    { "Rust by value", loads_rust },
+    { "Rust, words", loads_rust_words },
+};
+static const struct work load_works[] = {
+    { "load and stop, line", 0, 1, 0, 0, 5000, 1, { 0 } },
+    { "load and stop, arc", 1, 1, 0, 0, 5000, 1, { 0 } },
+};
+
+static const struct way root_ways[] = {
+    { "core", roots_core },
+    { "C hardware", roots_c },
+    { "C bit by bit", roots_bits },
+    { "C Newton", roots_newton },
+    { "Rust isqrt", roots_isqrt },
+};
+static const struct goal any_root = { "least root", 0, 50 };
+static const struct work root_works[] = {
+    { "root of 100", 0, 0, 100, 0, 5000, 1, { &any_root } },
+    { "root of 2^20", 0, 0, (uint64_t)1 << 20, 0, 5000, 1, { &any_root } },
+    { "root of 2^43", 0, 0, (uint64_t)1 << 43, 0, 5000, 1, { &any_root } },
+    { "root of 100, waiting", 0, 0, 100, 1, 5000, 1, { &any_root } },
+    { "root of 2^20, waiting", 0, 0, (uint64_t)1 << 20, 1, 5000, 1, { &any_root } },
+    { "root of 2^43, waiting", 0, 0, (uint64_t)1 << 43, 1, 5000, 1, { &any_root } },
+};
+
+#define COUNT(LIST) (sizeof LIST / sizeof *LIST)
+#define TABLE(NAME, UNIT, COUNTED, KIND) { NAME, UNIT, COUNTED, COUNT(KIND##_ways), COUNT(KIND##_works), KIND##_ways, KIND##_works }
+const struct table tables[] = {
+    TABLE("run", "tick", 4, run),
+    TABLE("single tick", "call", 2000, tick),
+    TABLE("load", "pair of calls", 1000, load),
+    TABLE("least root", "call", 1000, root),
+};
+const int table_count = COUNT(tables);
 
 int is_there(const struct table *t) { return t->way != root_ways || core_root; }

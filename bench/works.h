@@ -6,11 +6,12 @@
 
 #include <stddef.h>
 
-enum { BUFFER = 65536, MOST_WAYS = 6, MOST_WORKS = 8 };
+enum { BUFFER = 65536, MOST_WAYS = 6, MOST_WORKS = 8, MOST_GOALS = 3 };
 static const uint64_t CAPACITY = 300000;
 
-/* A ratio of the core to a way that is not to be passed; of way 0, the core itself, a time in ns. No limit: 0. */
+/* A ratio of the core to a way that is not to be passed, in every work that names the goal; of way 0, the core itself, a time in ns. */
 struct goal {
+    const char *text; /* what is at most so many times the way */
     int way;
     double limit;
 };
@@ -23,7 +24,7 @@ struct work {
     int waits;       /* each root waits for the one before it */
     uint64_t times;  /* how often the work is done between two looks at the clock */
     uint64_t units;  /* in one time: the bytes that a run fills, or 1 */
-    struct goal goals[3];
+    const struct goal *goals[MOST_GOALS]; /* null where there are no more */
 };
 
 struct way {
