@@ -118,6 +118,12 @@ pub record Tells (c : Check) (ws ps : List ℤ) : Type 0 where
   pub words : ws ≡ encodeOf (c .tally .machine)
   pub progress : ps ≡ encodeProgress c
 
+-- a start may answer n
+abbrev pub StartsFromC : Lfts 2 → (words words′ progress progress′ : RefT (List ℤ)) (p w xlo xhi ylo yhi n : ℤ) → Type 0
+StartsFromC κs words words′ progress progress′ p w xlo xhi ylo yhi n =
+    start-reads.Learnt κs (words, (progress, (p, (w, (xlo, (xhi, (ylo, (yhi, tt)))))))) n
+    (words′, (progress′, (p, (w, (xlo, (xhi, (ylo, (yhi, tt))))))))
+
 -- the words of a check that begins at the machine that a make answers
 abbrev pub StartedWords : Settings → (n : ℤ) (ws ps : List ℤ) → Type 0
 StartedWords s n ws ps = (r : Answered) × Makes s r × (n ≡ answerNumber (r .answer)) × (c : Check) × Starts (r .machine) c × Tells c ws ps
@@ -174,7 +180,7 @@ pub record EveryCallFromC : Type 0 where
       → text-reads.Learnt κs (words, (known, (line, tt))) n (words′, (known′, (line, tt)))
       → LineOnWords (now words) (now known) line n (now words′) (now known′)
   pub start : (κs : Lfts 2) (words words′ progress progress′ : RefT (List ℤ)) (p w xlo xhi ylo yhi n : ℤ)
-      → start-reads.Learnt κs (words, (progress, (p, (w, (xlo, (xhi, (ylo, (yhi, tt)))))))) n (words′, (progress′, (p, (w, (xlo, (xhi, (ylo, (yhi, tt))))))))
+      → StartsFromC κs words words′ progress progress′ p w xlo xhi ylo yhi n
       → StartedWords (settingsOf p w xlo xhi ylo yhi) n (now words′) (now progress′)
   pub fill : (κs : Lfts 5) (ws ws′ ps ps′ : RefT (List ℤ)) (text out out′ : RefT (List ℕ)) (len len′ : RefT ℕ) (n : ℤ)
       → FillsFromC κs ws ws′ ps ps′ text out out′ len len′ n → (m : Machine) → IsCheck (now ws) (now ps) m
@@ -185,7 +191,7 @@ pub record EveryCallFromC : Type 0 where
       → Refuses (now ws) (now ps) (now out) n (now len′) (now ws′) (now ps′) (now out′)
   -- "The check program", from C: whoever fills the words of a start gets the listing, to the byte, and the answer 1 at its end
   pub listing : (κs : Lfts 2) (words words′ progress progress′ : RefT (List ℤ)) (p w xlo xhi ylo yhi n : ℤ)
-      → start-reads.Learnt κs (words, (progress, (p, (w, (xlo, (xhi, (ylo, (yhi, tt)))))))) n (words′, (progress′, (p, (w, (xlo, (xhi, (ylo, (yhi, tt))))))))
+      → StartsFromC κs words words′ progress progress′ p w xlo xhi ylo yhi n
       → (let s = settingsOf p w xlo xhi ylo yhi in AllYes (settingsQuestions s)
       → (text bytes : List ℕ) (last : ℤ) (ws ps : List ℤ) → RowsOutToC text (now words′) (now progress′) bytes last ws ps
       → FrontOf (jobListing (capacityOf s) (jobOf s text)) bytes (last ≡ pos 1))

@@ -76,5 +76,6 @@ pub record Hands (c : Check) (text old : List ℕ) (answer : ℤ) (len : ℕ) (w
 
 -- what a fill tells, whatever the words
 pub data TellsFill (ws ps : List ℤ) (text old : List ℕ) (answer : ℤ) (len : ℕ) (ws′ ps′ : List ℤ) (new : List ℕ) : Type 0 where
-  check : isCheck ws ps ≡ true → Hands (checkTold ws ps .check) text old answer len ws′ ps′ new → TellsFill ws ps text old answer len ws′ ps′ new
+  check : isCheck ws ps ≡ true → Hands (checkTold ws ps .check) text old answer len ws′ ps′ new
+      → TellsFill ws ps text old answer len ws′ ps′ new
   no-check : isCheck ws ps ≡ false → Refuses ws ps old answer len ws′ ps′ new → TellsFill ws ps text old answer len ws′ ps′ new

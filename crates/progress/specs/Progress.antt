@@ -1,5 +1,5 @@
--- A check's progress as 8 words beside its machine's record, signed numbers of 64 bits: the stage, where the next line begins in the text, the G and the F
--- known, and the lines, blocks, cycles and ticks so far.
+-- A check's progress as 8 words beside its machine's record, signed numbers of 64 bits: the stage, where the next line begins in the text,
+-- the G and the F known, and the lines, blocks, cycles and ticks so far.
 use mathlib.Core.Bool.{cond}
 use mathlib.Core.List.{List, [], _∷_}
 use Prim.Native.Nat.{ℕ}
@@ -75,7 +75,7 @@ progressIn ws =
 unfoldable pub checkIn : Machine → List ℤ → Check
 checkIn m ws = checkOf m (progressIn ws)
 
--- Words are a check's progress if they are those of the check that they tell. So a stage above 2, a negative count, and a G or F that tells nothing
--- make no progress.
+-- Words are a check's progress if they are those of the check that they tell. So a stage above 2, a negative count, and a G or F that tells
+-- nothing make no progress.
 unfoldable pub decodeProgress : Machine → List ℤ → DecodedProgress
 decodeProgress m ws = record { ok = sameWords ws (encodeProgress (checkIn m ws)); check = checkIn m ws }

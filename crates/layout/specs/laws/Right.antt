@@ -21,19 +21,19 @@ use Rattle.layout.specs.Right.{isCount, isMark, headRight, nothingRight,
 use Rattle.layout.specs.laws.Number.{word-small}
 use Rattle.layout.specs.laws.Same.{same-true, same-words}
 
--- ---- one word
+-- ---- one word: `-again`, that a right one is written again from what it tells; `-right`, that one written again is right
 
-pub count-back : (z : ℤ) → SFits w64 z → isCount z ≡ true → wordOf (countOf z) ≡ z
-count-back (pos n) f t = word-small (omega arith)
-count-back (negsuc n) f t = cc
+pub count-again : (z : ℤ) → SFits w64 z → isCount z ≡ true → wordOf (countOf z) ≡ z
+count-again (pos n) f t = word-small (omega arith)
+count-again (negsuc n) f t = cc
 
 pub count-right : (z : ℤ) → wordOf (countOf z) ≡ z → isCount z ≡ true
 unfolding wordOf
 count-right (pos n) e = refl
 count-right (negsuc n) e = cc
 
-mark-back : (z : ℤ) → isMark z ≡ true → markWord (eqb (countOf z) 1) ≡ z
-mark-back z = by (equalZ z (pos 0)) refl
+mark-again : (z : ℤ) → isMark z ≡ true → markWord (eqb (countOf z) 1) ≡ z
+mark-again z = by (equalZ z (pos 0)) refl
   where
     by : (none : Bool) → equalZ z (pos 0) ≡ none → cond none true (equalZ z (pos 1)) ≡ true → markWord (eqb (countOf z) 1) ≡ z
     by true e t = rw (equal-true z (pos 0) e)
@@ -52,13 +52,13 @@ zero-right e = rw (← e)
 -- ---- the words before what is in work
 
 module _ (h : Head) (work : Work) where
-  head-back : SFits w64 (h .p) → SFits w64 (h .w) → SFits w64 (h .remainder) → headRight h ≡ true → headOf (machineOf h work) ≡ h
+  head-again : SFits w64 (h .p) → SFits w64 (h .w) → SFits w64 (h .remainder) → headRight h ≡ true → headOf (machineOf h work) ≡ h
   unfolding headRight
-  head-back fp fw fr t =
+  head-again fp fw fr t =
       let a = both t in
       let b = both (a .1) in
       let c = both (b .1) in
-      rw (count-back (h .p) fp (a .0), count-back (h .w) fw (b .0), mark-back (h .mark) (c .0), count-back (h .remainder) fr (c .1))
+      rw (count-again (h .p) fp (a .0), count-again (h .w) fw (b .0), mark-again (h .mark) (c .0), count-again (h .remainder) fr (c .1))
 
   head-right : headOf (machineOf h work) ≡ h → headRight h ≡ true
   unfolding headRight
@@ -80,8 +80,8 @@ module _ (w : WorkWords) where
   abbrev of-kind : ℤ → WorkWords
   of-kind k = workWords k (w .a) (w .b) (w .c) (w .d) (w .e) (w .f) (w .g)
 
-  nothing-back : nothingRight w ≡ true → workWordsOf Work.Nothing ≡ of-kind (pos 0)
-  nothing-back t =
+  nothing-again : nothingRight w ≡ true → workWordsOf Work.Nothing ≡ of-kind (pos 0)
+  nothing-again t =
       let a = both t in
       let b = both (a .1) in
       let c = both (b .1) in
@@ -98,30 +98,30 @@ module _ (w : WorkWords) where
         equal-true (w .g) (pos 0) (f .1),
       )
 
-  line-back : WorkFits w → lineRight w ≡ true → workWordsOf (Work.Line (lineOf w)) ≡ of-kind (pos 1)
-  line-back s t =
+  line-again : WorkFits w → lineRight w ≡ true → workWordsOf (Work.Line (lineOf w)) ≡ of-kind (pos 1)
+  line-again s t =
       let a = both t in
       let b = both (a .1) in
-      rw (count-back (w .e) (s .e) (a .0), count-back (w .f) (s .f) (b .0), count-back (w .g) (s .g) (b .1))
+      rw (count-again (w .e) (s .e) (a .0), count-again (w .f) (s .f) (b .0), count-again (w .g) (s .g) (b .1))
 
-  arc-back : (turn : Turn) → WorkFits w → arcRight w ≡ true → workWordsOf (Work.Arc (arcOf turn w)) ≡ of-kind (turnWord turn)
-  arc-back turn s t =
+  arc-again : (turn : Turn) → WorkFits w → arcRight w ≡ true → workWordsOf (Work.Arc (arcOf turn w)) ≡ of-kind (turnWord turn)
+  arc-again turn s t =
       let a = both t in
       let b = both (a .1) in
-      rw (count-back (w .c) (s .c) (a .0), count-back (w .f) (s .f) (b .0), equal-true (w .g) (pos 0) (b .1))
+      rw (count-again (w .c) (s .c) (a .0), count-again (w .f) (s .f) (b .0), equal-true (w .g) (pos 0) (b .1))
 
-  work-back : WorkFits w → workRight w ≡ true → workWordsOf (workOf w) ≡ of-kind (w .kind)
+  work-again : WorkFits w → workRight w ≡ true → workWordsOf (workOf w) ≡ of-kind (w .kind)
   unfolding workRight workOf
-  work-back s = by (equalZ (w .kind) (pos 0)) refl (equalZ (w .kind) (pos 1)) refl (equalZ (w .kind) (pos 2)) refl (equalZ (w .kind) (pos 3)) refl
+  work-again s = by (equalZ (w .kind) (pos 0)) refl (equalZ (w .kind) (pos 1)) refl (equalZ (w .kind) (pos 2)) refl (equalZ (w .kind) (pos 3)) refl
     where
       by : (k0 : Bool) → equalZ (w .kind) (pos 0) ≡ k0 → (k1 : Bool) → equalZ (w .kind) (pos 1) ≡ k1 → (k2 : Bool) → equalZ (w .kind) (pos 2) ≡ k2
           → (k3 : Bool) → equalZ (w .kind) (pos 3) ≡ k3
           → cond k0 (nothingRight w) (cond k1 (lineRight w) (cond k2 (arcRight w) (cond k3 (arcRight w) false))) ≡ true
           → workWordsOf (workOf w) ≡ of-kind (w .kind)
-      by true e k1 e1 k2 e2 k3 e3 t = rw (equal-true (w .kind) (pos 0) e) (nothing-back t)
-      by false e true e1 k2 e2 k3 e3 t = rw (equal-true (w .kind) (pos 1) e1) (line-back s t)
-      by false e false e1 true e2 k3 e3 t = rw (equal-true (w .kind) (pos 2) e2) (arc-back Turn.Clockwise s t)
-      by false e false e1 false e2 true e3 t = rw (equal-true (w .kind) (pos 3) e3) (arc-back Turn.Counterclockwise s t)
+      by true e k1 e1 k2 e2 k3 e3 t = rw (equal-true (w .kind) (pos 0) e) (nothing-again t)
+      by false e true e1 k2 e2 k3 e3 t = rw (equal-true (w .kind) (pos 1) e1) (line-again s t)
+      by false e false e1 true e2 k3 e3 t = rw (equal-true (w .kind) (pos 2) e2) (arc-again Turn.Clockwise s t)
+      by false e false e1 false e2 true e3 t = rw (equal-true (w .kind) (pos 3) e3) (arc-again Turn.Counterclockwise s t)
       by false e false e1 false e2 false e3 t = cc
 
   -- and the other way: by what the kind tells
@@ -183,13 +183,13 @@ pub record Fits (ws : List ℤ) : Type 0 where
   pub work : WorkFits (workWordsIn ws)
 
 module _ (ws : List ℤ) (all : length ws ≡ 19) (f : Fits ws) where
-  told-back : wordsRight ws ≡ true → ws ≡ encodeOf (machineIn ws)
+  told-again : wordsRight ws ≡ true → ws ≡ encodeOf (machineIn ws)
   unfolding wordsRight partsRight encodeOf machineIn
-  told-back t =
+  told-again t =
       let a = both t in
       let b = both (a .1) in
-      let h = head-back (headIn ws) (workOf (workWordsIn ws)) (f .p) (f .w) (f .remainder) (b .0) in
-      let w = work-back (workWordsIn ws) (f .work) (b .1) in
+      let h = head-again (headIn ws) (workOf (workWordsIn ws)) (f .p) (f .w) (f .remainder) (b .0) in
+      let w = work-again (workWordsIn ws) (f .work) (b .1) in
       each 19 ws all
       ∙ ap (λ (first : ℤ). first ∷ wordsAt 1 18 ws) (equal-true (at ws 0) abi (a .0))
       ∙ ap (λ (g : Head). wordsOf g (workWordsIn ws)) (sym h)
@@ -205,4 +205,4 @@ module _ (ws : List ℤ) (all : length ws ≡ 19) (f : Fits ws) where
   pub right-same : wordsRight ws ≡ isRecord ws
   unfolding isRecord
   right-same =
-      same-test (λ t. sym (same-words (told-back t))) (λ t. told-right (same-true ws (encodeOf (machineIn ws)) t))
+      same-test (λ t. sym (same-words (told-again t))) (λ t. told-right (same-true ws (encodeOf (machineIn ws)) t))

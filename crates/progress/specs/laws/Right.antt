@@ -22,7 +22,7 @@ use Rattle.machine.specs.declared.Machine.{Machine}
 use Rattle.job.specs.declared.Stage.{Stage}
 use Rattle.layout.specs.Words.{wordOf, countOf, at, sameWords}
 use Rattle.layout.specs.Right.{isCount}
-use Rattle.layout.specs.laws.Right.{count-back, count-right, each}
+use Rattle.layout.specs.laws.Right.{count-again, count-right, each}
 use Rattle.layout.specs.laws.Same.{same-true, same-words}
 use Rattle.progress.specs.declared.known.Known.{Known}
 use Rattle.progress.specs.declared.progress.Progress.{Progress}
@@ -42,12 +42,12 @@ range-of r z low high = joined (≼-leZ (r .lower) z low) (≼-leZ z (r .upper) 
 
 -- ---- one word
 
-stage-back : (z : ℤ) → withinOf stages z ≡ true → stageWord (stageOf (countOf z)) ≡ z
-stage-back (pos zero) t = refl
-stage-back (pos (suc zero)) t = refl
-stage-back (pos (suc (suc zero))) t = refl
-stage-back (pos (suc (suc (suc n)))) t = absurd (omega (arith, range-to stages (pos (suc (suc (suc n)))) t .1))
-stage-back (negsuc n) t = absurd (omega (arith, range-to stages (negsuc n) t .0))
+stage-again : (z : ℤ) → withinOf stages z ≡ true → stageWord (stageOf (countOf z)) ≡ z
+stage-again (pos zero) t = refl
+stage-again (pos (suc zero)) t = refl
+stage-again (pos (suc (suc zero))) t = refl
+stage-again (pos (suc (suc (suc n)))) t = absurd (omega (arith, range-to stages (pos (suc (suc (suc n)))) t .1))
+stage-again (negsuc n) t = absurd (omega (arith, range-to stages (negsuc n) t .0))
 
 stage-right : (s : Stage) → withinOf stages (stageWord s) ≡ true
 unfolding withinOf
@@ -55,13 +55,13 @@ stage-right Stage.Header = refl
 stage-right Stage.Lines = refl
 stage-right Stage.Over = refl
 
-motion-back : (z : ℤ) → withinOf motions z ≡ true → motionWord (motionOf (countOf z)) ≡ z
-motion-back (pos zero) t = refl
-motion-back (pos (suc zero)) t = refl
-motion-back (pos (suc (suc zero))) t = refl
-motion-back (pos (suc (suc (suc zero)))) t = refl
-motion-back (pos (suc (suc (suc (suc n))))) t = absurd (omega (arith, range-to motions (pos (suc (suc (suc (suc n))))) t .1))
-motion-back (negsuc n) t = absurd (omega (arith, range-to motions (negsuc n) t .0))
+motion-again : (z : ℤ) → withinOf motions z ≡ true → motionWord (motionOf (countOf z)) ≡ z
+motion-again (pos zero) t = refl
+motion-again (pos (suc zero)) t = refl
+motion-again (pos (suc (suc zero))) t = refl
+motion-again (pos (suc (suc (suc zero)))) t = refl
+motion-again (pos (suc (suc (suc (suc n))))) t = absurd (omega (arith, range-to motions (pos (suc (suc (suc (suc n))))) t .1))
+motion-again (negsuc n) t = absurd (omega (arith, range-to motions (negsuc n) t .0))
 
 motion-right : (m : Motion) → withinOf motions (motionWord m) ≡ true
 unfolding withinOf
@@ -70,10 +70,10 @@ motion-right Motion.Line = refl
 motion-right (Motion.Arc Turn.Clockwise) = refl
 motion-right (Motion.Arc Turn.Counterclockwise) = refl
 
-feed-back : (z : ℤ) → withinOf feeds z ≡ true → feedWord (feedOf z) ≡ z
-feed-back (pos f) t = rw (lt-ltb f (2 ^ 32) (omega (arith, range-to feeds (pos f) t .1)))
-feed-back (negsuc zero) t = refl
-feed-back (negsuc (suc n)) t = absurd (omega (arith, range-to feeds (negsuc (suc n)) t .0))
+feed-again : (z : ℤ) → withinOf feeds z ≡ true → feedWord (feedOf z) ≡ z
+feed-again (pos f) t = rw (lt-ltb f (2 ^ 32) (omega (arith, range-to feeds (pos f) t .1)))
+feed-again (negsuc zero) t = refl
+feed-again (negsuc (suc n)) t = absurd (omega (arith, range-to feeds (negsuc (suc n)) t .0))
 
 -- a feed that the words tell
 feed-right : (z : ℤ) → feedWord (feedOf z) ≡ z → withinOf feeds z ≡ true
@@ -87,9 +87,9 @@ feed-right (negsuc n) = λ e. rw (← e) (range-of feeds (negsuc 0) (omega arith
 -- ---- what is known
 
 module _ (k : Known) where
-  known-back : knownRight k ≡ true → knownOf (readerOf k) ≡ k
+  known-again : knownRight k ≡ true → knownOf (readerOf k) ≡ k
   unfolding knownRight
-  known-back t = let b = both t in rw (motion-back (k .motion) (b .0), feed-back (k .feed) (b .1))
+  known-again t = let b = both t in rw (motion-again (k .motion) (b .0), feed-again (k .feed) (b .1))
 
   known-right : knownOf (readerOf k) ≡ k → knownRight k ≡ true
   unfolding knownRight
@@ -101,7 +101,7 @@ pub known-same : (ws : List ℤ) → length ws ≡ 2 → knownRight (knownIn ws)
 unfolding encodeKnown
 known-same ws all =
     same-test
-    (λ t. sym (same-words (each 2 ws all ∙ ap (λ (k : Known). k .motion ∷ k .feed ∷ []) (sym (known-back (knownIn ws) t)))))
+    (λ t. sym (same-words (each 2 ws all ∙ ap (λ (k : Known). k .motion ∷ k .feed ∷ []) (sym (known-again (knownIn ws) t)))))
     (λ t. known-right (knownIn ws) (sym (ap knownIn (same-true ws (encodeKnown (readerOf (knownIn ws))) t))))
 
 -- ---- progress
@@ -115,9 +115,9 @@ pub record Fits (p : Progress) : Type 0 where
   pub ticks : SFits w64 (p .ticks)
 
 module _ (m : Machine) (p : Progress) where
-  progress-back : Fits p → progressRight p ≡ true → progressOf (checkOf m p) ≡ p
+  progress-again : Fits p → progressRight p ≡ true → progressOf (checkOf m p) ≡ p
   unfolding progressRight countsRight
-  progress-back f t =
+  progress-again f t =
       let s = both t in
       let k = both (s .1) in
       let a = both (k .1) in
@@ -125,13 +125,13 @@ module _ (m : Machine) (p : Progress) where
       let b = both (l .1) in
       let c = both (b .1) in
       rw (
-        stage-back (p .stage) (s .0),
-        known-back (p .known) (k .0),
-        count-back (p .at) (f .at) (a .0),
-        count-back (p .lines) (f .lines) (l .0),
-        count-back (p .blocks) (f .blocks) (b .0),
-        count-back (p .cycles) (f .cycles) (c .0),
-        count-back (p .ticks) (f .ticks) (c .1),
+        stage-again (p .stage) (s .0),
+        known-again (p .known) (k .0),
+        count-again (p .at) (f .at) (a .0),
+        count-again (p .lines) (f .lines) (l .0),
+        count-again (p .blocks) (f .blocks) (b .0),
+        count-again (p .cycles) (f .cycles) (c .0),
+        count-again (p .ticks) (f .ticks) (c .1),
       )
 
   progress-right : progressOf (checkOf m p) ≡ p → progressRight p ≡ true
@@ -150,5 +150,5 @@ pub progress-same : (m : Machine) (ws : List ℤ) → length ws ≡ 8 → Fits (
 unfolding encodeProgress checkIn
 progress-same m ws all f =
     same-test
-    (λ t. sym (same-words (each 8 ws all ∙ ap progressWords (sym (progress-back m (progressIn ws) f t)))))
+    (λ t. sym (same-words (each 8 ws all ∙ ap progressWords (sym (progress-again m (progressIn ws) f t)))))
     (λ t. progress-right m (progressIn ws) (sym (ap progressIn (same-true ws (encodeProgress (checkIn m ws)) t))))
