@@ -42,10 +42,20 @@ pub fn difference(from: i64, to: i64) -> SignMagnitude
     }
 }
 
+// Right for the least i64 too, whose magnitude no i64 has: -1 - x is never out of range, and 1 is added after the cast.
 pub fn part(x: i64) -> SignMagnitude
     ensures { λ r. ⌜ r ≡ partOf x ⌝ }
 {
-    difference(0, x)
+    if 0 <= x {
+        return SignMagnitude {
+            negative: false,
+            magnitude: x as u64,
+        };
+    }
+    SignMagnitude {
+        negative: true,
+        magnitude: (-1 - x) as u64 + 1,
+    }
 }
 
 // The least i64 has a magnitude that no i64 has, so 1 is taken off before the cast.

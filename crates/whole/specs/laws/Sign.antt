@@ -3,7 +3,7 @@ use mathlib.Core.Path.{_≡_, refl, sym, ap, _∙_}
 use mathlib.Core.Bool.{Bool, true, false, Bool·beq}
 use Prim.Native.Nat.{ℕ, zero, suc, _+_, _-_, _^_, _≤_, _<_}
 use native.Mathlib.Omega.{arith}
-use lib.IntN.{ℤ, pos, negsuc, negℤ, natAbs}
+use lib.IntN.{ℤ, pos, negsuc, negℤ, natAbs, _-ℤ_}
 use lib.Dec.{eqb}
 use borrow.Author.Tests.{eq-eqb, eqb-false}
 use mir.Syntax.{w64}
@@ -12,7 +12,7 @@ use Rattle.whole.specs.Sign.{signed, partOf, joinOf, differenceOf, offse
 use Rattle.whole.specs.laws.Difference.{up, down, Difference, parts, natural, negated, added, size-up}
 use Rattle.whole.specs.Equal.{equalZ}
 use Rattle.whole.specs.laws.Test.{refuted, equal-true}
-use Rattle.whole.specs.laws.Order.{range}
+use Rattle.whole.specs.laws.Order.{_≼_, _≺_, fits, range}
 
 -- exact for every whole number, 0 among them
 pub join-part : (x : ℤ) → joinOf (partOf x) ≡ x
@@ -56,6 +56,28 @@ part-negative {z = negsuc a} h l m e = ap (λ (t : ℕ). record { negative = tru
 pub part-positive : {z : ℤ} {p n : ℕ} → Difference z p n → n ≤ p → (m : ℕ) → m + n ≡ p → record { negative = false; magnitude = m } ≡ partOf z
 part-positive {z = pos a} h l m e = ap (λ (t : ℕ). record { negative = false; magnitude = t }) (omega arith)
 part-positive {z = negsuc a} h l m e = absurd (omega arith)
+
+-- ---- a number by its own sign: below 0, -1 - x is not negative, fits where x does, and is one short of the magnitude
+
+module _ (x : ℤ) (below : x ≺ pos 0) where
+  way : Difference (negsuc 0 -ℤ x) (0 + down x) (1 + up x)
+  way = added (parts (negsuc 0)) (negated (parts x))
+
+  pub short : natAbs (negsuc 0 -ℤ x) + 1 + up x ≡ down x
+  short = omega (arith, size-up way (omega arith))
+
+  pub short-up : pos 0 ≼ negsuc 0 -ℤ x
+  short-up = omega (arith, way)
+
+  pub short-fits : SFits w64 x → SFits w64 (negsuc 0 -ℤ x)
+  short-fits f = fits way (omega (arith, range x f)) (omega arith)
+
+  pub part-below : record { negative = true; magnitude = natAbs (negsuc 0 -ℤ x) + 1 } ≡ partOf x
+  part-below = part-negative (parts x) (omega arith) _ short
+
+pub part-above : (x : ℤ) → pos 0 ≼ x → record { negative = false; magnitude = natAbs x } ≡ partOf x
+part-above (pos a) above = refl
+part-above (negsuc a) above = absurd (omega arith)
 
 -- ---- offset binary
 
