@@ -126,6 +126,6 @@ impl Arc {
     pub fn width(self) -> u64
         ensures { λ r. ⌜ r ≡ arcWidth self ⌝ }
     {
-        whole::width::width(whole::root::nearest_root(self.square))
+        whole::width::root_width(self.square)
     }
 }

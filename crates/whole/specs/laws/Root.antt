@@ -1,7 +1,7 @@
 -- The least and the nearest root by inequalities, and that these settle them.
 use mathlib.Core.Path.{_≡_, refl, sym, _∙_}
 use Prim.Native.Nat.{ℕ, zero, suc, _+_, _-_, _*_, _≤_, _<_, zero-le}
-use native.Mathlib.Nat.{lt-of-not-le, lt-of-lt-of-le}
+use native.Mathlib.Nat.{lt-of-not-le, not-le-of-lt, lt-of-lt-of-le, le-trans, add-le-add}
 use native.Mathlib.Decide.{decLe}
 use native.Mathlib.Numerals.{add-one}
 use native.Mathlib.Omega.{arith}
@@ -12,7 +12,7 @@ use Rattle.whole.specs.First.{firstFrom}
 use Rattle.whole.specs.Root.{leastRoot, nearestRoot}
 use Rattle.whole.specs.laws.First.{Least, unique, first-least}
 use Rattle.whole.specs.laws.Test.{same-test}
-use Rattle.whole.specs.laws.Squares.{square-lt, next-square}
+use Rattle.whole.specs.laws.Squares.{square-le, square-lt, next-square}
 
 -- ---- the least root
 
@@ -112,6 +112,16 @@ nearest-root-is {n} {r} p =
         by : Dec (r ≤ k) → r ≤ k
         by (yes g) = g
         by (no f) = absurd (omega (arith, next-square (lt-of-not-le f)))
+
+-- the nearest root is at most k exactly where n is at most k² + k
+pub nearest-above : (n : ℕ) → n ≤ nearestRoot n * nearestRoot n + nearestRoot n
+nearest-above n = leb→le n _ (first-nearest-root n .passes)
+
+pub nearest-least : (n k : ℕ) → n ≤ k * k + k → nearestRoot n ≤ k
+nearest-least n k h = first-nearest-root n .least k (le→leb n (k * k + k) h)
+
+pub nearest-over : (n k : ℕ) → k * k + k < n → k < nearestRoot n
+nearest-over n k h = lt-of-not-le (λ g. not-le-of-lt h (le-trans (nearest-above n) (add-le-add (square-le g) g)))
 
 pub nearest-root-zero : nearestRoot 0 ≡ 0
 unfolding nearestRoot firstFrom
