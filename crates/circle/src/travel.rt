@@ -12,9 +12,12 @@ ghost use mathlib.Core.Path.{_≡_};
 ghost use mathlib.Core.Bool.{true, false};
 ghost use Prim.Native.Nat.{_≤_, _<_, _^_};
 ghost use lib.IntN.{natAbs};
-ghost use Rattle.circle.specs.Circle.{largestN, onCircle};
-ghost use Rattle.circle.specs.Travel.{belowTest, insideTest, reaches, axesPassed, axisTest, axesTest, wayInside, seenRoom, staysInside};
+ghost use Rattle.circle.specs.declared.plane.Offset.{Offset};
+ghost use Rattle.circle.specs.Circle.{Circle, largestN, onCircle};
+ghost use Rattle.circle.specs.Travel.{Inside, belowTest, insideTest, seenRoom, wayInside, staysInside};
+ghost use Rattle.circle.specs.Travel.{reaches, axesPassed, axisTest, axesTest};
 ghost use Rattle.circle.specs.Asked.{Crossing};
+ghost use Rattle.circle.specs.laws.Inside.{smallerOf};
 
 // The room as the mirror shows it to clockwise.
 fn room_from(turn: Turn, room: Room) -> Room
@@ -145,11 +148,31 @@ fn way_inside(room: Room, n: u64, p: Offset, e: Offset) -> bool
     axes_clear(room, n, axes_passed(from, to), from.quadrant)
 }
 
+fn smaller(a: i64, b: i64) -> i64
+    ensures { λ r. ⌜ r ≡ smallerOf a b ⌝ }
+{
+    if a <= b { a } else { b }
+}
+
+// Whether the least of the four sides reaches the circle: then every circle point is inside.
+fn surrounds(room: Room, n: u64) -> bool
+    requires { ⌜ n ≤ largestN ⌝ }
+    ensures { λ r. ⌜ (r ≡ true → (p : Offset) → Circle n p → Inside room p) ⌝ }
+{
+    let x = smaller(room.right, room.left);
+    let y = smaller(room.up, room.down);
+    reaches_axis(n, smaller(x, y))
+}
+
 // Whether p and every point still to visit on the way to e are inside, for any room.
+// Most arcs are far from the edge of the travel, and for these one product tells.
 pub fn stays_inside(room: Room, n: u64, turn: Turn, p: Offset, e: Offset) -> bool
     requires { ⌜ (onCircle n p ≡ true) × (onCircle n e ≡ true) ⌝ }
     ensures { λ r. ⌜ r ≡ staysInside room n turn p e ⌝ }
 {
+    if surrounds(room, n) {
+        return true;
+    }
     let seen_room = room_from(turn, room);
     let from = seen_from(turn, p);
     let to = seen_from(turn, e);

@@ -10,7 +10,7 @@ use lib.Signed.{_≤ℤ_, leZ}
 use borrow.Author.Tests.{leb-true, le-leb}
 use Rattle.whole.specs.Root.{nearestRoot}
 use Rattle.whole.specs.laws.Difference.{natural, negated}
-use Rattle.whole.specs.laws.Order.{from-≤ℤ, to-≤ℤ}
+use Rattle.whole.specs.laws.Order.{_≼_, from-≤ℤ, to-≤ℤ, leZ-true, leZ-false, abs-is, abs-neg}
 use Rattle.circle.specs.declared.plane.Offset.{Offset}
 use Rattle.circle.specs.declared.plane.Room.{Room}
 use Rattle.circle.specs.declared.plane.Turn.{Turn}
@@ -23,7 +23,7 @@ use Rattle.circle.specs.Count.{onward, quarterOf, cyclesOf}
 use Rattle.circle.specs.Travel.{Inside, belowTest, insideTest, reaches, axesPassed, axisTest, axesTest, wayInside, seenRoom, staysInside}
 use Rattle.circle.specs.laws.Test.{both-true, both-of}
 use Rattle.circle.specs.laws.Octant.{Axis, nearest-axis, axis-within, within-axis}
-use Rattle.circle.specs.laws.Circle.{circle-some}
+use Rattle.circle.specs.laws.Circle.{circle-some, under-radius}
 use Rattle.circle.specs.laws.Next.{On, seen-form, step-circle}
 use Rattle.circle.specs.laws.Walk.{quarter-axis, seen-step, seen-injective, after-front, walk-to, walk-of, Ahead, at-end, goes-on, ahead, cycles-range, ends, ends-cycles}
 use Rattle.circle.specs.laws.Travel.{Fits, rotated, facing, Held, In, Safe, next-in, next-safe, safe-back, passes, passes-back}
@@ -301,3 +301,40 @@ stays-inside {N} t room p e c on = (λ h. (stays-here t room e on p c h, to h), 
         by (suc k) h =
             visits-back t room e on k p c h x
             (λ j l. f (afterOf N t p (suc j)) (record { cycles = cyclesOf N t p e; ends = ends t e on p c; cycle = suc j; begun = omega arith; within = omega arith; walk = walk-of t p (suc j) c }))
+
+-- ---- a room whose least side reaches the circle: every circle point is inside, and so is every way
+
+abbrev pub smallerOf : ℤ → ℤ → ℤ
+smallerOf a b = cond (leZ a b) a b
+
+smaller-both : (a b : ℤ) → (smallerOf a b ≼ a) × (smallerOf a b ≼ b)
+smaller-both a b = by (leZ a b) refl
+  where
+    by : (t : Bool) → leZ a b ≡ t → (cond t a b ≼ a) × (cond t a b ≼ b)
+    by true e = omega (arith, leZ-true a b e)
+    by false e = omega (arith, leZ-false a b e)
+
+abbrev pub leastSide : Room → ℤ
+leastSide room = smallerOf (smallerOf (room .right) (room .left)) (smallerOf (room .up) (room .down))
+
+pub surrounding : (N : ℕ) (room : Room) → reaches N (leastSide room) ≡ true → (p : Offset) → Circle N p → Inside room p
+surrounding N room h p c =
+    let f : Fits (nearestRoot N) (leastSide room) = reaches-fits (nearest-axis N (circle-some c)) (leastSide room) .0 h in
+    let l = smaller-both (smallerOf (room .right) (room .left)) (smallerOf (room .up) (room .down)) in
+    let x = smaller-both (room .right) (room .left) in
+    let y = smaller-both (room .up) (room .down) in
+    let u = under-radius p c in
+    record {
+      right = to-≤ℤ (p .x) (room .right) (omega (arith, abs-is (p .x)));
+      up = to-≤ℤ (p .y) (room .up) (omega (arith, abs-is (p .y)));
+      left = to-≤ℤ (negℤ (p .x)) (room .left) (omega (arith, abs-is (negℤ (p .x)), abs-neg (p .x)));
+      down = to-≤ℤ (negℤ (p .y)) (room .down) (omega (arith, abs-is (negℤ (p .y)), abs-neg (p .y)));
+    }
+
+pub surrounded : {N : ℕ} (t : Turn) (room : Room) (p e : Offset) → Circle N p → Circle N e → ((q : Offset) → Circle N q → Inside room q)
+    → staysInside room N t p e ≡ true
+surrounded {N} t room p e c on f = stays-inside t room p e c on .1 (f p c, λ q v. f q (at (v .cycle) q (v .begun) (v .walk)))
+  where
+    at : (k : ℕ) (q : Offset) → 1 ≤ k → Walk N t p k q → Circle N q
+    at zero q b w = absurd (omega arith)
+    at (suc k) q b w = w .2 .on
