@@ -2,10 +2,12 @@
 use Prim.Native.Nat.{ℕ, suc, _+_, _≤_, _<_}
 use mathlib.Core.Path.{_≡_, refl, sym, ap, _∙_}
 use mathlib.Core.List.{List, [], _∷_, _++_, append-assoc}
+use native.Mathlib.Nat.{le-refl}
 use native.Mathlib.Omega.{arith}
 use native.Mathlib.Numerals.{add-one}
 use lib.ListN.{length, set, take, length-append, length-set}
-use lib.Seq.{paste, paste-zero, take-length, length-take-le, set-split, set-append-left, take-set-lt, take-suc-set, append-snoc}
+use lib.Seq.{paste, paste-zero, take-length, length-take-le, append-snoc}
+use lib.Seq.{set-split, set-append-left, take-set-le, take-set-lt, take-suc-set, drop-set-lt}
 use borrow.Author.Tests.{le-leb, lt-leb}
 use Rattle.row.specs.declared.lines.Place.the-variants.{Next, NoRoom}
 use Rattle.row.specs.Buffer.{placed, bufferAfter, placeAfter}
@@ -67,6 +69,18 @@ puts-before {text} {old} {new} {k} {i} at b e p =
       within = p .within;
       len = length-set new at b ∙ p .len;
     }
+
+-- a line over a byte that was stored in its first place
+pub puts-over : {line old new : List ℕ} {k next : ℕ} (at b : ℕ) → 0 < length line → Puts line k (set old at b) at new next
+    → Puts line k old at new next
+unfolding placed
+puts-over {line} {old} at b some p = record {
+  buffer = p .buffer ∙ rw (take-set-le at old at b (le-refl at), drop-set-lt (at + length line) old at b (omega arith));
+  place = p .place;
+  most = p .most;
+  within = omega (arith, p .within, length-set old at b);
+  len = p .len ∙ length-set old at b;
+}
 
 -- a text, once all of it is copied
 pub puts-text : (s old new : List ℕ) (at i : ℕ) → at + length s ≤ length old → i ≡ length s → new ≡ paste old at s i → Puts s (length s) old at new (at + length s)
