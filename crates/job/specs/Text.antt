@@ -17,13 +17,3 @@ lineOr false b ls = inFront b ls
 unfoldable pub linesOf : List ℕ → List (List ℕ)
 linesOf [] = []
 linesOf (b ∷ s) = lineOr (eqb b 10) b (linesOf s)
-
--- ---- the first of them, as the code finds it
-
-abbrev pub untilLf : (lf : Bool) (b : ℕ) → List ℕ → List ℕ
-untilLf true b l = []
-untilLf false b l = b ∷ l
-
-unfoldable pub firstLine : List ℕ → List ℕ
-firstLine [] = []
-firstLine (b ∷ s) = untilLf (eqb b 10) b (firstLine s)

@@ -9,8 +9,6 @@ use listing::next_place;
 use machine::Machine;
 use work::Work;
 
-pub mod text;
-
 // What comes next: the header, the row of the next text line, or nothing any more.
 pub enum Stage {
     Header,
@@ -92,15 +90,14 @@ impl Check {
             let total = tally.total(out, place);
             return self.last(next_place(total, place));
         }
-        let end = text::line_end(text, at);
-        let l = tally.read(&text[at..end], out, place);
+        let l = tally.read(&text[at..], out, place);
         if l.over {
             return self.last(l.next);
         }
         let next = l.tally;
         let check = Check {
             stage: Stage::Lines,
-            at: end + 1,
+            at: at + l.bytes + 1,
             tally: next,
         };
         Step {

@@ -2,6 +2,7 @@
 ghost use mathlib.Core.Path.{_≡_};
 ghost use Rattle.letters.specs.Letter.{takesSign, takesPoint};
 ghost use Rattle.letters.specs.laws.Scan.{letterOf};
+ghost use Rattle.letters.specs.laws.Found.{indexOf};
 
 pub enum Letter {
     N,
@@ -59,5 +60,20 @@ pub fn of_byte(b: u8) -> Named
         b'I' => Named::Is(Letter::I),
         b'J' => Named::Is(Letter::J),
         _ => Named::Other,
+    }
+}
+
+// The letter's place where there is one for each.
+pub fn index(l: Letter) -> usize
+    ensures { λ r. ⌜ r ≡ indexOf l ⌝ }
+{
+    match l {
+        Letter::N => 0,
+        Letter::G => 1,
+        Letter::F => 2,
+        Letter::X => 3,
+        Letter::Y => 4,
+        Letter::I => 5,
+        Letter::J => 6,
     }
 }

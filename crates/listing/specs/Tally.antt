@@ -1,6 +1,6 @@
 -- What a text line adds to a listing, for any tally whatever. `Listing` says what the listing of a whole text is.
 use mathlib.Core.Path.{_≡_}
-use mathlib.Core.Bool.{Bool, true, false, cond, _&&_}
+use mathlib.Core.Bool.{Bool, true, false, cond, not, _&&_}
 use mathlib.Core.List.{List, []}
 use Prim.Native.Nat.{ℕ, _+_, _*_, _≤_}
 use lib.Dec.{leb}
@@ -87,3 +87,7 @@ listedOf t line =
 -- without room for a row nothing is read
 abbrev pub readOf : Tally → (line old : List ℕ) (at : ℕ) → Given
 readOf t line old at = cond (hasRoom old at) (listedOf t line) (record { bytes = []; over = false; tally = t })
+
+-- how far the next line begins behind this one's start, but for its LF: nowhere, where none is to be read
+abbrev pub bytesRead : Tally → (line old : List ℕ) (at : ℕ) → ℕ
+bytesRead t line old at = cond (hasRoom old at && not (readOf t line old at .over)) (length line) 0

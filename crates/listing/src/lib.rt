@@ -6,14 +6,15 @@ ghost use Prim.Native.Nat.{_+_, _≤_};
 ghost use lib.ListN.{length};
 ghost use lib.Dec.{leb};
 ghost use Rattle.machine.specs.Machine.{soundOf};
+ghost use Rattle.words.specs.laws.Scan.{firstLine};
 ghost use Rattle.row.specs.Lines.{totalLine};
 ghost use Rattle.row.specs.Buffer.{hasRoom, bufferAfter, placeAfter};
-ghost use Rattle.listing.specs.Tally.{Gives, countsRight, kindOf, nextPlace, startOf, blockListed, readOf};
+ghost use Rattle.listing.specs.Tally.{Gives, countsRight, kindOf, nextPlace, startOf, blockListed, readOf, bytesRead};
 use finish::finish;
 use machine::Machine;
 use reader::Reader;
 use reader::text_line::Read;
-use reader::text_line::read_line;
+use reader::text_line::read_first;
 use row::lines::Kind;
 use row::lines::Place;
 use work::Work;
@@ -34,6 +35,8 @@ pub struct Tally {
 pub struct Listed {
     pub next: usize,
     pub over: bool,
+    // Bytes of the line, without its LF; 0 where the listing is over or there was no room.
+    pub bytes: usize,
     pub tally: Tally,
 }
 
@@ -99,10 +102,19 @@ impl Tally {
         self.ticks <= 9_600_000_000_000 * self.lines
     }
 
-    // A block that a line brought into work, run to its end.
-    fn block(self, reader: Reader, loaded: Machine, bits: u64, out: &mut [u8], at: usize) -> Listed
+    // A block that a line of so many bytes brought into work, run to its end.
+    fn block(
+        self,
+        reader: Reader,
+        loaded: Machine,
+        bits: u64,
+        bytes: usize,
+        out: &mut [u8],
+        at: usize,
+    ) -> Listed
         requires { ⌜ (countsRight self ≡ true) × (hasRoom (now out) at ≡ true) × (soundOf loaded ≡ true) ⌝ }
         ensures { λ r. ⌜ Gives (blockListed self reader loaded bits) (now (out .entry)) at r (now (out .exit)) ⌝ }
+        ensures { λ r. ⌜ r .bytes ≡ bytes ⌝ }
     {
         let done = finish(loaded);
         let work = loaded.work;
@@ -132,18 +144,21 @@ impl Tally {
         Listed {
             next: next_place(place, at),
             over: false,
+            bytes: bytes,
             tally: tally,
         }
     }
 
-    // The next text line, without its LF; its row goes into the buffer from `at` on. Without room for a row nothing is read.
-    pub fn read(self, line: &[u8], out: &mut [u8], at: usize) -> Listed
-        ensures { λ r. ⌜ Gives (readOf self (now (line .entry)) (now (out .entry)) at) (now (out .entry)) at r (now (out .exit)) ⌝ }
+    // The first line of what is left of the text; its row goes into the buffer from `at` on. Without room for a row nothing is read.
+    pub fn read(self, text: &[u8], out: &mut [u8], at: usize) -> Listed
+        ensures { λ r. ⌜ Gives (readOf self (firstLine (now (text .entry))) (now (out .entry)) at) (now (out .entry)) at r (now (out .exit)) ⌝ }
+        ensures { λ r. ⌜ r .bytes ≡ bytesRead self (firstLine (now (text .entry))) (now (out .entry)) at ⌝ }
     {
         if !has_room(out.len(), at) {
             return Listed {
                 next: at,
                 over: false,
+                bytes: 0,
                 tally: self,
             };
         }
@@ -151,13 +166,15 @@ impl Tally {
             return Listed {
                 next: at,
                 over: true,
+                bytes: 0,
                 tally: self,
             };
         }
         let lines = self.lines + 1;
         let reader = self.reader;
         let machine = self.machine;
-        let r = read_line(reader, machine, line);
+        let first = read_first(reader, machine, text);
+        let r = first.read;
         let answer = r.answer;
         let next = r.reader;
         let after = r.machine;
@@ -174,15 +191,17 @@ impl Tally {
                 Listed {
                     next: at,
                     over: false,
+                    bytes: first.bytes,
                     tally: tally,
                 }
             }
-            Read::Loaded(bits) => self.block(next, after, bits, out, at),
+            Read::Loaded(bits) => self.block(next, after, bits, first.bytes, out, at),
             Read::Refused(number) => {
                 let place = row::lines::refused(out, at, lines, number);
                 Listed {
                     next: next_place(place, at),
                     over: true,
+                    bytes: 0,
                     tally: self,
                 }
             }

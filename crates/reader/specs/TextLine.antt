@@ -8,6 +8,7 @@ use Rattle.plane.specs.Point.{equalPoint}
 use Rattle.block.specs.declared.Block.{Block}
 use Rattle.block.specs.declared.Path.{Path}
 use Rattle.letters.specs.declared.word.Words.{Words}
+use Rattle.words.specs.declared.line.Line.{Line}
 use Rattle.words.specs.laws.Scan.{lineOf}
 use Rattle.machine.specs.declared.Machine.{Machine}
 use Rattle.machine.specs.declared.Answer.{Answer}
@@ -40,10 +41,11 @@ abbrev pub readWith : (before after : Reader) → Machine → Words → (number 
 readWith k k′ m ws zero = cond (moving ws) (takenOf k k′ m (blockOf (m .settings .scale) k′ ws (m .at))) (reads Read.Nothing k′ m)
 readWith k k′ m ws (suc n) = reads (Read.Refused (suc n)) k m
 
+-- the words of a line of so many bytes, at a sound record
+abbrev pub readWordsOf : Reader → Machine → (bytes : ℕ) → Line → ReadLine
+readWordsOf k m bytes l = let k′ = readerAfter k (l .words) in readWith k k′ m (l .words) (lineNo (m .settings .scale) k′ bytes l)
+
 -- "Any call on a record: is it sound? 9." `lineOf` is the scan that the code does; it is the one answer about the bytes that `Means` in
 -- `words/specs/Meaning.antt` allows; `read-means` in the laws says this definition over `Means`, so hold that against the paper and not the scan.
 unfoldable pub readLineOf : Reader → Machine → (bytes : List ℕ) → ReadLine
-readLineOf k m bytes =
-    let l = lineOf bytes in
-    let k′ = readerAfter k (l .words) in
-    cond (soundOf m) (readWith k k′ m (l .words) (lineNo (m .settings .scale) k′ (length bytes) l)) (reads (Read.Refused 9) k m)
+readLineOf k m bytes = cond (soundOf m) (readWordsOf k m (length bytes) (lineOf bytes)) (reads (Read.Refused 9) k m)

@@ -1,8 +1,12 @@
 // One line of a job, read at a machine: the reader and the record go in and come back beside the answer.
 ghost use mathlib.Core.Path.{_≡_};
 ghost use mathlib.Core.Bool.{true};
+ghost use lib.ListN.{length};
+ghost use Rattle.words.specs.laws.Scan.{firstLine};
 ghost use Rattle.machine.specs.Machine.{soundOf};
-ghost use Rattle.reader.specs.TextLine.{still, takenOf, readLineOf};
+ghost use Rattle.reader.specs.TextLine.{reads, still, takenOf, readWordsOf, readLineOf};
+ghost use Rattle.reader.specs.declared.«text_line».Read.the-variants.{Refused};
+ghost use Rattle.reader.specs.laws.Small.{Writable};
 use crate::Reader;
 use crate::command::block_of;
 use crate::command::reader_after;
@@ -15,6 +19,7 @@ use machine::Machine;
 use machine::sound;
 use plane::point::Point;
 use plane::point::is_same;
+use words::line::Line;
 
 // No block, a block with the register width that its load answered, or the number of the question.
 pub enum Read {
@@ -27,6 +32,12 @@ pub struct ReadLine {
     pub answer: Read,
     pub reader: Reader,
     pub machine: Machine,
+}
+
+// The same of a text's first line, and how many bytes that has without its LF.
+pub struct ReadFirst {
+    pub read: ReadLine,
+    pub bytes: usize,
 }
 
 fn stands_still(b: Block, at: Point) -> bool
@@ -75,23 +86,26 @@ fn take(k: Reader, next: Reader, m: Machine, b: Block) -> ReadLine
     }
 }
 
-pub fn read_line(k: Reader, m: Machine, line: &[u8]) -> ReadLine
-    ensures { λ r. ⌜ r ≡ readLineOf k m (now (line .entry)) ⌝ }
+fn unsound(k: Reader, m: Machine) -> ReadLine
+    ensures { λ r. ⌜ r ≡ reads (Refused 9) k m ⌝ }
+{
+    ReadLine {
+        answer: Read::Refused(9),
+        reader: k,
+        machine: m,
+    }
+}
+
+// What the words of a line of so many bytes ask of a sound record.
+fn read_words(k: Reader, m: Machine, bytes: u64, l: Line) -> ReadLine
+    requires { ⌜ (soundOf m ≡ true) × Writable (l .words) ⌝ }
+    ensures { λ r. ⌜ r ≡ readWordsOf k m bytes l ⌝ }
 {
     let settings = m.settings;
     let at = m.at;
-    let work = m.work;
-    if !sound(settings, at, m.remainder, work) {
-        return ReadLine {
-            answer: Read::Refused(9),
-            reader: k,
-            machine: m,
-        };
-    }
-    let l = words::line::read(line);
     let ws = l.words;
     let next = reader_after(k, ws);
-    let no = line_no(settings.scale, next, line.len() as u64, l);
+    let no = line_no(settings.scale, next, bytes, l);
     if no != 0 {
         return ReadLine {
             answer: Read::Refused(no),
@@ -107,4 +121,39 @@ pub fn read_line(k: Reader, m: Machine, line: &[u8]) -> ReadLine
         };
     }
     take(k, next, m, block_of(settings.scale, next, ws, at))
+}
+
+// A line alone.
+pub fn read_line(k: Reader, m: Machine, line: &[u8]) -> ReadLine
+    ensures { λ r. ⌜ r ≡ readLineOf k m (now (line .entry)) ⌝ }
+{
+    let settings = m.settings;
+    let at = m.at;
+    let work = m.work;
+    if !sound(settings, at, m.remainder, work) {
+        return unsound(k, m);
+    }
+    read_words(k, m, line.len() as u64, words::line::read(line))
+}
+
+// The first line of a text.
+pub fn read_first(k: Reader, m: Machine, text: &[u8]) -> ReadFirst
+    ensures { λ r. ⌜ r .read ≡ readLineOf k m (firstLine (now (text .entry))) ⌝ }
+    ensures { λ r. ⌜ r .bytes ≡ length (firstLine (now (text .entry))) ⌝ }
+{
+    let settings = m.settings;
+    let at = m.at;
+    let work = m.work;
+    if !sound(settings, at, m.remainder, work) {
+        return ReadFirst {
+            read: unsound(k, m),
+            bytes: words::text::line_end(text, 0),
+        };
+    }
+    let first = words::line::read_first(text);
+    let l = first.line;
+    ReadFirst {
+        read: read_words(k, m, first.bytes as u64, l),
+        bytes: first.bytes,
+    }
 }

@@ -2,11 +2,10 @@
 ghost use mathlib.Core.Path.{_≡_};
 ghost use mathlib.Core.Bool.{false};
 ghost use Rattle.tape.specs.Tape.{NextLine, Fills, isRefused, startOf, endedOf, atMachine};
-use job::text::line_end;
 use machine::Machine;
 use reader::Reader;
 use reader::text_line::Read;
-use reader::text_line::read_line;
+use reader::text_line::read_first;
 
 // A budget that no block exceeds, so that a run goes to the block's end or fills its buffer.
 const ENOUGH: u64 = 9_600_000_000_000;
@@ -83,10 +82,10 @@ impl Tape {
         if text.len() <= at {
             return self.ended();
         }
-        let end = line_end(text, at);
         let reader = self.reader;
         let machine = self.machine;
-        let r = read_line(reader, machine, &text[at..end]);
+        let first = read_first(reader, machine, &text[at..]);
+        let r = first.read;
         let answer = r.answer;
         if is_refused(answer) {
             return self.ended();
@@ -95,7 +94,7 @@ impl Tape {
         let loaded = r.machine;
         Tape {
             over: false,
-            at: end + 1,
+            at: at + first.bytes + 1,
             reader: known,
             machine: loaded,
         }

@@ -4,5 +4,7 @@ pub mod Number
 pub mod Words
 pub mod Line
 pub mod Reading
+pub mod FirstLine
 pub mod Run
+pub mod First
 pub mod Examples

@@ -3,3 +3,4 @@
 mod digits;
 pub mod line;
 mod number;
+pub mod text;

@@ -1,12 +1,22 @@
-// The scan of a line: blanks are skipped, and a letter with its number is a word, which goes to its letter's place.
+// The scan of a line: blanks are skipped, and a letter with its number is a word, which goes to its letter's place. One pass finds the words and
+// the line's end.
 use crate::number;
+use crate::text::in_line;
+use crate::text::line_end;
+use letters::found;
+use letters::found::Found;
 use letters::letter;
 use letters::letter::Named;
 use letters::word;
 use letters::word::Words;
 ghost use mathlib.Core.Path.{_≡_};
+ghost use mathlib.Core.Bool.{true};
+ghost use Prim.Native.Nat.{_+_};
+ghost use lib.ListN.{length, drop};
+ghost use Rattle.letters.specs.laws.Found.{wordsIn};
+ghost use Rattle.letters.specs.laws.Put.{Gathered};
 ghost use Rattle.words.specs.Meaning.{answerOf, notWords};
-ghost use Rattle.words.specs.laws.Scan.{lineOf};
+ghost use Rattle.words.specs.laws.Scan.{firstLine, lineOf};
 
 // The answer about a line. Where it is not formed, the rest is as of an empty line.
 pub struct Line {
@@ -17,44 +27,83 @@ pub struct Line {
     pub words: Words,
 }
 
-fn answer(formed: bool, ws: Words) -> Line
-    ensures { λ r. ⌜ r ≡ answerOf formed ws ⌝ }
+// The answer about the first line of a text, and how many bytes that has without its LF.
+pub struct First {
+    pub line: Line,
+    pub bytes: usize,
+}
+
+fn not_words() -> Line
+    ensures { λ r. ⌜ r ≡ notWords ⌝ }
 {
-    let once = word::once(ws);
     Line {
-        formed: formed,
-        once: once,
-        words: ws,
+        formed: false,
+        once: true,
+        words: word::none(),
     }
 }
 
-fn refused() -> Line
-    ensures { λ r. ⌜ r ≡ notWords ⌝ }
+fn formed(found: Found, magnitudes: &[u64]) -> Line
+    requires { ⌜ Gathered found (now magnitudes) ⌝ }
+    ensures { λ r. ⌜ r ≡ answerOf true (wordsIn found (now (magnitudes .entry))) ⌝ }
 {
-    answer(false, word::none())
+    Line {
+        formed: true,
+        once: found.once(),
+        words: found.words(magnitudes),
+    }
 }
 
-// The words of a line of any bytes and any length.
-pub fn read(s: &[u8]) -> Line
-    ensures { λ r. ⌜ r ≡ lineOf (now (s .entry)) ⌝ }
+// No line of words, seen before its end: that is still to be found.
+fn refused(s: &[u8], from: usize) -> First
+    ensures { λ r. ⌜ r .line ≡ notWords ⌝ }
+    ensures { λ r. ⌜ r .bytes ≡ from + length (firstLine (drop from (now (s .entry)))) ⌝ }
 {
-    let mut ws = word::none();
+    First {
+        line: not_words(),
+        bytes: line_end(s, from),
+    }
+}
+
+// The words of a text's first line: any bytes, of any length.
+pub fn read_first(s: &[u8]) -> First
+    ensures { λ r. ⌜ r .line ≡ lineOf (firstLine (now (s .entry))) ⌝ }
+    ensures { λ r. ⌜ r .bytes ≡ length (firstLine (now (s .entry))) ⌝ }
+{
+    let mut found = found::nothing();
+    let mut magnitudes = [0u64; 7];
     let mut i = 0;
-    while i < s.len() {
+    while in_line(s, i) {
         let b = s[i];
         i += 1;
         if b != b' ' {
             let named = letter::of_byte(b);
             let Named::Is(l) = named else {
-                return refused();
+                return refused(s, i);
             };
             let n = number::read(s, i, l);
             if !n.right {
-                return refused();
+                return refused(s, i);
             }
             i += n.bytes;
-            ws = word::put(ws, l, word::one(n.negative, n.magnitude));
+            let place = letter::index(l);
+            magnitudes[place] = found.magnitude(l, n.magnitude);
+            found = found.add(l, n.negative);
         }
     }
-    answer(true, ws)
+    First {
+        line: formed(found, &magnitudes),
+        bytes: i,
+    }
+}
+
+// The words of a line alone: an LF in it begins no word.
+pub fn read(s: &[u8]) -> Line
+    ensures { λ r. ⌜ r ≡ lineOf (now (s .entry)) ⌝ }
+{
+    let first = read_first(s);
+    if first.bytes < s.len() {
+        return not_words();
+    }
+    first.line
 }

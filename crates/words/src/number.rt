@@ -4,6 +4,7 @@ use crate::digits::byte_at;
 use letters::letter;
 use letters::letter::Letter;
 ghost use mathlib.Core.Path.{_≡_};
+ghost use mathlib.Core.Bool.{cond};
 ghost use Prim.Native.Nat.{_+_, _-_, _^_, _≤_};
 ghost use lib.ListN.{length, drop};
 ghost use Rattle.words.specs.laws.Scan.{firstOf, signOf, amountOf, numberOf};
@@ -30,30 +31,30 @@ pub struct Number {
     pub bytes: usize,
 }
 
-// A sign where the letter takes one.
+fn one_if(b: bool) -> usize
+    ensures { λ r. ⌜ r ≡ cond b 1 0 ⌝ }
+{
+    if b { 1 } else { 0 }
+}
+
+// A sign where the letter takes one. Signs come as they like, so there is no branch on them.
 fn read_sign(s: &[u8], from: usize, takes: bool) -> Sign
     requires { ⌜ from ≤ length (now s) ⌝ }
     ensures { λ r. ⌜ r ≡ signOf takes (firstOf (drop from (now (s .entry)))) ⌝ }
     ensures { λ r. ⌜ from + r .bytes ≤ length (now (s .entry)) ⌝ }
 {
-    if takes {
-        let b = byte_at(s, from);
-        if b == b'-' {
-            return Sign {
-                negative: true,
-                bytes: 1,
-            };
-        }
-        if b == b'+' {
-            return Sign {
-                negative: false,
-                bytes: 1,
-            };
-        }
+    if !takes {
+        return Sign {
+            negative: false,
+            bytes: 0,
+        };
     }
+    let b = byte_at(s, from);
+    let minus = b == b'-';
+    let plus = b == b'+';
     Sign {
-        negative: false,
-        bytes: 0,
+        negative: minus,
+        bytes: one_if(minus) + one_if(plus),
     }
 }
 

@@ -20,7 +20,7 @@ use Rattle.reader.specs.declared.«text_line».Read.{Read}
 use Rattle.reader.specs.declared.«text_line».ReadLine.{ReadLine}
 use Rattle.reader.specs.Reader.{readerAfter, feedAfter, moving, lineNo, blockOf}
 use Rattle.reader.specs.TextLine.{reads, still, loaded, takenOf, readWith, readLineOf}
-use Rattle.reader.specs.laws.Small.{feed-small}
+use Rattle.reader.specs.laws.Small.{line-writable}
 use Rattle.listing.specs.declared.Tally.{Tally}
 use Rattle.listing.specs.Tally.{countsRight, blockListed, listedWith, listedOf}
 use Rattle.listing.specs.Tally.{startOf as tallyStart}
@@ -86,7 +86,7 @@ feed-read k m line h = by (soundOf m)
     by true =
         let l = lineOf line in
         let k′ = readerAfter k (l .words) in
-        feed-words k k′ m h (feed-after (k .feed) (l .words .f) (feed-small line) h) (l .words) (lineNo (m .settings .scale) k′ (length line) l)
+        feed-words k k′ m h (feed-after (k .feed) (l .words .f) (line-writable line .f) h) (l .words) (lineNo (m .settings .scale) k′ (length line) l)
     by false = h
 
 -- ---- a line

@@ -12,13 +12,15 @@ use Rattle.row.specs.Buffer.{hasRoom, placed, bufferAfter, placeAfter}
 use Rattle.row.specs.Lines.{headerLine, totalLine, refusedLine}
 use Rattle.row.specs.laws.Buffer.{header-short, refused-short}
 use Rattle.listing.specs.declared.Listed.{Listed}
-use Rattle.listing.specs.Tally.{Gives, nextPlace, listedOf, readOf}
+use Rattle.listing.specs.Tally.{Gives, nextPlace, listedOf, readOf, bytesRead}
 use Rattle.listing.specs.laws.Read.{written, goes-on}
 use Rattle.job.specs.declared.Stage.{Stage}
 use Rattle.job.specs.declared.Check.{Check}
-use Rattle.job.specs.Text.{firstLine, linesOf}
+use Rattle.words.specs.laws.Scan.{firstLine}
+use Rattle.words.specs.laws.FirstLine.{first-short}
+use Rattle.job.specs.Text.{linesOf}
 use Rattle.job.specs.Check.{rowsFrom, unless, restOf, lastOf, Steps}
-use Rattle.job.specs.laws.Text.{first-short, lines-next}
+use Rattle.job.specs.laws.Text.{lines-next}
 use Rattle.job.specs.laws.Reached.{line-reached}
 
 -- a line that one of row's functions wrote, where there was room
@@ -64,7 +66,7 @@ module _ (c : Check) (text old : List ℕ) (at : ℕ) {new : List ℕ} where
           last-written (totalLine (c .tally .blocks) (c .tally .cycles) (c .tally .ticks)) few w
           (rw (lines, le-leb (length text) 65536 short, drop-of-length-le text end))
 
-      module _ {l : Listed} {end : ℕ} (room : hasRoom old at ≡ true) (more : c .at < length text) (first : end ≡ c .at + length (firstLine (drop (c .at) text)))
+      module _ {l : Listed} (room : hasRoom old at ≡ true) (more : c .at < length text)
           (read : Gives (readOf (c .tally) (firstLine (drop (c .at) text)) old at) old at l new) where
         abbrev line : List ℕ
         line = firstLine (drop (c .at) text)
@@ -72,34 +74,42 @@ module _ (c : Check) (text old : List ℕ) (at : ℕ) {new : List ℕ} where
         g : Gives (listedOf (c .tally) line) old at l new
         g = rw room at read
 
-        after : drop (suc (length line)) (drop (c .at) text) ≡ drop (end + 1) text
+        after : drop (suc (length line)) (drop (c .at) text) ≡ drop (c .at + length line + 1) text
         after =
-            let same : c .at + suc (length line) ≡ end + 1 = omega (arith, first) in
+            let same : c .at + suc (length line) ≡ c .at + length line + 1 = omega arith in
             drop-drop _ (c .at) text ∙ ap (λ (n : ℕ). drop n text) same
 
         -- what was to come, cut after the next line
-        cut : restOf c text ≡ listedOf (c .tally) line .bytes ++ unless (l .over) (rowsFrom (l .tally) (linesOf (drop (end + 1) text)))
+        cut : restOf c text ≡ listedOf (c .tally) line .bytes ++ unless (l .over) (rowsFrom (l .tally) (linesOf (drop (c .at + length line + 1) text)))
         unfolding restOf rowsFrom
         cut = rw (lines, le-leb (length text) 65536 short, lines-next (drop (c .at) text) (rw (length-drop (c .at) text) (omega arith)), after, g .over, g .tally)
 
         pub step-refused : l .over ≡ true → Steps c text old at (lastOf c (l .next)) new
         step-refused e = last (listedOf (c .tally) line .bytes) (g .short) (g .buffer) (g .next) (sym (append-nil _) ∙ sym (rw e at cut))
 
-        onward : l .over ≡ false → listedOf (c .tally) line .bytes ++ restOf (record { stage = Stage.Lines; at = end + 1; tally = l .tally }) text ≡ restOf c text
-        unfolding restOf
-        onward e = rw (le-leb (length text) 65536 short) (sym (rw e at cut))
+        -- a line that is not the last, of so many bytes
+        module _ (on : l .over ≡ false) (bytes : l .bytes ≡ bytesRead (c .tally) line old at) where
+          found : l .bytes ≡ length line
+          found = bytes ∙ rw (room, sym (g .over) ∙ on)
 
-        near : end + 1 ≤ 65537
-        near = omega (arith, first, first-short (drop (c .at) text), length-drop (c .at) text)
+          abbrev following : Check
+          following = record { stage = Stage.Lines; at = c .at + l .bytes + 1; tally = l .tally }
 
-        pub step-line : l .over ≡ false → Steps c text old at (record { next = l .next; check = record { stage = Stage.Lines; at = end + 1; tally = l .tally } }) new
-        step-line e =
-            record {
-              line = listedOf (c .tally) line .bytes;
-              room = g .short;
-              buffer = g .buffer;
-              next = g .next;
-              bytes = onward e;
-              keeps = λ r. rw (g .tally) (line-reached (c .tally) r near line);
-              fewer = rw lines (omega (arith, first));
-            }
+          onward : listedOf (c .tally) line .bytes ++ restOf following text ≡ restOf c text
+          unfolding restOf
+          onward = rw (found, le-leb (length text) 65536 short) (sym (rw on at cut))
+
+          pub near : c .at + l .bytes ≤ length text
+          near = omega (arith, found, first-short (drop (c .at) text), length-drop (c .at) text)
+
+          pub step-line : Steps c text old at (record { next = l .next; check = following }) new
+          step-line =
+              record {
+                line = listedOf (c .tally) line .bytes;
+                room = g .short;
+                buffer = g .buffer;
+                next = g .next;
+                bytes = onward;
+                keeps = λ r. rw (g .tally) (line-reached (c .tally) r (omega (arith, near)) line);
+                fewer = rw lines (omega (arith, near));
+              }

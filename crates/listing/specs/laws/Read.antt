@@ -1,5 +1,5 @@
 -- What a text line gives, by the room, by the tally's counts and by what the reader answered; and a line written where there is room.
-use mathlib.Core.Path.{_≡_, sym}
+use mathlib.Core.Path.{_≡_, refl, sym, _∙_}
 use mathlib.Core.Bool.{true, false}
 use mathlib.Core.List.{List, [], append-nil}
 use Prim.Native.Nat.{ℕ, _+_}
@@ -7,10 +7,13 @@ use native.Mathlib.Nat.{add-zero}
 use lib.ListN.{length, take, take-append-drop}
 use Rattle.row.specs.declared.lines.Place.{Place}
 use Rattle.row.specs.Buffer.{hasRoom, placed, bufferAfter, placeAfter}
+use Rattle.machine.specs.declared.Machine.{Machine}
+use Rattle.reader.specs.declared.Reader.{Reader}
 use Rattle.reader.specs.declared.«text_line».ReadLine.{ReadLine}
 use Rattle.reader.specs.TextLine.{readLineOf}
 use Rattle.listing.specs.declared.Tally.{Tally}
-use Rattle.listing.specs.Tally.{nextPlace, countsRight, listedWith, listedOf, readOf}
+use Rattle.listing.specs.declared.Listed.{Listed}
+use Rattle.listing.specs.Tally.{Gives, nextPlace, countsRight, blockListed, listedWith, listedOf, readOf, bytesRead}
 
 -- no line leaves the buffer as it is
 pub placed-none : (old : List ℕ) (at : ℕ) → old ≡ placed [] old at
@@ -40,3 +43,21 @@ module _ (t : Tally) (line : List ℕ) where
       → listedOf t line ≡ listedWith t (r .reader) (r .machine) (r .answer)
   unfolding listedOf
   listed e {r} q = rw (e, ← q)
+
+-- the bytes of the line, beside what it gives
+module _ (t : Tally) (line old : List ℕ) (at : ℕ) {r : Listed} {new : List ℕ} (g : Gives (readOf t line old at) old at r new) where
+  abbrev Both : Type 0
+  Both = Gives (readOf t line old at) old at r new × (r .bytes ≡ bytesRead t line old at)
+
+  pub no-line : hasRoom old at ≡ false → r .bytes ≡ 0 → Both
+  no-line room none = (g, none ∙ rw room)
+
+  pub last-line : hasRoom old at ≡ true → r .over ≡ true → r .bytes ≡ 0 → Both
+  last-line room over none = (g, none ∙ rw (room, sym (rw room at (g .over)) ∙ over))
+
+  pub next-line : hasRoom old at ≡ true → r .over ≡ false → r .bytes ≡ length line → Both
+  next-line room over bytes = (g, bytes ∙ rw (room, sym (rw room at (g .over)) ∙ over))
+
+pub block-on : (t : Tally) (k : Reader) (m : Machine) (bits : ℕ) → blockListed t k m bits .over ≡ false
+unfolding blockListed
+block-on t k m bits = refl

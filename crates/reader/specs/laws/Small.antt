@@ -37,20 +37,34 @@ coordinate-fits p w here h at = by (w .stands)
     by true = pulses-fit p w h
     by false = at
 
--- the words of any line are small where p is one of the settings
+-- numbers as a line can write them: seven digits, and three more after a point
+pub record Writable (ws : Words) : Type 0 where
+  pub x : ws .x .magnitude < 10 ^ 10
+  pub y : ws .y .magnitude < 10 ^ 10
+  pub i : ws .i .magnitude < 10 ^ 10
+  pub j : ws .j .magnitude < 10 ^ 10
+  pub f : ws .f .magnitude < 10 ^ 7
+
+pub line-writable : (bytes : List ℕ) → Writable (lineOf bytes .words)
+line-writable bytes =
+    record {
+      x = omega (arith, line-below bytes X);
+      y = omega (arith, line-below bytes Y);
+      i = omega (arith, line-below bytes I);
+      j = omega (arith, line-below bytes J);
+      f = omega (arith, line-below bytes F);
+    }
+
+-- they are small where p is one of the settings
 below : (m p k : ℕ) → m < k → k ≤ 10 ^ 10 → p ≤ 1000 → m * p < 2 ^ 63
 below m p k h room most = omega (arith, mul-le-mul-left m most)
 
-pub small-words : (p : ℕ) → p ≤ 1000 → (bytes : List ℕ) → SmallWords p (lineOf bytes .words)
-small-words p most bytes =
-    let ws = lineOf bytes .words in
+pub small-words : (p : ℕ) → p ≤ 1000 → {ws : Words} → Writable ws → SmallWords p ws
+small-words p most {ws} w =
     record {
-      x = below (ws .x .magnitude) p _ (line-below bytes X) (omega arith) most;
-      y = below (ws .y .magnitude) p _ (line-below bytes Y) (omega arith) most;
-      i = below (ws .i .magnitude) p _ (line-below bytes I) (omega arith) most;
-      j = below (ws .j .magnitude) p _ (line-below bytes J) (omega arith) most;
-      f = below (ws .f .magnitude) p _ (line-below bytes F) (omega arith) most;
+      x = below (ws .x .magnitude) p _ (w .x) (omega arith) most;
+      y = below (ws .y .magnitude) p _ (w .y) (omega arith) most;
+      i = below (ws .i .magnitude) p _ (w .i) (omega arith) most;
+      j = below (ws .j .magnitude) p _ (w .j) (omega arith) most;
+      f = below (ws .f .magnitude) p _ (w .f) (omega arith) most;
     }
-
-pub feed-small : (bytes : List ℕ) → lineOf bytes .words .f .magnitude < 10 ^ 7
-feed-small bytes = omega (arith, line-below bytes F)

@@ -10,7 +10,8 @@ use borrow.Author.Tests.{le-leb, lt-leb}
 use Rattle.machine.specs.declared.Machine.{Machine}
 use Rattle.reader.specs.declared.«text_line».ReadLine.{ReadLine}
 use Rattle.reader.specs.TextLine.{readLineOf}
-use Rattle.job.specs.Text.{firstLine, linesOf}
+use Rattle.words.specs.laws.Scan.{firstLine}
+use Rattle.job.specs.Text.{linesOf}
 use Rattle.job.specs.Check.{unless}
 use Rattle.job.specs.laws.Text.{lines-next}
 use Rattle.tape.specs.declared.Tape.{Tape}

@@ -19,7 +19,8 @@ use Rattle.letters.specs.laws.Scan.{letterOf, noWords}
 use Rattle.words.specs.laws.Scan.{lineOf}
 use Rattle.letters.specs.laws.Letter.{letter-of}
 use Rattle.words.specs.laws.Digits.{magnitude-below}
-use Rattle.words.specs.laws.Words.{at-by, gathered}
+use Rattle.letters.specs.laws.Put.{at-by}
+use Rattle.words.specs.laws.Words.{gathered}
 use Rattle.words.specs.laws.Line.{items-read, Answered, answered}
 
 -- ---- the answer is right

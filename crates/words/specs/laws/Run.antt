@@ -2,11 +2,12 @@
 use Prim.Native.Nat.{ℕ, _+_, _-_, _*_, _^_, _≤_, _<_}
 use mathlib.Core.Path.{_≡_, refl, sym, ap, _∙_}
 use mathlib.Core.List.{List, [], _∷_}
-use mathlib.Core.Bool.{Bool, true, false, false≢true}
+use mathlib.Core.Bool.{Bool, true, false, cond, false≢true}
 use native.Mathlib.Omega.{arith}
 use native.Mathlib.Numerals.{add-one}
 use native.Mathlib.Nat.{pow-suc, pow-le-pow-right, mul-le-mul}
-use borrow.Author.Tests.{lt-ltb, le-ltb, eq-eqb, ne-eqb}
+use lib.Dec.{eqb}
+use borrow.Author.Tests.{lt-ltb, le-ltb, eqb-true, eq-eqb, ne-eqb}
 use lib.ListN.{length, drop, getD, length-drop, drop-of-length-le}
 use lib.Seq.{drop-cons, drop-drop}
 use Rattle.letters.specs.declared.letter.Letter.{Letter}
@@ -22,7 +23,7 @@ use Rattle.words.specs.declared.number.Amount.{Amount}
 use Rattle.words.specs.declared.number.Number.{Number}
 use Rattle.words.specs.Meaning.{answerOf, notWords}
 use Rattle.words.specs.laws.Scan.{firstOf, isDigit, digits, pushOf, moreDigits, digitsOf, Sized}
-use Rattle.words.specs.laws.Scan.{signOf, amount, pointedOf, amountAfter, amountOf, signed, numberOf}
+use Rattle.words.specs.laws.Scan.{sign, signOf, amount, pointedOf, amountAfter, amountOf, signed, numberOf}
 use Rattle.words.specs.laws.Scan.{numberNext, letterNext, nextOf, scanOf, lineOf}
 use Rattle.words.specs.laws.Digits.{digit-byte, digits-stop, digits-full, digits-more}
 use Rattle.words.specs.laws.Line.{goOn, scan-skip}
@@ -115,6 +116,21 @@ module _ (s : List ℕ) (from : ℕ) (w : Digits) (e : w ≡ digitsOf 7 0 (drop 
       pub amount-pointed : b ≡ 46 → (d : Digits) → d ≡ digitsOf 3 (w .value) (drop (from + w .count + 1) s)
           → pointedOf w d ≡ amountOf true (drop from s)
       amount-pointed h d q = rw (← after true, ← g, eq-eqb b 46 h, drop-drop 1 (from + w .count) s, ← q)
+
+-- a sign without a branch
+pub one-most : (b : Bool) → cond b 1 0 ≤ 1
+one-most true = omega arith
+one-most false = omega arith
+
+pub sign-read : (b : ℕ) → sign (eqb b 45) (cond (eqb b 45) 1 0 + cond (eqb b 43) 1 0) ≡ signOf true b
+sign-read b = by (eqb b 45) refl (eqb b 43) refl
+  where
+    by : (minus : Bool) → eqb b 45 ≡ minus → (plus : Bool) → eqb b 43 ≡ plus
+        → sign minus (cond minus 1 0 + cond plus 1 0) ≡ cond minus (sign true 1) (cond plus (sign false 1) (sign false 0))
+    by true e true g = absurd (omega (arith, eqb-true b 45 e, eqb-true b 43 g))
+    by true e false g = refl
+    by false e true g = refl
+    by false e false g = refl
 
 pub number-is : (s : List ℕ) (from : ℕ) (l : Letter) (g : Sign) (m : Amount) → g ≡ signOf (takesSign l) (firstOf (drop from s))
     → m ≡ amountOf (takesPoint l) (drop (from + g .bytes) s) → signed g m ≡ numberOf l (drop from s)

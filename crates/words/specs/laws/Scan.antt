@@ -108,6 +108,16 @@ scanOf (suc k) ws (b ∷ s) = scanOf k ws s
 unfoldable pub lineOf : List ℕ → Line
 lineOf bytes = scanOf 0 noWords bytes
 
+-- ---- the first line of a text, at its LF or at the text's end: crate `job` proves that it is the first of the lines
+
+abbrev pub untilLf : (lf : Bool) (b : ℕ) → List ℕ → List ℕ
+untilLf true b l = []
+untilLf false b l = b ∷ l
+
+unfoldable pub firstLine : List ℕ → List ℕ
+firstLine [] = []
+firstLine (b ∷ s) = untilLf (eqb b 10) b (firstLine s)
+
 -- ---- what keeps the numbers in range
 
 -- digits read from a place on, after those that wrote the value: each makes the number at most ten times as large

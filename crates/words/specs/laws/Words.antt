@@ -4,7 +4,6 @@ use mathlib.Core.Path.{_≡_, refl, ap, _∙_}
 use mathlib.Core.List.{List, [], _∷_}
 use mathlib.Core.Bool.{Bool, true, false, cond}
 use Rattle.letters.specs.declared.letter.Letter.{Letter}
-use Rattle.letters.specs.declared.letter.Letter.the-variants.{N, G, F, X, Y, I, J}
 use Rattle.letters.specs.declared.word.Word.{Word}
 use Rattle.letters.specs.declared.word.Words.{Words}
 use Rattle.words.specs.Grammar.{Item, blank, word}
@@ -12,20 +11,7 @@ use Rattle.letters.specs.Letter.{same}
 use Rattle.letters.specs.Word.{missingWord, oneWord, twiceWord, wordAt, wordsBy}
 use Rattle.words.specs.Meaning.{isMinus, magnitudeOf, Value, missing, one, twice, andThen, says, wordOf}
 use Rattle.letters.specs.laws.Scan.{noWords, moreOf, putOf}
-
--- ---- words by their letters
-
-pub at-by : (w : Letter → Word) (l : Letter) → wordAt (wordsBy w) l ≡ w l
-at-by w N = refl
-at-by w G = refl
-at-by w F = refl
-at-by w X = refl
-at-by w Y = refl
-at-by w I = refl
-at-by w J = refl
-
-pub words-same : (v w : Letter → Word) → ((l : Letter) → v l ≡ w l) → wordsBy v ≡ wordsBy w
-words-same v w h = rw (h N, h G, h F, h X, h Y, h I, h J)
+use Rattle.letters.specs.laws.Put.{at-by, words-same}
 
 -- ---- one word after another
 

@@ -5,34 +5,30 @@ use Rattle.job.proofs.Check.line.Tie as tie
 use Rattle.job.proofs.Check.line.Reads as reads
 use Rattle.job.proofs.Check.line.Lts as lts
 use Rattle.job.proofs.Check.last.Reads as last-reads
-use Rattle.job.proofs.text.line_end.Reads as line-end-reads
 use Rattle.listing.proofs.Tally.read.Reads as read-reads
 use Rattle.listing.proofs.Tally.total.Reads as total-reads
 use Rattle.listing.proofs.next_place.Reads as next-place-reads
 use Rattle.row.proofs.lines.refused.Reads as refused-reads
-use mathlib.Core.Path.{subst}
+use mathlib.Core.Path.{_≡_, subst}
 use mathlib.Core.List.{List}
-use Prim.Native.Nat.{ℕ, _≤_}
+use Prim.Native.Nat.{ℕ, _+_, _≤_}
 use native.Mathlib.Omega.{arith}
-use lib.ListN.{length, drop, length-drop}
-use Rattle.listing.specs.Tally.{Gives, readOf}
-use Rattle.job.specs.Text.{firstLine}
-use Rattle.job.specs.laws.Text.{first-short, slice-first}
-use Rattle.job.specs.laws.Step.{step-long, step-total, step-refused, step-line}
+use lib.ListN.{length, drop}
+use Rattle.listing.specs.Tally.{Gives, readOf, bytesRead}
+use Rattle.words.specs.laws.Scan.{firstLine}
+use Rattle.job.specs.laws.Text.{slice-rest}
+use Rattle.job.specs.laws.Step.{step-long, step-total, step-refused, near, step-line}
 
--- the line's end is in the text
-end-within : (c : tie.After-line-end) → c .line-end .result ≤ length (c .before .before .before .before .before .before .args .text .now)
-end-within c =
-    let s = c .before .before .before .before .before .before in
-    let text = s .args .text .now in
-    omega (arith, c .line-end .ensures, first-short (drop (s .args .self .at) text), length-drop (s .args .self .at) text)
+-- the slice is what is left of the text
+abbrev Line : (c : tie.After-read) → (rest : List ℕ) → Type 0
+Line c rest =
+    let s = c .before .before .before .before .before .before .before .before .args in
+    let line = firstLine rest in
+    Gives (readOf (s .self .tally) line (s .out .now) (s .place)) (s .out .now) (s .place) (c .read .result) (c .read .last .1 .1 .0)
+    × (c .read .result .bytes ≡ bytesRead (s .self .tally) line (s .out .now) (s .place))
 
--- the slice is the line
-given : (c : tie.After-read) → let s = c .before .before .before .before .before .before .before .before .before .args in Gives (readOf (s .self .tally) (firstLine (drop (s .self .at) (s .text .now))) (s .out .now) (s .place)) (s .out .now) (s .place) (c .read .result) (c .read .last .1 .1 .0)
-given c =
-    let s = c .before .before .before .before .before .before .before .before .before .args in
-    subst (λ (line : List ℕ). Gives (readOf (s .self .tally) line (s .out .now) (s .place)) (s .out .now) (s .place) (c .read .result) (c .read .last .1 .1 .0))
-    (slice-first (s .text .now) (s .self .at) (c .before .before .before .line-end .ensures)) (c .read .ensures)
+given : (c : tie.After-read) → let s = c .before .before .before .before .before .before .before .before .args in Line c (drop (s .self .at) (s .text .now))
+given c = let s = c .before .before .before .before .before .before .before .before .args in subst (Line c) (slice-rest (s .text .now) (s .self .at)) (c .read .ensures)
 
 refused-requires : tie.Need-refused-requires
 refused-requires c κs = search needs
@@ -71,9 +67,6 @@ returns-2 c = let s = c .before .before .before .before .before .before .before 
     (step-total (s .args .self) (s .args .text .now) (s .args .out .now) (s .args .place) (s .pre .0) (omega arith) (w .ensures .1 .1) (omega arith)
     (record { room = s .pre .1; buffer = w .ensures .0; place = w .ensures .1 .0 }))
 
-line-end-requires : tie.Need-line-end-requires
-line-end-requires c κs = search needs
-
 sub-read : tie.Need-sub-read
 sub-read c = search needs
 
@@ -81,7 +74,7 @@ part-read-start : tie.Need-part-read-start
 part-read-start c = search needs
 
 part-read-end : tie.Need-part-read-end
-part-read-end c = end-within c
+part-read-end c = search needs
 
 read-requires : tie.Need-read-requires
 read-requires c κs = search needs
@@ -94,20 +87,30 @@ same-length-3 c = search needs
 
 returns-3 : tie.Need-returns-3
 returns-3 c = let r = c .before .before .before .before in
-    let s = r .before .before .before .before .before .before .before .before .before in
+    let s = r .before .before .before .before .before .before .before .before in
     rw (c .last3 .ensures)
-    (step-refused (s .args .self) (s .args .text .now) (s .args .out .now) (s .args .place) (s .pre .0) (omega arith) (s .pre .1) (omega arith) (r .before .before .before .line-end .ensures) (given r) (c .before .if3 .taken))
+    (step-refused (s .args .self) (s .args .text .now) (s .args .out .now) (s .args .place) (s .pre .0) (omega arith) (s .pre .1) (omega arith) (given r .0) (c .before .if3 .taken))
 
-add-t13 : tie.Need-add-t13
-add-t13 c = omega (arith, end-within (c .before .before .before .before .before .before .before))
+-- the line ends in the text
+ends : (c : tie.Else3) → let r = c .before .before .before in let s = r .before .before .before .before .before .before .before .before .args in s .self .at + r .read .result .bytes ≤ length (s .text .now)
+ends c =
+    let r = c .before .before .before in
+    let s = r .before .before .before .before .before .before .before .before in
+    near (s .args .self) (s .args .text .now) (s .args .out .now) (s .args .place) (s .pre .0) (omega arith) (s .pre .1) (omega arith) (given r .0) (c .if3 .left) (given r .1)
+
+add-t12 : tie.Need-add-t12
+add-t12 c = omega (arith, ends (c .before .before))
+
+add-t26 : tie.Need-add-t26
+add-t26 c = omega (arith, ends (c .before .before))
 
 same-length-4 : tie.Need-same-length-4
 same-length-4 c = search needs
 
 returns-4 : tie.Need-returns-4
-returns-4 c = let r = c .before .before .before .before in
-    let s = r .before .before .before .before .before .before .before .before .before in
-    step-line (s .args .self) (s .args .text .now) (s .args .out .now) (s .args .place) (s .pre .0) (omega arith) (s .pre .1) (omega arith) (r .before .before .before .line-end .ensures) (given r) (c .before .if3 .left)
+returns-4 c = let r = c .before .before .before .before .before in
+    let s = r .before .before .before .before .before .before .before .before in
+    step-line (s .args .self) (s .args .text .now) (s .args .out .now) (s .args .place) (s .pre .0) (omega arith) (s .pre .1) (omega arith) (given r .0) (c .before .before .if3 .left) (given r .1)
 
 pub line-spec : {M : Type 1} → statement M
 line-spec =
@@ -123,7 +126,6 @@ line-spec =
     last-requires-2
     same-length-2
     returns-2
-    line-end-requires
     sub-read
     part-read-start
     part-read-end
@@ -131,6 +133,7 @@ line-spec =
     last-requires-3
     same-length-3
     returns-3
-    add-t13
+    add-t12
+    add-t26
     same-length-4
     returns-4)

@@ -70,11 +70,11 @@ kind-of-requires c κs = search needs
 block-requires : tie.Need-block-requires
 block-requires c κs = search needs
 
-add-t18 : tie.Need-add-t18
-add-t18 c = omega (arith, has-room (c .before .before .before .before .before .before .before .before .before .before .before .before .before) .cycles)
-
 add-t19 : tie.Need-add-t19
-add-t19 c = omega (arith, has-room (c .before .before .before .before .before .before .before .before .before .before .before .before .before .before .before) .ticks)
+add-t19 c = omega (arith, has-room (c .before .before .before .before .before .before .before .before .before .before .before .before .before) .cycles)
+
+add-t20 : tie.Need-add-t20
+add-t20 c = omega (arith, has-room (c .before .before .before .before .before .before .before .before .before .before .before .before .before .before .before) .ticks)
 
 next-place-requires : tie.Need-next-place-requires
 next-place-requires c κs = search needs
@@ -87,15 +87,17 @@ unfolding blockListed
 returns c =
     let b = c .before .before .before .before .before .before .before in
     let s = c .before .before .before .before .before .before .before .before .before .before .before .before .before .before .before .before .before .before in
-    let room = s .pre .1 in
-    rw (← c .before .before .before .before .before .before .before .before .before .before .before .before .before .before .before .before .finish .ensures)
-    (record {
-      short = rw (← c .before .before .before .before .before .before .before .before .before .before .kind-of .ensures) (line-short b);
-      buffer = rw (← c .before .before .before .before .before .before .before .before .before .before .kind-of .ensures) (buffer-is b ∙ written (line b) (s .args .out .now) (s .args .at) room);
-      next = rw (← c .before .before .before .before .before .before .before .before .before .before .kind-of .ensures) (c .next-place .ensures ∙ goes-on (line b) (s .args .out .now) (s .args .at) room (place-is b));
-      over = refl;
-      tally = refl;
-    })
+    let room = s .pre .1 in (
+      rw (← c .before .before .before .before .before .before .before .before .before .before .before .before .before .before .before .before .finish .ensures)
+          (record {
+            short = rw (← c .before .before .before .before .before .before .before .before .before .before .kind-of .ensures) (line-short b);
+            buffer = rw (← c .before .before .before .before .before .before .before .before .before .before .kind-of .ensures) (buffer-is b ∙ written (line b) (s .args .out .now) (s .args .at) room);
+            next = rw (← c .before .before .before .before .before .before .before .before .before .before .kind-of .ensures) (c .next-place .ensures ∙ goes-on (line b) (s .args .out .now) (s .args .at) room (place-is b));
+            over = refl;
+            tally = refl;
+          }),
+      refl,
+    )
 
 pub block-spec : {M : Type 1} → statement M
 block-spec =
@@ -106,8 +108,8 @@ block-spec =
     add-blocks
     kind-of-requires
     block-requires
-    add-t18
     add-t19
+    add-t20
     next-place-requires
     same-length
     returns)

@@ -4,31 +4,36 @@ use Rattle.tape.proofs.Tape.next_line.Statement.{statement}
 use Rattle.tape.proofs.Tape.next_line.Tie as tie
 use Rattle.tape.proofs.Tape.next_line.Reads as reads
 use Rattle.tape.proofs.Tape.next_line.Lts as lts
-use Rattle.job.proofs.text.line_end.Reads as line-end-reads
-use Rattle.reader.proofs.text_line.read_line.Reads as read-line-reads
+use Rattle.reader.proofs.text_line.read_first.Reads as read-first-reads
 use Rattle.tape.proofs.Tape.ended.Reads as ended-reads
 use Rattle.tape.proofs.is_refused.Reads as is-refused-reads
-use mathlib.Core.Path.{_≡_, sym, ap, _∙_}
+use mathlib.Core.Path.{_≡_, refl, sym, ap, subst, _∙_}
 use mathlib.Core.List.{List}
-use Prim.Native.Nat.{ℕ, _≤_}
+use Prim.Native.Nat.{ℕ, _+_, _≤_}
 use native.Mathlib.Omega.{arith}
 use lib.ListN.{length, drop, length-drop}
 use Rattle.reader.specs.TextLine.{readLineOf}
-use Rattle.job.specs.Text.{firstLine}
-use Rattle.job.specs.laws.Text.{first-short, slice-first}
+use Rattle.words.specs.laws.Scan.{firstLine}
+use Rattle.words.specs.laws.FirstLine.{first-short}
+use Rattle.job.specs.laws.Text.{slice-rest}
 use Rattle.tape.specs.laws.Line.{next-long, next-none, next-refused, next-read}
 
--- the line's end is in the text
-end-within : (c : tie.After-line-end) → c .line-end .result ≤ length (c .before .before .before .before .args .text .now)
-end-within c =
-    let s = c .before .before .before .before in
-    omega (arith, c .line-end .ensures, first-short (drop (s .args .self .at) (s .args .text .now)), length-drop (s .args .self .at) (s .args .text .now))
+-- the slice is what is left of the text
+abbrev Line : (c : tie.After-read-first) → (rest : List ℕ) → Type 0
+Line c rest =
+    let s = c .before .before .before .before .before .before .before .args in
+    let r = c .read-first .result in
+    (r .read ≡ readLineOf (s .self .reader) (s .self .machine) (firstLine rest)) × (r .bytes ≡ length (firstLine rest))
 
--- the slice is the line
-given : (c : tie.After-read-line) → (let s = c .before .before .before .before .before .before .before .before .args in c .read-line .result ≡ readLineOf (s .self .reader) (s .self .machine) (firstLine (drop (s .self .at) (s .text .now))))
-given c =
-    let s = c .before .before .before .before .before .before .before .before .args in
-    c .read-line .ensures ∙ ap (λ (line : List ℕ). readLineOf (s .self .reader) (s .self .machine) line) (slice-first (s .text .now) (s .self .at) (c .before .before .before .before .line-end .ensures))
+given : (c : tie.After-read-first) → let s = c .before .before .before .before .before .before .before .args in Line c (drop (s .self .at) (s .text .now))
+given c = let s = c .before .before .before .before .before .before .before .args in subst (Line c) (slice-rest (s .text .now) (s .self .at)) (c .read-first .ensures)
+
+-- the line ends in the text
+ends : (c : tie.After-read-first) → let s = c .before .before .before .before .before .before .before .args in s .self .at + c .read-first .result .bytes ≤ length (s .text .now)
+ends c =
+    let s = c .before .before .before .before .before .before .before in
+    let at = s .args .self .at in
+    omega (arith, given c .1, first-short (drop at (s .args .text .now)), length-drop at (s .args .text .now))
 
 ended-requires : tie.Need-ended-requires
 ended-requires c κs = search needs
@@ -44,20 +49,17 @@ returns-2 : tie.Need-returns-2
 returns-2 c = let s = c .before .before .before .before in
     rw (c .ended2 .ensures) (next-none (s .args .self) (s .args .text .now) (s .pre) (omega arith) (omega arith))
 
-line-end-requires : tie.Need-line-end-requires
-line-end-requires c κs = search needs
+sub-read-first : tie.Need-sub-read-first
+sub-read-first c = search needs
 
-sub-read-line : tie.Need-sub-read-line
-sub-read-line c = search needs
+part-read-first-start : tie.Need-part-read-first-start
+part-read-first-start c = search needs
 
-part-read-line-start : tie.Need-part-read-line-start
-part-read-line-start c = search needs
+part-read-first-end : tie.Need-part-read-first-end
+part-read-first-end c = search needs
 
-part-read-line-end : tie.Need-part-read-line-end
-part-read-line-end c = end-within (c .before .before)
-
-read-line-requires : tie.Need-read-line-requires
-read-line-requires c κs = search needs
+read-first-requires : tie.Need-read-first-requires
+read-first-requires c κs = search needs
 
 is-refused-requires : tie.Need-is-refused-requires
 is-refused-requires c κs = search needs
@@ -66,20 +68,26 @@ ended-requires-3 : tie.Need-ended-requires-3
 ended-requires-3 c κs = search needs
 
 returns-3 : tie.Need-returns-3
-returns-3 c = let r = c .before .before .before in
-    let s = r .before .before .before .before .before .before .before .before in
+returns-3 c =
+    let r = c .before .before .before .before in
+    let s = r .before .before .before .before .before .before .before in
     rw (c .ended3 .ensures)
-    (next-refused (s .args .self) (s .args .text .now) (s .pre) (omega arith) (omega arith) (r .before .before .before .before .line-end .ensures) (given r)
+    (next-refused (s .args .self) (s .args .text .now) (s .pre) (omega arith) (omega arith) refl (given r .0)
     (sym (c .before .before .is-refused .ensures) ∙ c .before .if3 .taken))
 
 add-t11 : tie.Need-add-t11
-add-t11 c = omega (arith, end-within (c .before .before .before .before .before .before .before .before))
+add-t11 c = omega (arith, ends (c .before .before .before .before .before .before))
+
+add-t17 : tie.Need-add-t17
+add-t17 c = omega (arith, ends (c .before .before .before .before .before .before))
 
 returns-4 : tie.Need-returns-4
-returns-4 c = let r = c .before .before .before .before in
-    let s = r .before .before .before .before .before .before .before .before in
-    next-read (s .args .self) (s .args .text .now) (s .pre) (omega arith) (omega arith) (r .before .before .before .before .line-end .ensures) (given r)
-    (sym (c .before .before .before .is-refused .ensures) ∙ c .before .before .if3 .left)
+returns-4 c =
+    let e = c .before .before .before in
+    let r = e .before .before .before in
+    let s = r .before .before .before .before .before .before .before in
+    next-read (s .args .self) (s .args .text .now) (s .pre) (omega arith) (omega arith) (ap (λ (n : ℕ). s .args .self .at + n) (given r .1)) (given r .0)
+    (sym (e .before .is-refused .ensures) ∙ e .if3 .left)
 
 pub next-line-spec : {M : Type 1} → statement M
 next-line-spec =
@@ -89,13 +97,13 @@ next-line-spec =
     returns
     ended-requires-2
     returns-2
-    line-end-requires
-    sub-read-line
-    part-read-line-start
-    part-read-line-end
-    read-line-requires
+    sub-read-first
+    part-read-first-start
+    part-read-first-end
+    read-first-requires
     is-refused-requires
     ended-requires-3
     returns-3
     add-t11
+    add-t17
     returns-4)

@@ -1,16 +1,16 @@
--- `refused` is right because `none` is.
+-- `refused` is right because the line's end is found from any place in it.
 use borrow.Author.Needs.{needs}
 use Rattle.words.proofs.line.refused.Statement.{statement}
 use Rattle.words.proofs.line.refused.Tie as tie
 
-none-requires : tie.Need-none-requires
-none-requires c κs = search needs
+not-words-requires : tie.Need-not-words-requires
+not-words-requires c κs = search needs
 
-answer-requires : tie.Need-answer-requires
-answer-requires c κs = search needs
+line-end-requires : tie.Need-line-end-requires
+line-end-requires c κs = search needs
 
 returns : tie.Need-returns
-returns c = rw (c .answer .ensures, c .before .none .ensures)
+returns c = search needs
 
 pub refused-spec : {M : Type 1} → statement M
-refused-spec = tie.close (tie.spec none-requires answer-requires returns)
+refused-spec = tie.close (tie.spec not-words-requires line-end-requires returns)

@@ -1,37 +1,45 @@
--- `read_sign` is right because its tests are those of `signOf`, and a sign is not past the end.
+-- `read_sign` is right because no byte is both signs, and a sign is not past the end.
+use mathlib.Core.Path.{_≡_, ap}
+use Prim.Native.Nat.{_+_}
 use native.Mathlib.Omega.{arith}
-use borrow.Author.Tests.{ne-eqb}
-use Rattle.words.specs.laws.Run.{byte-left}
+use borrow.Author.Tests.{not-true, not-false}
+use lib.Dec.{eqb}
+use lib.ListN.{drop, length-drop}
+use Rattle.words.specs.declared.number.Sign.{Sign}
+use Rattle.words.specs.laws.Scan.{firstOf, sign, signOf}
+use Rattle.words.specs.laws.Run.{one-most, sign-read}
+use Rattle.words.specs.laws.FirstLine.{sign-short}
 use borrow.Author.Needs.{needs}
 use Rattle.words.proofs.number.read_sign.Statement.{statement}
 use Rattle.words.proofs.number.read_sign.Tie as tie
 
+returns : tie.Need-returns
+returns c = (rw (not-true (c .before .before .args .takes) (c .if1 .taken)), search needs)
+
 byte-at-requires : tie.Need-byte-at-requires
 byte-at-requires c κs = search needs
 
-returns : tie.Need-returns
-returns c =
-    let b = c .before in
-    let a = b .before .before .before .args in
-    let room = byte-left (a .s .now) (a .from) (b .byte-at .result) (b .byte-at .ensures) (λ e. omega arith) in
-    (rw (b .before .if1 .taken, ← b .byte-at .ensures, c .if2 .taken), room)
+one-if-requires : tie.Need-one-if-requires
+one-if-requires c κs = search needs
+
+one-if-requires-2 : tie.Need-one-if-requires-2
+one-if-requires-2 c κs = search needs
+
+add-t10 : tie.Need-add-t10
+add-t10 c =
+    let b = c .before .before .byte-at .result in
+    omega (arith, c .one-if2 .ensures, c .before .one-if .ensures, one-most (eqb b 45), one-most (eqb b 43))
 
 returns-2 : tie.Need-returns-2
 returns-2 c =
     let b = c .before .before in
-    let a = b .before .before .before .args in
-    let room = byte-left (a .s .now) (a .from) (b .byte-at .result) (b .byte-at .ensures) (λ e. omega arith) in
-    (rw (b .before .if1 .taken, ← b .byte-at .ensures, c .if3 .taken), room)
-
-returns-3 : tie.Need-returns-3
-returns-3 c =
-    let b = c .before .before in
-    let no-minus = ne-eqb (b .byte-at .result) 45 (c .before .if2 .left) in
-    let no-plus = ne-eqb (b .byte-at .result) 43 (c .if3 .left) in
-    (rw (b .before .if1 .taken, ← b .byte-at .ensures, no-minus, no-plus), search needs)
-
-returns-4 : tie.Need-returns-4
-returns-4 c = (rw (c .if1 .left), search needs)
+    let e = b .before in
+    let a = e .before .before .args in
+    let rest = drop (a .from) (a .s .now) in
+    let takes = not-false (a .takes) (e .if1 .left) in
+    let is : sign (eqb (b .byte-at .result) 45) (c .before .one-if .result + c .one-if2 .result) ≡ signOf (a .takes) (firstOf rest) =
+    rw (c .before .one-if .ensures, c .one-if2 .ensures, takes, ← b .byte-at .ensures) (sign-read (b .byte-at .result)) in
+    (is, omega (arith, ap (λ (g : Sign). g .bytes) is, sign-short (a .takes) rest, length-drop (a .from) (a .s .now)))
 
 pub read-sign-spec : {M : Type 1} → statement M
-read-sign-spec = tie.close (tie.spec byte-at-requires returns returns-2 returns-3 returns-4)
+read-sign-spec = tie.close (tie.spec returns byte-at-requires one-if-requires one-if-requires-2 add-t10 returns-2)
