@@ -16,6 +16,8 @@ import tempfile
 import counted
 
 LIMIT = 1.0
+# A turn is a millisecond or two, and what an empty process takes is half of it: more of them than of the other tables' turns.
+TURNS = 8
 PROGRAMS = {"core": "target/bin/jobcheck", "plain C": "target/bench/check-c", "plain Rust": "target/bench/check-rust"}
 SECOND = "target/second/release/second"
 SEEDS, MADE_UP = (1, 2), 400
@@ -64,10 +66,15 @@ def milliseconds(program, job):
 
 
 def timed(job, rounds):
-    """The medians in turns, without that of an empty process, and that one."""
-    turns = [[milliseconds(program, job) for program in ["/bin/true", *PROGRAMS.values()]] for _ in range(rounds)]
-    empty, *times = (statistics.median(column) for column in zip(*turns))
-    return [t - empty for t in times], empty
+    """The medians in turns, each round beginning with another program, without that of an empty process, and that one."""
+    programs = ["/bin/true", *PROGRAMS.values()]
+    times = {program: [] for program in programs}
+    for start in range(rounds):
+        for k in range(len(programs)):
+            program = programs[(start + k) % len(programs)]
+            times[program].append(milliseconds(program, job))
+    empty, *rest = (statistics.median(times[program]) for program in programs)
+    return [t - empty for t in rest], empty
 
 
 def instructions(job):
@@ -86,7 +93,7 @@ def row(name, values, shown):
 
 def print_table():
     """The table; answers the core's part of plain C on each job."""
-    rounds = int(os.environ.get("BENCH_ROUNDS", "51"))
+    rounds = TURNS * int(os.environ.get("BENCH_ROUNDS", "51"))
     print("| check of 65,536 bytes | " + " | ".join(PROGRAMS) + " | goal | met |\n|---|" + "---|" * (len(PROGRAMS) + 2))
     parts = {}
     for name, job in TIMED.items():
