@@ -1,6 +1,7 @@
 // An arc in work: the points that it visits, its test, and one cycle onward.
 ghost use mathlib.Core.Path.{_≡_};
 ghost use mathlib.Core.Bool.{true};
+ghost use Prim.Native.Nat.{_≤_};
 ghost use Rattle.plane.specs.Travel.{insideOf, visitsInside};
 ghost use Rattle.circle.specs.Circle.{onCircle};
 ghost use Rattle.arc.specs.Centre.{Near, Wide, seenFrom};
@@ -109,6 +110,19 @@ impl Arc {
             at: next,
             pulses: changes(at, next),
         }
+    }
+
+    // The point so many cycles on, without walking there.
+    pub fn after(self, at: Point, cycles: u64) -> Point
+        requires { ⌜ OnArc self at × (cycles ≤ 1000000000) ⌝ }
+        ensures { λ r. ⌜ r ≡ arcAfter self at cycles ⌝ }
+    {
+        let centre = self.centre;
+        let turn = self.turn;
+        back(
+            centre,
+            circle::jump::after(self.square, turn, seen(centre, at), cycles),
+        )
     }
 
     // The cycles from here to the end, by the closed count.

@@ -2,55 +2,19 @@
 ghost use mathlib.Core.Path.{_≡_};
 ghost use mathlib.Core.Bool.{true};
 ghost use Rattle.machine.specs.Machine.{soundOf};
-ghost use Rattle.finish.specs.Finish.{Countable, leftOf, worksOf, finishOf};
-use divider::end_tick;
+ghost use Rattle.finish.specs.Finish.{worksOf, finishOf};
+use divider::ending;
 use machine::Machine;
-use plane::point::Point;
 use settings::capacity;
 use work::Work;
 use work::is_nothing;
+use work::rest::work_left;
 
 // What such a run does: its cycles, its working ticks, and the record that it leaves.
 pub struct Finished {
     pub cycles: u64,
     pub ticks: u64,
     pub machine: Machine,
-}
-
-// What is in work, as far as its end asks.
-struct Left {
-    cycles: u64,
-    feed: u64,
-    end: Point,
-}
-
-fn work_left(at: Point, work: Work) -> Left
-    requires { ⌜ Countable at work ⌝ }
-    ensures { λ r. ⌜ r ≡ leftOf at work ⌝ }
-{
-    match work {
-        Work::Nothing => Left {
-            cycles: 0,
-            feed: 0,
-            end: at,
-        },
-        Work::Line(l) => {
-            let end = l.end;
-            Left {
-                cycles: l.cycles - l.done,
-                feed: l.feed,
-                end: end,
-            }
-        }
-        Work::Arc(a) => {
-            let end = a.end;
-            Left {
-                cycles: a.cycles(at),
-                feed: a.feed,
-                end: end,
-            }
-        }
-    }
 }
 
 // Whether a tick of this record is a working one: it has a block in work and is not held.
@@ -84,11 +48,10 @@ pub fn finish(m: Machine) -> Finished
     let q0 = capacity(settings);
     let left = work_left(at, work);
     let end = left.end;
-    let ticks = end_tick(q0, left.feed, m.remainder, left.cycles);
-    let remainder = m.remainder + ticks * left.feed - left.cycles * q0;
+    let last = ending(q0, left.feed, m.remainder, left.cycles);
     Finished {
         cycles: left.cycles,
-        ticks: ticks,
-        machine: m.moved(end, remainder, Work::Nothing),
+        ticks: last.tick,
+        machine: m.moved(end, last.remainder, Work::Nothing),
     }
 }

@@ -8,3 +8,5 @@ pub mod Idle
 pub mod Cycling
 pub mod LineRun
 pub mod ArcRun
+pub mod Strip
+pub mod Skip

@@ -15,6 +15,7 @@ mod buffer;
 mod ending;
 mod gap;
 mod line_run;
+pub mod skip;
 
 // What a run reports, and what it leaves. `ended`: its last tick ended the block.
 pub struct Ran {

@@ -8,3 +8,4 @@ pub mod Sign
 pub mod Bounded
 pub mod Test
 pub mod Float
+pub mod Quotient

@@ -1,3 +1,4 @@
 pub mod Sound
 pub mod Cycle
 pub mod Keep
+pub mod Rest

@@ -20,6 +20,8 @@ use plane::point::is_same;
 use plane::travel::Travel;
 use plane::travel::inside;
 
+pub mod rest;
+
 pub enum Work {
     Nothing,
     Line(Line),

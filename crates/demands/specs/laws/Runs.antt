@@ -3,7 +3,7 @@ use mathlib.Core.Path.{_≡_, refl, sym, ap, subst, _∙_}
 use mathlib.Core.Bool.{Bool, true, false}
 use mathlib.Core.Logic.{_≢_, _↔_}
 use mathlib.Core.List.{List}
-use Prim.Native.Nat.{ℕ, zero, suc, _+_, _-_, _*_, _≤_, _<_, min}
+use Prim.Native.Nat.{ℕ, zero, suc, _≤_, _<_, min}
 use native.Mathlib.Nat.{lt-of-not-le}
 use native.Mathlib.Omega.{arith}
 use lib.Dec.{leb}
@@ -16,11 +16,9 @@ use Rattle.plane.specs.declared.point.Point.{Point}
 use Rattle.divider.specs.laws.End.{Ends}
 use Rattle.work.specs.declared.Work.{Work}
 use Rattle.work.specs.declared.Advance.{Advance}
-use Rattle.work.specs.Work.{isNothing, cycleOf, feedOf, cyclesLeft, endOf, advanceOf}
+use Rattle.work.specs.Work.{isNothing, feedOf, cyclesLeft, endOf, advanceOf}
 use Rattle.run.specs.Run.{Strip, inFront, stripOf, written, SoundIn}
-use Rattle.run.specs.laws.Sound.{waiting, still-sound}
-use Rattle.run.specs.laws.Cycles.{cycle-counts, same-feed}
-use Rattle.run.specs.laws.Idle.{idle-tick, cycle-tick}
+use Rattle.run.specs.laws.Strip.{strip-ends, last-tick, strip-early}
 use Rattle.settings.specs.Settings.{capacityOf}
 use Rattle.machine.specs.declared.Machine.{Machine}
 use Rattle.machine.specs.declared.Ticked.{Ticked}
@@ -31,8 +29,6 @@ use Rattle.machine.specs.Run.{reportOf, ranOver, noTick, runOf}
 use Rattle.machine.specs.laws.Calls.{tick-works}
 use Rattle.keeps.specs.laws.Calls.{tick-keeps}
 use Rattle.finish.specs.Finish.{lastTick}
-use Rattle.finish.specs.laws.Bounds.{last-tick}
-use Rattle.finish.specs.laws.Strip.{strip-ends}
 use Rattle.finish.specs.laws.Record.{AtWork, at-work}
 use Rattle.book.specs.Book.{Reply, Report as BookReport}
 use Rattle.tape.specs.laws.Pieces.{runs}
@@ -41,42 +37,6 @@ use Rattle.history.specs.laws.Run.{first-bytes}
 use Rattle.demands.specs.Runs.{TicksTo, Running, EveryRun}
 use Rattle.demands.specs.laws.Sound.{sound-is}
 use Rattle.demands.specs.laws.Answers.{nothing-is}
-
--- ---- a run that does not reach the block's end
-
-pub record Short (n : ℕ) (s : Strip) : Type 0 where
-  pub ticks : length (s .bytes) ≡ n
-  pub going : s .ended ≡ false
-
--- as long as the feeds of its ticks do not add up to the cycles left
-strip-short : {q0 : ℕ} (n : ℕ) {at : Point} {r : ℕ} {w : Work} → SoundIn q0 at r w → r + n * feedOf w < cyclesLeft at w * q0
-    → Short n (stripOf q0 n at r w)
-unfolding stripOf
-strip-short zero i h = record { ticks = refl; going = refl }
-strip-short {q0} (suc n) {at} {r} {w} i h =
-    by (leb q0 (r + feedOf w)) refl (isNothing (cycleOf at w .work)) refl (λ at r w i h. strip-short n {at = at} {r = r} {w = w} i h)
-  where
-    by : (due : Bool) → leb q0 (r + feedOf w) ≡ due → (last : Bool) → isNothing (cycleOf at w .work) ≡ last
-        → ((at : Point) (r : ℕ) (w : Work) → SoundIn q0 at r w → r + n * feedOf w < cyclesLeft at w * q0 → Short n (stripOf q0 n at r w))
-        → Short (suc n) (stripOf q0 (suc n) at r w)
-    by false late last is rest =
-        let below = leb-false q0 (r + feedOf w) late in
-        let s = rest at (r + feedOf w) w (waiting i (r + feedOf w) below) (omega arith) in
-        rw (idle-tick q0 at r w below, i .busy) (record { ticks = ap suc (s .ticks); going = s .going })
-    by true due false more rest =
-        let over = leb-true q0 (r + feedOf w) due in
-        let c = cycleOf at w in
-        let fed : (r + feedOf w - q0) + q0 ≡ r + feedOf w = omega arith in
-        let next = still-sound i (cycle-tick q0 at r w over fed refl) more in
-        let s = rest (c .at) (r + feedOf w - q0) (c .work) next
-        (omega (arith, ap (λ (k : ℕ). k * q0) (cycle-counts i), ap (λ (f : ℕ). n * f) (same-feed at w more))) in
-        rw (← cycle-tick q0 at r w {rest = r + feedOf w - q0} {c = c} over fed refl, more)
-        (record { ticks = ap suc (s .ticks); going = s .going })
-    by true due true none rest =
-        let over = leb-true q0 (r + feedOf w) due in
-        let c = cycleOf at w in
-        let left = cycle-counts i ∙ ap (λ (v : Work). suc (cyclesLeft (c .at) v)) (nothing-is (c .work) .0 none) in
-        absurd (omega (arith, ap (λ (k : ℕ). k * q0) left))
 
 -- ---- how many ticks, and whether the last ended the block
 
@@ -95,8 +55,8 @@ strip-counts {q0} n t {at} {r} {w} i e = by (leb t n) refl
         record { ticks = s .ticks ∙ (omega arith); ended = s .ended ∙ sym (le-leb t (min n t) (omega arith)) }
     by false h =
         let less = leb-false t n h in
-        let s = strip-short n i (lt-of-not-le (λ g. let f = e .first n g in omega arith)) in
-        record { ticks = s .ticks ∙ (omega arith); ended = s .going ∙ sym (lt-leb t (min n t) (omega arith)) }
+        let s = strip-early i n (lt-of-not-le (λ g. let f = e .first n g in omega arith)) in
+        record { ticks = s .ticks ∙ (omega arith); ended = s .ended ∙ sym (lt-leb t (min n t) (omega arith)) }
 
 -- ---- one by one
 

@@ -20,8 +20,9 @@ use Rattle.machine.specs.declared.Ran.{Ran}
 use Rattle.machine.specs.Machine.{movedOf, freshOf}
 use Rattle.machine.specs.Calls.{loadOf}
 use Rattle.machine.specs.Run.{Run, runOf}
+use Rattle.run.specs.laws.Cycles.{end-range}
+use Rattle.run.specs.laws.Strip.{last-tick}
 use Rattle.finish.specs.Finish.{lastTick}
-use Rattle.finish.specs.laws.Bounds.{last-tick, latest}
 use Rattle.finish.specs.laws.Record.{AtWork, AtRest, at-work}
 use Rattle.finish.specs.laws.Loaded.{loaded-at-work}
 use Rattle.reader.specs.declared.Reader.{Reader}
@@ -53,7 +54,7 @@ run-to-end : (m : Machine) → AtWork m → ToEnd m (runOf m enough enough)
 run-to-end m a =
     let c = strip-counts enough (lastTick m) (at-work a) (last-tick (at-work a)) in
     subst (ToEnd m) (sym (runs m a enough enough))
-    (record { ticks = strip-ticks enough m a; many = omega (arith, c .ticks, latest (at-work a)) })
+    (record { ticks = strip-ticks enough m a; many = omega (arith, c .ticks, end-range (at-work a) .1) })
 
 -- ---- the blocks of a job
 

@@ -21,6 +21,17 @@ end-tick q0 f r k some due = record {
   first = λ s h. le-of-suc-le-suc (div-lt-iff-lt-mul some .1 (omega arith));
 }
 
+-- what a block leaves over as it ends: less than one feed, for the tick before had not reached its end
+pub record Over (q0 f r k t : ℕ) : Type 0 where
+  pub reached : k * q0 ≤ r + t * f
+  pub early : r + t * f < k * q0 + f
+
+pub over : (q0 f r k t : ℕ) → r < k * q0 → Ends q0 f r k t → Over q0 f r k t
+over q0 f r k zero due e = absurd (omega (arith, e .reached))
+over q0 f r k (suc t) due e =
+    let before : r + t * f < k * q0 = lt-of-not-le (λ g. not-le-of-lt (lt-suc-self t) (e .first t g)) in
+    record { reached = e .reached; early = omega arith }
+
 -- the cycles done, by the feeds alone
 module _ (q0 f r : ℕ) (short : f ≤ q0) (below : r < q0) where
   pub not-before : (k t : ℕ) → r + t * f < k * q0 → cyclesIn q0 f r t < k
@@ -40,11 +51,8 @@ module _ (q0 f r k : ℕ) (some : 1 ≤ f) (short : f ≤ q0) (below : r < q0) (
   in-work t h = not-before q0 f r short below k t (lt-of-not-le (λ g. not-le-of-lt h (end-tick q0 f r k some due .first t g)))
 
   pub at-end : cyclesIn q0 f r (endTick q0 f r k) ≡ k
-  at-end = by (endTick q0 f r k) (end-tick q0 f r k some due)
-    where
-      -- the tick before had not reached k × q0, so this one has not reached (k + 1) × q0
-      by : (t : ℕ) → Ends q0 f r k t → cyclesIn q0 f r t ≡ k
-      by zero e = absurd (omega (arith, due, e .reached))
-      by (suc t) e =
-          let before : r + t * f < k * q0 = lt-of-not-le (λ g. not-le-of-lt (lt-suc-self t) (e .first t g)) in
-          le-antisymm (le-of-suc-le-suc (not-before q0 f r short below (suc k) (suc t) (omega arith))) (by-then q0 f r short below k (suc t) (e .reached))
+  at-end =
+      let o = over q0 f r k (endTick q0 f r k) due (end-tick q0 f r k some due) in
+      -- less than one feed beyond k × q0 is not yet (k + 1) × q0
+      le-antisymm (le-of-suc-le-suc (not-before q0 f r short below (suc k) (endTick q0 f r k) (omega (arith, o .early))))
+      (by-then q0 f r short below k (endTick q0 f r k) (o .reached))

@@ -1,7 +1,8 @@
 -- Finishing is a run that is allowed its ticks: the same record, ticks and cycles.
 use mathlib.Core.Path.{_≡_, ap, subst}
 use mathlib.Core.Bool.{true}
-use Prim.Native.Nat.{ℕ, _+_, _-_, _*_, _≤_, min}
+use Prim.Native.Nat.{ℕ, _+_, _-_, _*_, _≤_, _<_, min}
+use native.Mathlib.Nat.{le-antisymm, le-of-mul-le-mul-left}
 use native.Mathlib.Omega.{arith}
 use Rattle.work.specs.Work.{feedOf, cyclesLeft}
 use Rattle.run.specs.Run.{Strip, stripOf}
@@ -15,8 +16,8 @@ use Rattle.keeps.specs.laws.Calls.{run-keeps}
 use Rattle.book.specs.Sums.{cyclesMarked}
 use Rattle.finish.specs.declared.Finished.{Finished}
 use Rattle.finish.specs.Finish.{lastTick, finishOf}
-use Rattle.finish.specs.laws.Bounds.{last-tick}
-use Rattle.finish.specs.laws.Strip.{Ended, strip-ends}
+use Rattle.run.specs.laws.Strip.{Ended, strip-ends, last-tick}
+use Rattle.finish.specs.laws.Strip.{strip-adds}
 use Rattle.finish.specs.laws.Record.{AtWork, AtRest, at-work, finishes}
 
 module _ (m : Machine) (a : AtWork m) (budget buffer : ℕ) (long : finishOf m .ticks ≤ budget) (room : finishOf m .ticks ≤ buffer) where
@@ -39,7 +40,15 @@ module _ (m : Machine) (a : AtWork m) (budget buffer : ℕ) (long : finishOf m .
       rw (runs, finishes m a, e .ended, e .ticks, e .reached, rest, e .idle)
 
   pub finish-counts : cyclesMarked (runOf m budget buffer .bytes) ≡ finishOf m .cycles
-  finish-counts = rw (runs, finishes m a) (strip-ended .cycles)
+  finish-counts =
+      let e = strip-ended in
+      let marked = strip-adds (min budget buffer) (at-work a) .up in
+      rw (runs, finishes m a)
+      (same (capacityOf (m .settings)) (cyclesMarked (ticking .bytes)) (cyclesLeft (m .at) (m .work)) (omega (arith, at-work a .below))
+      (omega (arith, e .adds-up, marked, ap (λ (t : ℕ). t * feedOf (m .work)) (e .ticks))))
+    where
+      same : (q c k : ℕ) → 0 < q → c * q ≡ k * q → c ≡ k
+      same q c k some e = le-antisymm (le-of-mul-le-mul-left {k = q} (omega arith) some) (le-of-mul-le-mul-left {k = q} (omega arith) some)
 
 -- so the record that it leaves is at rest, as a run's is
 pub finish-keeps-sound : (m : Machine) → AtWork m → AtRest (finishOf m .machine)

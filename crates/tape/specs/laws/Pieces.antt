@@ -17,9 +17,9 @@ use Rattle.machine.specs.Machine.{soundOf, movedOf}
 use Rattle.machine.specs.Run.{Run, ranOver, noTick, runOf}
 use Rattle.machine.specs.laws.Run.{ticks-are}
 use Rattle.keeps.specs.laws.Calls.{run-keeps}
+use Rattle.run.specs.laws.Cycles.{end-range}
+use Rattle.run.specs.laws.Strip.{last-tick, strip-ends}
 use Rattle.finish.specs.Finish.{lastTick, worksOf}
-use Rattle.finish.specs.laws.Bounds.{last-tick, latest}
-use Rattle.finish.specs.laws.Strip.{strip-ends}
 use Rattle.finish.specs.laws.Record.{AtWork, at-work, works}
 use Rattle.job.specs.Calls.{enough}
 use Rattle.tape.specs.Tape.{runThen}
@@ -63,10 +63,10 @@ module _ (m : Machine) (a : AtWork m) where
 
   -- a run that is allowed its ticks ends
   ends : ticking enough .ended ≡ true
-  ends = strip-ends enough (lastTick m) (at-work a) (last-tick (at-work a)) (latest (at-work a)) .ended
+  ends = strip-ends enough (lastTick m) (at-work a) (last-tick (at-work a)) (end-range (at-work a) .1) .ended
 
   idle : ticking enough .work ≡ Work.Nothing
-  idle = strip-ends enough (lastTick m) (at-work a) (last-tick (at-work a)) (latest (at-work a)) .idle
+  idle = strip-ends enough (lastTick m) (at-work a) (last-tick (at-work a)) (end-range (at-work a) .1) .idle
 
 -- ---- a run of some of the ticks, and the run to the end of what it leaves
 

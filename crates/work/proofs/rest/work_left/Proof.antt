@@ -1,7 +1,7 @@
 -- `work_left` is right because each case of what is in work has its own count, feed number and end.
 use borrow.Author.Needs.{needs}
-use Rattle.finish.proofs.work_left.Statement.{statement}
-use Rattle.finish.proofs.work_left.Tie as tie
+use Rattle.work.proofs.rest.work_left.Statement.{statement}
+use Rattle.work.proofs.rest.work_left.Tie as tie
 
 enum-told : tie.Need-enum-told
 enum-told c = search needs
