@@ -5,6 +5,7 @@ use mathlib.Core.List.{List}
 use Prim.Native.Nat.{ℕ}
 use denote.Ref.{RefT, now}
 use lib.ListN.{take}
+use lib.IntN.{pos}
 use contract.Lifetimes.{Lfts}
 use Rattle.block.specs.declared.Block.{Block}
 use Rattle.settings.specs.declared.Settings.{Settings}
@@ -21,11 +22,12 @@ use Rattle.reader.specs.declared.«text_line».Read.{Read}
 use Rattle.reader.specs.declared.«text_line».ReadLine.{ReadLine}
 use Rattle.reader.proofs.«text_line».«read_line».Reads as line-reads
 use Rattle.book.specs.Book.{Reply}
-use Rattle.history.specs.Contracts.{Makes, Loads, Ticks, Runs, Holds, Releases, Stops}
+use Rattle.ahead.specs.declared.Ahead.{Ahead}
+use Rattle.history.specs.Contracts.{Makes, Loads, Ticks, Runs, Holds, Releases, Stops, Looks}
 use Rattle.history.specs.Reply.{answerReply, tickReply, runReply}
 use Rattle.demands.specs.Asked.{none, AsAsked}
 use Rattle.demands.specs.Sound.{settingsQuestions}
-use Rattle.demands.specs.Questions.{soundQuestion, loadQuestions, lineQuestions}
+use Rattle.demands.specs.Questions.{soundQuestion, loadQuestions, lookQuestions, lineQuestions}
 
 -- what a run answers, in the book's words; it leaves the buffer as new
 abbrev pub ranReply : Ran → (new : List ℕ) → Reply
@@ -52,6 +54,7 @@ pub record Comes : Type 0 where
   pub hold : (m : Machine) → (r : Answered) × Holds m r
   pub release : (m : Machine) → (r : Answered) × Releases m r
   pub stop : (m : Machine) → (r : Answered) × Stops m r
+  pub look : (m : Machine) (ticks : ℕ) → (r : Ahead) × Looks m ticks r
   pub line : (κs : Lfts 1) (k : Reader) (m : Machine) (bytes : RefT (List ℕ)) → (r : ReadLine) × ReadsLine κs k m bytes r
   -- and the bytes of every line have a meaning
   pub means : (bytes : List ℕ) → (l : Line) × Means bytes l
@@ -59,6 +62,10 @@ pub record Comes : Type 0 where
 -- ".. and returns record and buffers unchanged"
 abbrev pub Untouched : Machine → (old new : List ℕ) → Ran → Type 0
 Untouched m old new r = (r .machine ≡ m) × (r .ticks ≡ 0) × (new ≡ old)
+
+-- 02 §1: "A refusal gives the machine's own record and sums of 0."
+abbrev pub Unlooked : Machine → Ahead → Type 0
+Unlooked m r = (r .machine ≡ m) × (r .then ≡ m) × (r .sums ≡ record { x = pos 0; y = pos 0 })
 
 pub record EveryAnswer : Type 0 where
   pub comes : Comes
@@ -74,6 +81,8 @@ pub record EveryAnswer : Type 0 where
   pub release : (m : Machine) (r : Answered) → Releases m r
       → AsAsked (soundQuestion m none) (answerReply (r .answer)) (r .machine ≡ m)
   pub stop : (m : Machine) (r : Answered) → Stops m r → AsAsked (soundQuestion m none) (answerReply (r .answer)) (r .machine ≡ m)
+  pub look : (m : Machine) (ticks : ℕ) (r : Ahead) → Looks m ticks r
+      → AsAsked (lookQuestions m ticks) (answerReply (r .answer)) (Unlooked m r)
   -- "A refused line leaves the known G and F and the machine as before it."
   pub line : (κs : Lfts 1) (k : Reader) (m : Machine) (bytes : RefT (List ℕ)) (r : ReadLine) → ReadsLine κs k m bytes r
       → (l : Line) → Means (now bytes) l

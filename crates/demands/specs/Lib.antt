@@ -1,5 +1,5 @@
 -- To be believed, in this order: Asked, Sound, Questions, Answers, Records and Calls (demand 1); Runs, Lines, Arcs, Texts and TickBytes
--- (demand 2); FromC. Demand 3 is in crate history. Proved of them: laws.
+-- (demand 2); FromC. Demand 3 and the claims on the look-ahead are in crate history. Proved of them: laws.
 pub mod Asked
 pub mod Sound
 pub mod Questions

@@ -34,6 +34,10 @@ use Rattle.demands.specs.Sound.{InTravel, FeedRight, VisitsInTravel, Sou
 abbrev pub soundQuestion : Machine → Questions → Questions
 soundQuestion m later = question 9 (Sound m) later
 
+-- 02 §1: "38: more than 1,000,000 ticks, checked after 9."
+abbrev pub lookQuestions : Machine → (ticks : ℕ) → Questions
+lookQuestions m ticks = soundQuestion m (question 38 (ticks ≤ 1000000) none)
+
 -- ---- load
 
 -- "is nothing in work? 10."

@@ -1,5 +1,6 @@
 // What the user demands, claim by claim. The functions do nothing: each contract is a claim, so that the check names it as proved.
 ghost use Rattle.history.specs.Demand.{EveryHistory, EveryList};
+ghost use Rattle.history.specs.Look.{EveryLook, EveryLookOn, EveryLookSum};
 ghost use Rattle.demands.specs.Answers.{EveryAnswer};
 ghost use Rattle.demands.specs.Arcs.{EveryArc};
 ghost use Rattle.demands.specs.Calls.{EveryCall};
@@ -58,6 +59,21 @@ pub fn every_history()
 // Demand 3 leaves no list of calls out: each has a history from every record.
 pub fn every_list()
     ensures { λ _. ⌜ EveryList ⌝ }
+{}
+
+// Request 1: after any history, a look ahead tells what so many more ticks of it give.
+pub fn every_look()
+    ensures { λ _. ⌜ EveryLook ⌝ }
+{}
+
+// Request 1: its sums are the point ahead less the point, and the machine comes back unchanged, for any record.
+pub fn every_look_sum()
+    ensures { λ _. ⌜ EveryLookSum ⌝ }
+{}
+
+// Request 1: ahead of s + t is ahead of t from the record ahead of s, for any record.
+pub fn every_look_on()
+    ensures { λ _. ⌜ EveryLookOn ⌝ }
 {}
 
 // The demands from C: its calls are the machine's.

@@ -18,7 +18,7 @@ pub struct Finished {
 }
 
 // Whether a tick of this record is a working one: it has a block in work and is not held.
-fn works(m: Machine) -> bool
+pub fn works(m: Machine) -> bool
     requires { ⌜ soundOf m ≡ true ⌝ }
     ensures { λ r. ⌜ r ≡ worksOf m ⌝ }
 {

@@ -9,6 +9,7 @@ use Rattle.machine.specs.declared.Machine.{Machine}
 use Rattle.machine.specs.declared.Answered.{Answered}
 use Rattle.machine.specs.declared.Ticked.{Ticked}
 use Rattle.machine.specs.declared.Ran.{Ran}
+use Rattle.ahead.specs.declared.Ahead.{Ahead}
 use Rattle.machine.proofs.Machine.make.Reads as make-reads
 use Rattle.machine.proofs.Machine.load.Reads as load-reads
 use Rattle.machine.proofs.Machine.tick.Reads as tick-reads
@@ -16,6 +17,7 @@ use Rattle.machine.proofs.Machine.run.Reads as run-reads
 use Rattle.machine.proofs.Machine.hold.Reads as hold-reads
 use Rattle.machine.proofs.Machine.release.Reads as release-reads
 use Rattle.machine.proofs.Machine.stop.Reads as stop-reads
+use Rattle.ahead.proofs.look_ahead.Reads as look-reads
 
 -- make, from settings, may return r
 abbrev pub Makes : Settings → Answered → Type 0
@@ -39,3 +41,7 @@ Releases m r = release-reads.Learnt tt (m, tt) r (m, tt)
 
 abbrev pub Stops : Machine → Answered → Type 0
 Stops m r = stop-reads.Learnt tt (m, tt) r (m, tt)
+
+-- look_ahead, on a record and a number of ticks, may return r
+abbrev pub Looks : Machine → (ticks : ℕ) → Ahead → Type 0
+Looks m n r = look-reads.Learnt tt (m, (n, tt)) r (m, (n, tt))

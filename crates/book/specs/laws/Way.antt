@@ -97,7 +97,8 @@ step-small n turn p on =
     subst (λ (o : Offset). (natAbs (o .x) ≤ 1) × (natAbs (o .y) ≤ 1)) (pulse-enter n turn p on)
     (seen-small turn _ (turned-small (s .quadrant) 1 (stepper.quadrantPulse (stepper.moveOf s)) (m .0) (m .1)))
 
-arc-way : {t : Travel} {a : Arc} {start : Point} → Inside t start → ArcAt t a start → Way t start (a .end) (arcCycles a start) (arcAfter a start)
+pub arc-way : {t : Travel} {a : Arc} {start : Point} → Inside t start → ArcAt t a start
+    → Way t start (a .end) (arcCycles a start) (arcAfter a start)
 unfolding arcAfter afterOf
 arc-way {t} {a} {start} here i =
     let on : Circles a start = record { on = i .on; end-on = i .end-on } in

@@ -5,8 +5,8 @@ use mathlib.Core.Logic.{_↔_}
 use mathlib.Core.List.{List}
 use Prim.Native.Nat.{ℕ, zero, suc, min}
 use native.Mathlib.Omega.{arith}
-use borrow.Author.Tests.{le-leb, ne-eqb}
-use lib.Dec.{eqb}
+use borrow.Author.Tests.{leb-true, le-leb, ne-eqb}
+use lib.Dec.{leb, eqb}
 use lib.IntN.{natAbs}
 use lib.ListN.{length, take}
 use denote.Ref.{RefT, now}
@@ -40,12 +40,14 @@ use Rattle.machine.specs.Machine.{soundOf, freshOf, movedOf}
 use Rattle.machine.specs.Calls.{answers, makeWith, makeOf, loadWith, loadOf, ticks, working, tickOf, markedOf, holdOf, releaseOf, stopOf}
 use Rattle.machine.specs.Run.{reportOf, ranOver, noTick, runOf}
 use Rattle.book.specs.Book.{Reply}
+use Rattle.ahead.specs.declared.Ahead.{Ahead}
+use Rattle.ahead.specs.Ahead.{tickingOf, looked, refusing, aheadOf}
 use Rattle.history.specs.Reply.{answerReply, tickReply, runReply}
-use Rattle.history.specs.Contracts.{Makes, Loads, Ticks, Runs, Holds, Releases, Stops}
+use Rattle.history.specs.Contracts.{Makes, Loads, Ticks, Runs, Holds, Releases, Stops, Looks}
 use Rattle.demands.specs.Asked.{none, AsAsked}
 use Rattle.demands.specs.Sound.{settingsQuestions}
-use Rattle.demands.specs.Answers.{ranReply}
-use Rattle.demands.specs.Questions.{soundQuestion, CentreRight, EndOnCircle, pathQuestions, blockQuestions, loadQuestions}
+use Rattle.demands.specs.Answers.{ranReply, Unlooked}
+use Rattle.demands.specs.Questions.{soundQuestion, lookQuestions, CentreRight, EndOnCircle, pathQuestions, blockQuestions, loadQuestions}
 use Rattle.demands.specs.laws.Asked.{Verdict, asked, none-asked, isRefused, Says, judged}
 use Rattle.demands.specs.laws.Sound.{in-range, in-travel, line-differs, visits-is, settings-verdict, sound-is}
 
@@ -217,3 +219,22 @@ module _ (m : Machine) where
       by true held = refl
       by false true = refl
       by false false = ran (strip .ended) _ _ _
+
+-- ---- a look ahead
+
+module _ (m : Machine) (ticks : ℕ) where
+  look-verdict : Verdict (lookQuestions m ticks) (ask (soundOf m) (ask (leb ticks 1000000) 0 38) 9)
+  look-verdict =
+      asked (soundOf m) 8 (sound-is m) (λ _.
+      asked (leb ticks 1000000) 37 (leb-true ticks 1000000, le-leb ticks 1000000) (λ _. none-asked))
+
+  pub look-answers : (r : Ahead) → Looks m ticks r → AsAsked (lookQuestions m ticks) (answerReply (r .answer)) (Unlooked m r)
+  unfolding aheadOf
+  look-answers r e = rw e (by (soundOf m) (leb ticks 1000000) look-verdict)
+    where
+      by : (sound most : Bool) → Verdict (lookQuestions m ticks) (ask sound (ask most 0 38) 9)
+          → (let a = cond sound (cond most (looked m (tickingOf ticks m)) (refusing m 38)) (refusing m 9) in
+          AsAsked (lookQuestions m ticks) (answerReply (a .answer)) (Unlooked m a))
+      by true true v = judged 0 v refl (λ some. absurd (some refl))
+      by true false v = judged 38 v refl (λ some. (refl, refl, refl))
+      by false most v = judged 9 v refl (λ some. (refl, refl, refl))

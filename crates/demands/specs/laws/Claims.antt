@@ -5,13 +5,14 @@ use denote.Ref.{now, at-last}
 use Rattle.run.specs.Run.{written}
 use Rattle.machine.specs.Calls.{makeOf, loadOf, tickOf, holdOf, releaseOf, stopOf}
 use Rattle.machine.specs.Run.{runOf}
+use Rattle.ahead.specs.Ahead.{aheadOf}
 use Rattle.words.specs.laws.Scan.{lineOf}
 use Rattle.words.specs.laws.Reading.{line-means}
 use Rattle.reader.specs.TextLine.{readLineOf}
 use Rattle.demands.specs.Answers.{Comes, EveryAnswer}
 use Rattle.demands.specs.Records.{EveryRecord}
 use Rattle.demands.specs.laws.Sound.{sound-is}
-use Rattle.demands.specs.laws.Answers.{make-answers, load-answers, tick-answers, run-answers, hold-answers, release-answers, stop-answers}
+use Rattle.demands.specs.laws.Answers.{make-answers, load-answers, tick-answers, run-answers, hold-answers, release-answers, stop-answers, look-answers}
 use Rattle.demands.specs.laws.TextLine.{line-answers}
 
 comes : Comes
@@ -26,6 +27,7 @@ comes =
       hold = λ m. (holdOf m, refl);
       release = λ m. (releaseOf m, refl);
       stop = λ m. (stopOf m, refl);
+      look = λ m ticks. (aheadOf m ticks, refl);
       line = λ κs k m bytes. (readLineOf k m (now bytes), refl);
       means = λ bytes. (lineOf bytes, line-means bytes);
     }
@@ -41,6 +43,7 @@ every-answer =
       hold = hold-answers;
       release = release-answers;
       stop = stop-answers;
+      look = look-answers;
       line = line-answers;
     }
 
