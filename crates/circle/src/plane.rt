@@ -1,10 +1,8 @@
 // Points seen from the centre, the two ways round, and the circle test.
-use whole::root::nearest_root;
 use whole::sign::part;
 ghost use mathlib.Core.Path.{_≡_};
 ghost use Prim.Native.Nat.{_≤_, _<_, _^_, max};
 ghost use lib.IntN.{natAbs};
-ghost use Rattle.whole.specs.Root.{nearestRoot};
 ghost use Rattle.circle.specs.Circle.{largestN, circleTest, onCircle};
 ghost use Rattle.circle.specs.Step.{seen};
 
@@ -69,13 +67,6 @@ pub fn on_circle(n: u64, p: Offset) -> bool
         return false;
     }
     near_circle(n, x.magnitude, y.magnitude)
-}
-
-// m on an axis: the radius to the nearest pulse.
-pub fn radius(n: u64) -> u64
-    ensures { λ r. ⌜ r ≡ nearestRoot n ⌝ }
-{
-    nearest_root(n)
 }
 
 // Clockwise is counterclockwise in a mirror. The least i64 has no mirror image.

@@ -2,7 +2,6 @@
 -- what is claimed of the machine's calls is claimed of these; all other words get 9 and stay as they are.
 use mathlib.Core.Path.{_≡_}
 use mathlib.Core.Logic.{_⊎_}
-use mathlib.Core.Bool.{true}
 use mathlib.Core.List.{List, [], _++_}
 use Prim.Native.Nat.{ℕ, _^_, _<_}
 use lib.IntN.{ℤ, pos, negsuc}

@@ -1,5 +1,5 @@
-// The words of a line while it is scanned: sets of letters, with a bit for each, and beside them an array of magnitudes. So one word more takes
-// a few operations, and no record of all the words is copied for it.
+// The words of a line while it is scanned: sets of letters, with a bit for each, and beside them an array of magnitudes. So one word more
+// takes a few operations, and no record of all the words is copied for it.
 use crate::letter::Letter;
 use crate::letter::index;
 use crate::word::Word;
@@ -9,13 +9,20 @@ ghost use mathlib.Core.Bool.{cond};
 ghost use Prim.Native.Nat.{_^_};
 ghost use lib.Dec.{eqb};
 ghost use lib.ListN.{getD};
-ghost use Rattle.letters.specs.laws.Found.{indexOf, hasOf, nothingFound, addOf, magnitudeOf, wordIn, wordsIn};
+ghost use Rattle.letters.specs.laws.Found.{indexOf, hasOf, nothingFound, addOf, magnitudeAfter, wordIn, wordsIn};
 
+// Sets of letters: the bit of a letter is 2 to the power of its index.
 pub struct Found {
+    // The letters that stand.
     pub stands: u64,
+    // Of these, the letters that stand more than once.
     pub twice: u64,
+    // Of the others, the letters whose number is negative.
     pub negative: u64,
 }
+
+// The set of all seven.
+const ALL: u64 = 127;
 
 fn bit(l: Letter) -> u64
     ensures { λ r. ⌜ r ≡ 2 ^ indexOf l ⌝ }
@@ -54,7 +61,7 @@ pub fn nothing() -> Found
 }
 
 impl Found {
-    // One word more.
+    // One word more. A letter that stands twice has no value, so then it loses its sign.
     pub fn add(self, l: Letter, negative: bool) -> Found
         ensures { λ r. ⌜ r ≡ addOf self l negative ⌝ }
     {
@@ -63,7 +70,7 @@ impl Found {
             return Found {
                 stands: self.stands,
                 twice: self.twice | one,
-                negative: self.negative & (127 - one),
+                negative: self.negative & (ALL - one),
             };
         }
         let minus = bit_if(negative, one);
@@ -74,9 +81,9 @@ impl Found {
         }
     }
 
-    // The letter's magnitude after one word more: a letter that stands twice has none.
+    // The letter's magnitude after one word more, asked before that is added: a letter that stands twice has none.
     pub fn magnitude(self, l: Letter, magnitude: u64) -> u64
-        ensures { λ r. ⌜ r ≡ magnitudeOf self l magnitude ⌝ }
+        ensures { λ r. ⌜ r ≡ magnitudeAfter self l magnitude ⌝ }
     {
         if has(self.stands, l) { 0 } else { magnitude }
     }

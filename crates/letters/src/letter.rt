@@ -63,7 +63,7 @@ pub fn of_byte(b: u8) -> Named
     }
 }
 
-// The letter's place where there is one for each.
+// The letter's index in whatever has a place for each letter.
 pub fn index(l: Letter) -> usize
     ensures { λ r. ⌜ r ≡ indexOf l ⌝ }
 {

@@ -23,7 +23,7 @@ pub struct Words {
 }
 
 // What is said of a letter that does not stand.
-pub fn missing() -> Word
+fn missing() -> Word
     ensures { λ r. ⌜ r ≡ missingWord ⌝ }
 {
     Word {

@@ -88,6 +88,18 @@ listedOf t line =
 abbrev pub readOf : Tally → (line old : List ℕ) (at : ℕ) → Given
 readOf t line old at = cond (hasRoom old at) (listedOf t line) (record { bytes = []; over = false; tally = t })
 
--- how far the next line begins behind this one's start, but for its LF: nowhere, where none is to be read
+-- the code's answer about a line, and the buffer after it
+abbrev pub Reads : Tally → (line old : List ℕ) (at : ℕ) → Listed → (new : List ℕ) → Type 0
+Reads t line old at r new = Gives (readOf t line old at) old at r new
+
+-- how many bytes the line has, behind which its LF stands and the next one begins; 0 where no next one is to be read
 abbrev pub bytesRead : Tally → (line old : List ℕ) (at : ℕ) → ℕ
 bytesRead t line old at = cond (hasRoom old at && not (readOf t line old at .over)) (length line) 0
+
+-- ---- inner functions' answers
+
+abbrev pub unreadOf : Tally → (at : ℕ) (over : Bool) → Listed
+unreadOf t at over = record { next = at; over = over; bytes = 0; tally = t }
+
+abbrev pub passedOf : Tally → Reader → Machine → (bytes at : ℕ) → Listed
+passedOf t k m bytes at = record { next = at; over = false; bytes = bytes; tally = listedWith t k m Read.Nothing .tally }

@@ -9,7 +9,8 @@ ghost use Rattle.machine.specs.Machine.{soundOf};
 ghost use Rattle.words.specs.laws.Scan.{firstLine};
 ghost use Rattle.row.specs.Lines.{totalLine};
 ghost use Rattle.row.specs.Buffer.{hasRoom, bufferAfter, placeAfter};
-ghost use Rattle.listing.specs.Tally.{Gives, countsRight, kindOf, nextPlace, startOf, blockListed, readOf, bytesRead};
+ghost use Rattle.listing.specs.Tally.{Gives, countsRight, kindOf, nextPlace, startOf, blockListed};
+ghost use Rattle.listing.specs.Tally.{Reads, bytesRead, unreadOf, passedOf};
 use finish::finish;
 use machine::Machine;
 use reader::Reader;
@@ -102,6 +103,39 @@ impl Tally {
         self.ticks <= 9_600_000_000_000 * self.lines
     }
 
+    // Nothing read, and nothing written.
+    fn unread(self, at: usize, over: bool) -> Listed
+        ensures { λ r. ⌜ r ≡ unreadOf self at over ⌝ }
+    {
+        Listed {
+            next: at,
+            over: over,
+            bytes: 0,
+            tally: self,
+        }
+    }
+
+    // A line of so many bytes that makes no block: nothing is written.
+    fn passed(self, reader: Reader, machine: Machine, bytes: usize, at: usize) -> Listed
+        requires { ⌜ countsRight self ≡ true ⌝ }
+        ensures { λ r. ⌜ r ≡ passedOf self reader machine bytes at ⌝ }
+    {
+        let tally = Tally {
+            reader: reader,
+            machine: machine,
+            lines: self.lines + 1,
+            blocks: self.blocks,
+            cycles: self.cycles,
+            ticks: self.ticks,
+        };
+        Listed {
+            next: at,
+            over: false,
+            bytes: bytes,
+            tally: tally,
+        }
+    }
+
     // A block that a line of so many bytes brought into work, run to its end.
     fn block(
         self,
@@ -151,24 +185,14 @@ impl Tally {
 
     // The first line of what is left of the text; its row goes into the buffer from `at` on. Without room for a row nothing is read.
     pub fn read(self, text: &[u8], out: &mut [u8], at: usize) -> Listed
-        ensures { λ r. ⌜ Gives (readOf self (firstLine (now (text .entry))) (now (out .entry)) at) (now (out .entry)) at r (now (out .exit)) ⌝ }
+        ensures { λ r. ⌜ Reads self (firstLine (now (text .entry))) (now (out .entry)) at r (now (out .exit)) ⌝ }
         ensures { λ r. ⌜ r .bytes ≡ bytesRead self (firstLine (now (text .entry))) (now (out .entry)) at ⌝ }
     {
         if !has_room(out.len(), at) {
-            return Listed {
-                next: at,
-                over: false,
-                bytes: 0,
-                tally: self,
-            };
+            return self.unread(at, false);
         }
         if !self.counts_right() {
-            return Listed {
-                next: at,
-                over: true,
-                bytes: 0,
-                tally: self,
-            };
+            return self.unread(at, true);
         }
         let lines = self.lines + 1;
         let reader = self.reader;
@@ -179,22 +203,7 @@ impl Tally {
         let next = r.reader;
         let after = r.machine;
         match answer {
-            Read::Nothing => {
-                let tally = Tally {
-                    reader: next,
-                    machine: after,
-                    lines: lines,
-                    blocks: self.blocks,
-                    cycles: self.cycles,
-                    ticks: self.ticks,
-                };
-                Listed {
-                    next: at,
-                    over: false,
-                    bytes: first.bytes,
-                    tally: tally,
-                }
-            }
+            Read::Nothing => self.passed(next, after, first.bytes, at),
             Read::Loaded(bits) => self.block(next, after, bits, first.bytes, out, at),
             Read::Refused(number) => {
                 let place = row::lines::refused(out, at, lines, number);

@@ -123,7 +123,7 @@ fn read_words(k: Reader, m: Machine, bytes: u64, l: Line) -> ReadLine
     take(k, next, m, block_of(settings.scale, next, ws, at))
 }
 
-// A line alone.
+// A line alone; a record that is not sound gets 9.
 pub fn read_line(k: Reader, m: Machine, line: &[u8]) -> ReadLine
     ensures { λ r. ⌜ r ≡ readLineOf k m (now (line .entry)) ⌝ }
 {
@@ -136,7 +136,7 @@ pub fn read_line(k: Reader, m: Machine, line: &[u8]) -> ReadLine
     read_words(k, m, line.len() as u64, words::line::read(line))
 }
 
-// The first line of a text.
+// The first line of a text, likewise.
 pub fn read_first(k: Reader, m: Machine, text: &[u8]) -> ReadFirst
     ensures { λ r. ⌜ r .read ≡ readLineOf k m (firstLine (now (text .entry))) ⌝ }
     ensures { λ r. ⌜ r .bytes ≡ length (firstLine (now (text .entry))) ⌝ }
@@ -147,7 +147,7 @@ pub fn read_first(k: Reader, m: Machine, text: &[u8]) -> ReadFirst
     if !sound(settings, at, m.remainder, work) {
         return ReadFirst {
             read: unsound(k, m),
-            bytes: words::text::line_end(text, 0),
+            bytes: words::text::end_of_line(text, 0),
         };
     }
     let first = words::line::read_first(text);

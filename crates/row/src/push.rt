@@ -85,7 +85,8 @@ pub fn number(out: &mut [u8], at: usize, n: u64, end: u8) -> usize
 }
 
 // The same of a number with a sign. Its magnitude is one of u64, also for the least i64.
-// Signs are as good as random, so none is branched on: the minus is always stored, and the first digit of any other number goes over it.
+// Signs come as they like, so this is written for a compiler to need no jump: the minus is always stored, and the first digit of a number
+// that is not negative goes over it.
 pub fn signed(out: &mut [u8], at: usize, v: i64, end: u8) -> usize
     requires { ⌜ at + 22 ≤ length (now out) ⌝ }
     ensures { λ r. ⌜ Puts (signedDecimal v ++ (end ∷ [])) 22 (now (out .entry)) at (now (out .exit)) r ⌝ }

@@ -10,8 +10,8 @@ pub fn width(n: u64) -> u64
     64 - u64::leading_zeros(n) as u64
 }
 
-// The fewest bits that hold the nearest root of n, without the root. It is at most k exactly where n <= k * k + k, here with the largest k
-// of half the bits of n: so it has these, or one more.
+// The fewest bits that hold the nearest root of n, without the root. That root is at most k exactly where n <= k * k + k. With k the
+// largest number of half as many bits as n has, rounded up, this tells whether the root has as many bits as k or one more.
 pub fn root_width(n: u64) -> u64
     ensures { λ r. ⌜ r ≡ widthOf (nearestRoot n) ⌝ }
 {

@@ -6,5 +6,5 @@ pub mod Line
 pub mod Reading
 pub mod FirstLine
 pub mod Run
-pub mod First
+pub mod Scanning
 pub mod Examples

@@ -1,8 +1,8 @@
-// The scan of a line: blanks are skipped, and a letter with its number is a word, which goes to its letter's place. One pass finds the words and
-// the line's end.
+// The scan of a line: blanks are skipped, and a letter with its number is a word, which goes to its letter's place. One pass finds the
+// words and the line's end.
 use crate::number;
+use crate::text::end_of_line;
 use crate::text::in_line;
-use crate::text::line_end;
 use letters::found;
 use letters::found::Found;
 use letters::letter;
@@ -61,7 +61,7 @@ fn refused(s: &[u8], from: usize) -> First
 {
     First {
         line: not_words(),
-        bytes: line_end(s, from),
+        bytes: end_of_line(s, from),
     }
 }
 

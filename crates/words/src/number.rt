@@ -37,7 +37,7 @@ fn one_if(b: bool) -> usize
     if b { 1 } else { 0 }
 }
 
-// A sign where the letter takes one. Signs come as they like, so there is no branch on them.
+// A sign where the letter takes one. Signs come as they like, so this is written for a compiler to need no jump.
 fn read_sign(s: &[u8], from: usize, takes: bool) -> Sign
     requires { ⌜ from ≤ length (now s) ⌝ }
     ensures { λ r. ⌜ r ≡ signOf takes (firstOf (drop from (now (s .entry)))) ⌝ }

@@ -18,7 +18,7 @@ pub fn in_line(text: &[u8], at: usize) -> bool
 }
 
 // Where the line that begins here ends: at its LF, or at the end of the text.
-pub fn line_end(text: &[u8], from: usize) -> usize
+pub fn end_of_line(text: &[u8], from: usize) -> usize
     ensures { λ r. ⌜ r ≡ from + length (firstLine (drop from (now (text .entry)))) ⌝ }
 {
     let mut end = from;

@@ -47,7 +47,8 @@ use Rattle.history.specs.Contracts.{Makes, Loads, Ticks, Runs, Holds, Releases,
 use Rattle.demands.specs.Asked.{none, AsAsked}
 use Rattle.demands.specs.Sound.{settingsQuestions}
 use Rattle.demands.specs.Answers.{ranReply, Unlooked}
-use Rattle.demands.specs.Questions.{soundQuestion, lookQuestions, CentreRight, EndOnCircle, pathQuestions, blockQuestions, loadQuestions}
+use Rattle.demands.specs.Questions.{soundQuestion, lookQuestions}
+use Rattle.demands.specs.Questions.{CentreRight, EndOnCircle, pathQuestions, blockQuestions, loadQuestions}
 use Rattle.demands.specs.laws.Asked.{Verdict, asked, none-asked, isRefused, Says, judged}
 use Rattle.demands.specs.laws.Sound.{in-range, in-travel, line-differs, visits-is, settings-verdict, sound-is}
 

@@ -12,7 +12,8 @@ use Rattle.reader.specs.TextLine.{readLineOf}
 use Rattle.demands.specs.Answers.{Comes, EveryAnswer}
 use Rattle.demands.specs.Records.{EveryRecord}
 use Rattle.demands.specs.laws.Sound.{sound-is}
-use Rattle.demands.specs.laws.Answers.{make-answers, load-answers, tick-answers, run-answers, hold-answers, release-answers, stop-answers, look-answers}
+use Rattle.demands.specs.laws.Answers.{make-answers, load-answers, tick-answers, run-answers}
+use Rattle.demands.specs.laws.Answers.{hold-answers, release-answers, stop-answers, look-answers}
 use Rattle.demands.specs.laws.TextLine.{line-answers}
 
 comes : Comes

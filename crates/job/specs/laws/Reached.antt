@@ -86,7 +86,8 @@ feed-read k m line h = by (soundOf m)
     by true =
         let l = lineOf line in
         let k′ = readerAfter k (l .words) in
-        feed-words k k′ m h (feed-after (k .feed) (l .words .f) (line-writable line .f) h) (l .words) (lineNo (m .settings .scale) k′ (length line) l)
+        let after = feed-after (k .feed) (l .words .f) (line-writable line .f) h in
+        feed-words k k′ m h after (l .words) (lineNo (m .settings .scale) k′ (length line) l)
     by false = h
 
 -- ---- a line

@@ -80,7 +80,9 @@ module _ (c : Check) (text old : List ℕ) (at : ℕ) {new : List ℕ} where
             drop-drop _ (c .at) text ∙ ap (λ (n : ℕ). drop n text) same
 
         -- what was to come, cut after the next line
-        cut : restOf c text ≡ listedOf (c .tally) line .bytes ++ unless (l .over) (rowsFrom (l .tally) (linesOf (drop (c .at + length line + 1) text)))
+        cut :
+            restOf c text
+            ≡ listedOf (c .tally) line .bytes ++ unless (l .over) (rowsFrom (l .tally) (linesOf (drop (c .at + length line + 1) text)))
         unfolding restOf rowsFrom
         cut = rw (lines, le-leb (length text) 65536 short, lines-next (drop (c .at) text) (rw (length-drop (c .at) text) (omega arith)), after, g .over, g .tally)
 

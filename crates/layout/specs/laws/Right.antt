@@ -11,7 +11,7 @@ use lib.Seq.{drop-cons}
 use mir.Syntax.{w64}
 use mir.Val.{SFits}
 use Rattle.whole.specs.Equal.{equalZ}
-use Rattle.whole.specs.laws.Test.{both, joined, same-test, equal-true, equal-same}
+use Rattle.whole.specs.laws.Test.{both, joined, same-test, equal-true}
 use Rattle.circle.specs.declared.plane.Turn.{Turn}
 use Rattle.work.specs.declared.Work.{Work}
 use Rattle.layout.specs.declared.encode.Head.{Head}

@@ -1,4 +1,5 @@
--- What the code does with the words that it found. Nothing here is to be believed: a word more is what `putOf` says of it.
+-- The words that the code has found, as sets and magnitudes. Nothing here is to be believed: `Put` proves that one word more is what
+-- `putOf` says.
 use Prim.Native.Nat.{ℕ, _-_, _/_, _%_, _^_}
 use mathlib.Core.List.{List}
 use mathlib.Core.Bool.{Bool, cond}
@@ -30,15 +31,19 @@ found s t n = record { stands = s; twice = t; negative = n }
 abbrev pub nothingFound : Found
 nothingFound = found 0 0 0
 
+-- the set of all seven
+abbrev pub allLetters : ℕ
+allLetters = 127
+
 abbrev pub addOf : Found → Letter → (negative : Bool) → Found
 addOf f l n =
     let one = 2 ^ indexOf l in
     cond (hasOf (f .stands) l)
-    (found (f .stands) (bitOr (f .twice) one) (bitAnd (f .negative) (127 - one)))
+    (found (f .stands) (bitOr (f .twice) one) (bitAnd (f .negative) (allLetters - one)))
     (found (bitOr (f .stands) one) (f .twice) (bitOr (f .negative) (cond n one 0)))
 
-abbrev pub magnitudeOf : Found → Letter → (magnitude : ℕ) → ℕ
-magnitudeOf f l m = cond (hasOf (f .stands) l) 0 m
+abbrev pub magnitudeAfter : Found → Letter → (magnitude : ℕ) → ℕ
+magnitudeAfter f l m = cond (hasOf (f .stands) l) 0 m
 
 abbrev pub wordIn : Found → (magnitudes : List ℕ) → Letter → Word
 wordIn f ms l =

@@ -5,19 +5,18 @@ use mathlib.Core.List.{List}
 use mathlib.Core.Bool.{Bool, true, false, cond, not, _||_, _&&_, false≢true}
 use native.Mathlib.Omega.{arith}
 use lib.Dec.{eqb}
-use lib.Bits.{bitAnd, bitOr, or-zero-r}
+use lib.Bits.{bitOr, or-zero-r}
 use lib.ListN.{length, getD, set, replicate, length-set}
 use lib.Seq.{getD-set-same, getD-set-other}
 use borrow.Author.Tests.{eqb-true, eqb-false}
 use Rattle.letters.specs.declared.letter.Letter.{Letter}
 use Rattle.letters.specs.declared.letter.Letter.the-variants.{N, G, F, X, Y, I, J}
 use Rattle.letters.specs.declared.word.Word.{Word}
-use Rattle.letters.specs.declared.word.Words.{Words}
 use Rattle.letters.specs.declared.found.Found.{Found}
 use Rattle.letters.specs.Letter.{same}
-use Rattle.letters.specs.Word.{oneWord, twiceWord, wordAt, wordsBy, onceOf}
-use Rattle.letters.specs.laws.Scan.{noWords, moreOf, putOf}
-use Rattle.letters.specs.laws.Found.{indexOf, hasOf, nothingFound, addOf, magnitudeOf, wordIn, wordsIn}
+use Rattle.letters.specs.Word.{oneWord, wordAt, wordsBy, onceOf}
+use Rattle.letters.specs.laws.Scan.{moreOf, putOf}
+use Rattle.letters.specs.laws.Found.{indexOf, hasOf, nothingFound, addOf, magnitudeAfter, wordIn, wordsIn}
 use Rattle.letters.specs.laws.Sets.{index-below, index-same, has-put, has-taken, put-small, taken-small, set-empty}
 
 -- ---- words by their letters
@@ -47,7 +46,14 @@ pub record Gathered (f : Found) (ms : List ℕ) : Type 0 where
 
 pub gathered-none : Gathered nothingFound (replicate 7 0)
 gathered-none =
-    record { stands = omega arith; twice = omega arith; negative = omega arith; places = refl; not-twice = λ l e. e; not-negative = λ l e. e }
+    record {
+      stands = omega arith;
+      twice = omega arith;
+      negative = omega arith;
+      places = refl;
+      not-twice = λ l e. e;
+      not-negative = λ l e. e;
+    }
 
 -- ---- one word more, letter by letter
 
@@ -56,7 +62,7 @@ module _ {f : Found} {ms : List ℕ} (r : Gathered f ms) (l : Letter) (n : Bool)
   more = addOf f l n
 
   abbrev magnitudes : List ℕ
-  magnitudes = set ms (indexOf l) (magnitudeOf f l m)
+  magnitudes = set ms (indexOf l) (magnitudeAfter f l m)
 
   module _ (k : Letter) where
     abbrev After : (is : Bool) → Type 0
@@ -69,8 +75,8 @@ module _ {f : Found} {ms : List ℕ} (r : Gathered f ms) (l : Letter) (n : Bool)
       has : (set : ℕ) → hasOf set k ≡ hasOf set l
       has set = ap (λ (i : ℕ). eqb (set / 2 ^ i % 2) 1) place
 
-      magnitude : getD magnitudes (indexOf k) 0 ≡ magnitudeOf f l m
-      magnitude = rw place (getD-set-same ms (indexOf l) (magnitudeOf f l m) 0 (omega (arith, index-below l, r .places)))
+      magnitude : getD magnitudes (indexOf k) 0 ≡ magnitudeAfter f l m
+      magnitude = rw place (getD-set-same ms (indexOf l) (magnitudeAfter f l m) 0 (omega (arith, index-below l, r .places)))
 
       minus : (b : Bool) → hasOf (f .stands) l ≡ false → hasOf (bitOr (f .negative) (cond b (2 ^ indexOf l) 0)) k ≡ b
       minus true e = rw (has-put (f .negative) (r .negative) l k, is)
@@ -84,7 +90,8 @@ module _ {f : Found} {ms : List ℕ} (r : Gathered f ms) (l : Letter) (n : Bool)
 
     module _ (is : same k l ≡ false) where
       magnitude-stays : getD magnitudes (indexOf k) 0 ≡ getD ms (indexOf k) 0
-      magnitude-stays = getD-set-other ms (indexOf l) (indexOf k) (magnitudeOf f l m) 0 (eqb-false (indexOf k) (indexOf l) (index-same k l ∙ is))
+      magnitude-stays =
+          getD-set-other ms (indexOf l) (indexOf k) (magnitudeAfter f l m) 0 (eqb-false (indexOf k) (indexOf l) (index-same k l ∙ is))
 
       sign-stays : (b : Bool) → hasOf (bitOr (f .negative) (cond b (2 ^ indexOf l) 0)) k ≡ hasOf (f .negative) k
       sign-stays true = rw (has-put (f .negative) (r .negative) l k, is)

@@ -1,4 +1,5 @@
--- What the code does with a byte, and with a word that was found. Nothing here is to be believed: crate `words` proves what comes of it.
+-- The letter of a byte, as the code finds it, and one word more in the record of a line's words; `Found` has that as the code does it.
+-- Nothing here is to be believed: crate `words` proves what comes of it.
 use Prim.Native.Nat.{ℕ}
 use mathlib.Core.List.{List, [], _∷_}
 use mathlib.Core.Bool.{cond}

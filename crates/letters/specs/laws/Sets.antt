@@ -11,7 +11,7 @@ use borrow.Author.Tests.{eqb-true, eqb-false}
 use Rattle.letters.specs.declared.letter.Letter.{Letter}
 use Rattle.letters.specs.declared.letter.Letter.the-variants.{N, G, F, X, Y, I, J}
 use Rattle.letters.specs.Letter.{letters, same}
-use Rattle.letters.specs.laws.Found.{indexOf, hasOf}
+use Rattle.letters.specs.laws.Found.{indexOf, hasOf, allLetters}
 
 pub index-below : (l : Letter) → indexOf l < 7
 index-below N = omega arith
@@ -93,21 +93,25 @@ abbrev putIn : ℕ → (l k : Letter) → Bool
 putIn s l k = agree (hasOf (bitOr s (2 ^ indexOf l)) k) (same k l || hasOf s k)
 
 abbrev takenOut : ℕ → (l k : Letter) → Bool
-takenOut s l k = agree (hasOf (bitAnd s (127 - 2 ^ indexOf l)) k) (not (same k l) && hasOf s k)
+takenOut s l k = agree (hasOf (bitAnd s (allLetters - 2 ^ indexOf l)) k) (not (same k l) && hasOf s k)
 
 module _ (s : ℕ) (small : s < 128) (l k : Letter) where
   pub has-put : hasOf (bitOr s (2 ^ indexOf l)) k ≡ (same k l || hasOf s k)
-  has-put = agree-same _ _ (each-at (putIn s l) (each-at (λ a. each (putIn s a)) (below-at 128 (λ n. each (λ a. each (putIn n a))) tt s small) l) k)
+  has-put =
+      let test = below-at 128 (λ n. each (λ a. each (putIn n a))) tt s small in
+      agree-same _ _ (each-at (putIn s l) (each-at (λ a. each (putIn s a)) test l) k)
 
-  pub has-taken : hasOf (bitAnd s (127 - 2 ^ indexOf l)) k ≡ (not (same k l) && hasOf s k)
-  has-taken = agree-same _ _ (each-at (takenOut s l) (each-at (λ a. each (takenOut s a)) (below-at 128 (λ n. each (λ a. each (takenOut n a))) tt s small) l) k)
+  pub has-taken : hasOf (bitAnd s (allLetters - 2 ^ indexOf l)) k ≡ (not (same k l) && hasOf s k)
+  has-taken =
+      let test = below-at 128 (λ n. each (λ a. each (takenOut n a))) tt s small in
+      agree-same _ _ (each-at (takenOut s l) (each-at (λ a. each (takenOut s a)) test l) k)
 
 module _ (s : ℕ) (small : s < 128) (l : Letter) where
   pub put-small : bitOr s (2 ^ indexOf l) < 128
   put-small = or-lt 7 s (2 ^ indexOf l) small (omega (arith, bit-below l))
 
-  pub taken-small : bitAnd s (127 - 2 ^ indexOf l) < 128
-  taken-small = omega (arith, and-le-l s (127 - 2 ^ indexOf l))
+  pub taken-small : bitAnd s (allLetters - 2 ^ indexOf l) < 128
+  taken-small = omega (arith, and-le-l s (allLetters - 2 ^ indexOf l))
 
 -- a letter's index tells it from the others, as its byte does
 pub index-same : (k l : Letter) → eqb (indexOf k) (indexOf l) ≡ same k l

@@ -2,7 +2,7 @@
 use mathlib.Core.Path.{_≡_, refl, sym, ap, _∙_}
 use mathlib.Core.Bool.{Bool, true, false, cond}
 use mathlib.Core.List.{List, [], _∷_}
-use Prim.Native.Nat.{ℕ, zero, suc, _^_, _<_}
+use Prim.Native.Nat.{zero, suc, _^_}
 use native.Mathlib.Omega.{arith}
 use lib.Dec.{ltb}
 use lib.IntN.{ℤ, pos, negsuc}
@@ -20,8 +20,7 @@ use Rattle.reader.specs.declared.Feed.{Feed}
 use Rattle.reader.specs.Reader.{motionOf}
 use Rattle.machine.specs.declared.Machine.{Machine}
 use Rattle.job.specs.declared.Stage.{Stage}
-use Rattle.layout.specs.Words.{wordOf, countOf, at, sameWords}
-use Rattle.layout.specs.Right.{isCount}
+use Rattle.layout.specs.Words.{countOf, at, sameWords}
 use Rattle.layout.specs.laws.Right.{count-again, count-right, each}
 use Rattle.layout.specs.laws.Same.{same-true, same-words}
 use Rattle.progress.specs.declared.known.Known.{Known}

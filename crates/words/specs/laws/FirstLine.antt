@@ -36,7 +36,8 @@ first-drop zero s h = refl
 first-drop (suc k) [] h = refl
 first-drop (suc k) (b ∷ s) h = by (eqb b 10) h (first-drop k s)
   where
-    by : (lf : Bool) → suc k ≤ length (untilLf lf b (firstLine s)) → (k ≤ length (firstLine s) → drop k (firstLine s) ≡ firstLine (drop k s))
+    by : (lf : Bool) → suc k ≤ length (untilLf lf b (firstLine s))
+        → (k ≤ length (firstLine s) → drop k (firstLine s) ≡ firstLine (drop k s))
         → drop (suc k) (untilLf lf b (firstLine s)) ≡ firstLine (drop k s)
     by true less same = absurd (omega arith)
     by false less same = same (omega arith)
@@ -113,7 +114,8 @@ amount-first fine s =
     let few : w .count ≤ length (firstLine s) = omega (arith, digits-short 7 (digits 0 0) (firstLine s)) in
     let rest : amountAfter fine w (drop (w .count) s) ≡ amountAfter fine w (drop (w .count) (firstLine s)) =
     after-first fine w (drop (w .count) s) ∙ ap (amountAfter fine w) (sym (first-drop (w .count) s few)) in
-    ap (λ (d : Digits). amountWith fine d s) (digits-first 7 (digits 0 0) s) ∙ ap (λ (a : Amount). cond (ltb (w .count) 1) (amount false 0 0) a) rest
+    ap (λ (d : Digits). amountWith fine d s) (digits-first 7 (digits 0 0) s)
+    ∙ ap (λ (a : Amount). cond (ltb (w .count) 1) (amount false 0 0) a) rest
 
 sign-first : (takes : Bool) (s : List ℕ) → signOf takes (firstOf s) ≡ signOf takes (firstOf (firstLine s))
 unfolding firstLine
@@ -166,6 +168,8 @@ number-short l s =
 pub number-first : (l : Letter) (s : List ℕ) → numberOf l s ≡ numberOf l (firstLine s)
 number-first l s =
     let g = signOf (takesSign l) (firstOf (firstLine s)) in
+    let from : drop (g .bytes) (firstLine s) ≡ firstLine (drop (g .bytes) s) =
+    first-drop (g .bytes) s (sign-short (takesSign l) (firstLine s)) in
     let rest : amountOf (takesPoint l) (drop (g .bytes) s) ≡ amountOf (takesPoint l) (drop (g .bytes) (firstLine s)) =
-    amount-first (takesPoint l) (drop (g .bytes) s) ∙ ap (amountOf (takesPoint l)) (sym (first-drop (g .bytes) s (sign-short (takesSign l) (firstLine s)))) in
+    amount-first (takesPoint l) (drop (g .bytes) s) ∙ ap (amountOf (takesPoint l)) (sym from) in
     ap (λ (x : Sign). numberAfter (takesPoint l) x s) (sign-first (takesSign l) s) ∙ ap (signed g) rest

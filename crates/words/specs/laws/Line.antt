@@ -44,10 +44,10 @@ letter-ends Y s = record { digit = refl; point = refl }
 letter-ends I s = record { digit = refl; point = refl }
 letter-ends J s = record { digit = refl; point = refl }
 
-line-ends : (is : List Item) → Ends (lineText is)
-line-ends [] = record { digit = refl; point = refl }
-line-ends (blank ∷ is) = record { digit = refl; point = refl }
-line-ends (word l sg w f ∷ is) = letter-ends l _
+end-of-lines : (is : List Item) → Ends (lineText is)
+end-of-lines [] = record { digit = refl; point = refl }
+end-of-lines (blank ∷ is) = record { digit = refl; point = refl }
+end-of-lines (word l sg w f ∷ is) = letter-ends l _
 
 no-blank : (l : Letter) → eqb (letterByte l) 32 ≡ false
 no-blank N = refl
@@ -64,7 +64,7 @@ items-read (blank ∷ is) ws r = items-read is ws (r .1)
 items-read (word l sg w f ∷ is) ws r =
     let t = numberText sg w f in
     let after = putOf ws l (oneWord (isMinus sg) (magnitudeOf l w f)) in
-    let n = number-read l sg w f (lineText is) (r .0) (line-ends is) in
+    let n = number-read l sg w f (lineText is) (r .0) (end-of-lines is) in
     let e : nextOf ws (letterByte l) (t ++ lineText is) ≡ on (length t) after = rw (no-blank l, letter-of l) (ap (numberNext ws l) n) in
     ap (goOn (t ++ lineText is)) e
     ∙ scan-skip (length t) after (t ++ lineText is)

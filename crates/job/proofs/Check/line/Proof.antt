@@ -27,8 +27,12 @@ Line c rest =
     Gives (readOf (s .self .tally) line (s .out .now) (s .place)) (s .out .now) (s .place) (c .read .result) (c .read .last .1 .1 .0)
     × (c .read .result .bytes ≡ bytesRead (s .self .tally) line (s .out .now) (s .place))
 
-given : (c : tie.After-read) → let s = c .before .before .before .before .before .before .before .before .args in Line c (drop (s .self .at) (s .text .now))
-given c = let s = c .before .before .before .before .before .before .before .before .args in subst (Line c) (slice-rest (s .text .now) (s .self .at)) (c .read .ensures)
+given :
+    (c : tie.After-read)
+    → (let s = c .before .before .before .before .before .before .before .before .args in Line c (drop (s .self .at) (s .text .now)))
+given c =
+    let s = c .before .before .before .before .before .before .before .before .args in
+    subst (Line c) (slice-rest (s .text .now) (s .self .at)) (c .read .ensures)
 
 refused-requires : tie.Need-refused-requires
 refused-requires c κs = search needs
@@ -89,14 +93,20 @@ returns-3 : tie.Need-returns-3
 returns-3 c = let r = c .before .before .before .before in
     let s = r .before .before .before .before .before .before .before .before in
     rw (c .last3 .ensures)
-    (step-refused (s .args .self) (s .args .text .now) (s .args .out .now) (s .args .place) (s .pre .0) (omega arith) (s .pre .1) (omega arith) (given r .0) (c .before .if3 .taken))
+    (step-refused (s .args .self) (s .args .text .now) (s .args .out .now) (s .args .place) (s .pre .0) (omega arith) (s .pre .1)
+    (omega arith) (given r .0) (c .before .if3 .taken))
 
 -- the line ends in the text
-ends : (c : tie.Else3) → let r = c .before .before .before in let s = r .before .before .before .before .before .before .before .before .args in s .self .at + r .read .result .bytes ≤ length (s .text .now)
+ends :
+    (c : tie.Else3)
+    → (let r = c .before .before .before in
+    let s = r .before .before .before .before .before .before .before .before .args in
+    s .self .at + r .read .result .bytes ≤ length (s .text .now))
 ends c =
     let r = c .before .before .before in
     let s = r .before .before .before .before .before .before .before .before in
-    near (s .args .self) (s .args .text .now) (s .args .out .now) (s .args .place) (s .pre .0) (omega arith) (s .pre .1) (omega arith) (given r .0) (c .if3 .left) (given r .1)
+    near (s .args .self) (s .args .text .now) (s .args .out .now) (s .args .place) (s .pre .0) (omega arith) (s .pre .1) (omega arith)
+    (given r .0) (c .if3 .left) (given r .1)
 
 add-t12 : tie.Need-add-t12
 add-t12 c = omega (arith, ends (c .before .before))
@@ -110,7 +120,8 @@ same-length-4 c = search needs
 returns-4 : tie.Need-returns-4
 returns-4 c = let r = c .before .before .before .before .before in
     let s = r .before .before .before .before .before .before .before .before in
-    step-line (s .args .self) (s .args .text .now) (s .args .out .now) (s .args .place) (s .pre .0) (omega arith) (s .pre .1) (omega arith) (given r .0) (c .before .before .if3 .left) (given r .1)
+    step-line (s .args .self) (s .args .text .now) (s .args .out .now) (s .args .place) (s .pre .0) (omega arith) (s .pre .1) (omega arith)
+    (given r .0) (c .before .before .if3 .left) (given r .1)
 
 pub line-spec : {M : Type 1} → statement M
 line-spec =

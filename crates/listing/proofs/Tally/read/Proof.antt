@@ -15,15 +15,17 @@ use Rattle.listing.proofs.next_place.Reads as next-place-reads
 use Rattle.reader.proofs.text_line.read_first.Reads as read-first-reads
 use Rattle.row.proofs.lines.refused.Reads as refused-reads
 use mathlib.Core.Path.{_≡_, refl, sym, ap, subst, _∙_}
-use mathlib.Core.Bool.{true}
-use Prim.Native.Nat.{_+_}
+use mathlib.Core.Bool.{Bool, true}
+use mathlib.Core.List.{List, []}
+use Prim.Native.Nat.{ℕ, _+_}
 use native.Mathlib.Nat.{add-zero}
 use native.Mathlib.Omega.{arith}
 use borrow.Author.Tests.{not-true, not-false}
 use Rattle.row.specs.Buffer.{hasRoom}
 use Rattle.row.specs.Lines.{refusedLine}
 use Rattle.row.specs.laws.Buffer.{refused-short}
-use Rattle.listing.specs.Tally.{countsRight, listedWith, readOf}
+use Rattle.listing.specs.declared.Tally.{Tally}
+use Rattle.listing.specs.Tally.{Gives, countsRight, listedWith, readOf}
 use Rattle.listing.specs.laws.Counts.{counts}
 use Rattle.words.specs.laws.Scan.{firstLine}
 use Rattle.listing.specs.laws.Read.{placed-none, written, goes-on, no-room, with-room, not-listed, listed, no-line, last-line, next-line, block-on}
@@ -59,32 +61,44 @@ module _ (c : tie.After-after) where
       ∙ listed (s .self) line (counted entered) (reading .read-first .ensures .0)
       ∙ ap (listedWith (s .self) (r .reader) (r .machine)) is
 
+-- what writes nothing leaves the buffer as it is
+silent :
+    (old : List ℕ) (at : ℕ) {over : Bool} {bytes : ℕ} {t : Tally}
+    → Gives (record { bytes = []; over = over; tally = t }) old at (record { next = at; over = over; bytes = bytes; tally = t }) old
+silent old at = record { short = omega arith; buffer = placed-none old at; next = sym (add-zero at); over = refl; tally = refl }
+
 has-room-requires : tie.Need-has-room-requires
 has-room-requires c κs = search needs
 
 returns : tie.Need-returns
 returns c =
-    let s = c .before .before .before .before .args in
+    let t = c .before in
+    let s = t .before .before .before .before .args in
     let line = firstLine (s .text .now) in
-    let none = sym (c .before .has-room .ensures) ∙ not-true _ (c .if1 .taken) in
-    no-line (s .self) line (s .out .now) (s .at)
-    (rw (no-room (s .self) line (s .out .now) (s .at) none)
-    (record { short = omega arith; buffer = placed-none _ _; next = sym (add-zero _); over = refl; tally = refl }))
-    none refl
+    let none = sym (t .before .has-room .ensures) ∙ not-true _ (t .if1 .taken) in
+    rw (c .unread .ensures)
+    (no-line (s .self) line (s .out .now) (s .at) (rw (no-room (s .self) line (s .out .now) (s .at) none) (silent _ _)) none refl)
+
+unread-requires : tie.Need-unread-requires
+unread-requires c κs = search needs
 
 counts-right-requires : tie.Need-counts-right-requires
 counts-right-requires c κs = search needs
 
 returns-2 : tie.Need-returns-2
 returns-2 c =
-    let s = c .before .before .before .before .before .before .args in
+    let t = c .before in
+    let s = t .before .before .before .before .before .before .args in
     let line = firstLine (s .text .now) in
-    let room = roomy (c .before .before) in
-    let wrong = sym (c .before .counts-right .ensures) ∙ not-true _ (c .if2 .taken) in
-    last-line (s .self) line (s .out .now) (s .at)
-    (rw (with-room (s .self) line (s .out .now) (s .at) room, not-listed (s .self) line wrong)
-    (record { short = omega arith; buffer = placed-none _ _; next = sym (add-zero _); over = refl; tally = refl }))
-    room refl refl
+    let room = roomy (t .before .before) in
+    let wrong = sym (t .before .counts-right .ensures) ∙ not-true _ (t .if2 .taken) in
+    rw (c .unread2 .ensures)
+    (last-line (s .self) line (s .out .now) (s .at)
+    (rw (with-room (s .self) line (s .out .now) (s .at) room, not-listed (s .self) line wrong) (silent _ _))
+    room refl refl)
+
+unread-requires-2 : tie.Need-unread-requires-2
+unread-requires-2 c κs = search needs
 
 add-lines : tie.Need-add-lines
 add-lines c = let k = counts _ (counted (c .before)) in omega (arith, k .lines)
@@ -94,6 +108,9 @@ read-first-requires c κs = search needs
 
 enum-told : tie.Need-enum-told
 enum-told c = search needs
+
+passed-requires : tie.Need-passed-requires
+passed-requires c κs = counted (entered (c .before .before))
 
 enum-known-answer : tie.Need-enum-known-answer
 enum-known-answer c = search needs
@@ -105,7 +122,8 @@ block-requires c κs =
     let s = e .before .before .before .before .before .before .args in
     let r = reading a .read-first .ensures .0 in
     let is = ap (λ (l : ReadLine). l .answer) (sym r) ∙ c .before .before .answer .given .1 in
-    (counted e, room a, subst (λ (l : ReadLine). soundOf (l .machine) ≡ true) (sym r) (loaded-sound (s .self .reader) (s .self .machine) (firstLine (s .text .now)) is))
+    let loaded = loaded-sound (s .self .reader) (s .self .machine) (firstLine (s .text .now)) is in
+    (counted e, room a, subst (λ (l : ReadLine). soundOf (l .machine) ≡ true) (sym r) loaded)
 
 enum-known-answer-2 : tie.Need-enum-known-answer-2
 enum-known-answer-2 c = search needs
@@ -118,15 +136,12 @@ next-place-requires c κs = search needs
 
 returns-3 : tie.Need-returns-3
 returns-3 c =
-    let a = c .before .before in
-    let e = entered a in
-    let s = e .before .before .before .before .before .before .args in
-    let line = firstLine (s .text .now) in
-    let f = reading a .read-first .ensures in
-    next-line (s .self) line (s .out .now) (s .at)
-    (rw (gives a (c .enum-told .given .1))
-    (record { short = omega arith; buffer = placed-none _ _; next = sym (add-zero _); over = refl; tally = refl }))
-    (room a) refl (f .1)
+    let told = c .before in
+    let a = told .before .before in
+    let s = entered a .before .before .before .before .before .before .args in
+    rw (c .passed .ensures)
+    (next-line (s .self) (firstLine (s .text .now)) (s .out .now) (s .at) (rw (gives a (told .enum-told .given .1)) (silent _ _))
+    (room a) refl (reading a .read-first .ensures .1))
 
 same-length : tie.Need-same-length
 same-length c = search needs
@@ -163,7 +178,7 @@ returns-5 c =
     (record {
       short = refused-short (s .self .lines + 1) number (omega (arith, k .lines)) (search needs);
       buffer = r .refused .ensures .0 ∙ written _ (s .out .now) (s .at) (room a);
-      next = c .next-place .ensures ∙ goes-on (refusedLine (s .self .lines + 1) number) (s .out .now) (s .at) (room a) (r .refused .ensures .1);
+      next = c .next-place .ensures ∙ goes-on (refusedLine _ number) (s .out .now) (s .at) (room a) (r .refused .ensures .1);
       over = refl;
       tally = refl;
     }))
@@ -174,12 +189,15 @@ read-spec =
     tie.close
     (tie.spec
     has-room-requires
+    unread-requires
     returns
     counts-right-requires
+    unread-requires-2
     returns-2
     add-lines
     read-first-requires
     enum-told
+    passed-requires
     enum-known-answer
     block-requires
     enum-known-answer-2

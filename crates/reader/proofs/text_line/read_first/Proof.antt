@@ -19,15 +19,15 @@ sound-requires c κs = search needs
 unsound-requires : tie.Need-unsound-requires
 unsound-requires c κs = search needs
 
-line-end-requires : tie.Need-line-end-requires
-line-end-requires c κs = search needs
+end-of-line-requires : tie.Need-end-of-line-requires
+end-of-line-requires c κs = search needs
 
 returns : tie.Need-returns
 unfolding readLineOf
 returns c =
     let u = c .before in
     let t = u .before in
-    (u .unsound .ensures ∙ rw (sym (t .before .sound .ensures) ∙ not-true _ (t .if1 .taken)), omega (arith, c .line-end .ensures))
+    (u .unsound .ensures ∙ rw (sym (t .before .sound .ensures) ∙ not-true _ (t .if1 .taken)), omega (arith, c .end-of-line .ensures))
 
 read-first-requires : tie.Need-read-first-requires
 read-first-requires c κs = search needs
@@ -48,7 +48,7 @@ read-first-spec =
     (tie.spec
     sound-requires
     unsound-requires
-    line-end-requires
+    end-of-line-requires
     returns
     read-first-requires
     read-words-requires

@@ -53,7 +53,8 @@ returns-3 c =
     let e = d .before .before in
     let n = e .before in
     c .take .ensures
-    ∙ rw (sym (number-is n) ∙ e .if1 .left, sym (d .before .moves .ensures) ∙ not-false _ (d .if2 .left), c .before .block-of .ensures, n .before .reader-after .ensures)
+    ∙ rw (sym (number-is n) ∙ e .if1 .left, sym (d .before .moves .ensures) ∙ not-false _ (d .if2 .left))
+    (rw (c .before .block-of .ensures, n .before .reader-after .ensures))
 
 pub read-words-spec : {M : Type 1} → statement M
 read-words-spec =

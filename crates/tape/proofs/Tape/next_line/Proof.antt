@@ -25,11 +25,18 @@ Line c rest =
     let r = c .read-first .result in
     (r .read ≡ readLineOf (s .self .reader) (s .self .machine) (firstLine rest)) × (r .bytes ≡ length (firstLine rest))
 
-given : (c : tie.After-read-first) → let s = c .before .before .before .before .before .before .before .args in Line c (drop (s .self .at) (s .text .now))
-given c = let s = c .before .before .before .before .before .before .before .args in subst (Line c) (slice-rest (s .text .now) (s .self .at)) (c .read-first .ensures)
+given :
+    (c : tie.After-read-first)
+    → (let s = c .before .before .before .before .before .before .before .args in Line c (drop (s .self .at) (s .text .now)))
+given c =
+    let s = c .before .before .before .before .before .before .before .args in
+    subst (Line c) (slice-rest (s .text .now) (s .self .at)) (c .read-first .ensures)
 
 -- the line ends in the text
-ends : (c : tie.After-read-first) → let s = c .before .before .before .before .before .before .before .args in s .self .at + c .read-first .result .bytes ≤ length (s .text .now)
+ends :
+    (c : tie.After-read-first)
+    → (let s = c .before .before .before .before .before .before .before .args in
+    s .self .at + c .read-first .result .bytes ≤ length (s .text .now))
 ends c =
     let s = c .before .before .before .before .before .before .before in
     let at = s .args .self .at in
@@ -86,7 +93,8 @@ returns-4 c =
     let e = c .before .before .before in
     let r = e .before .before .before in
     let s = r .before .before .before .before .before .before .before in
-    next-read (s .args .self) (s .args .text .now) (s .pre) (omega arith) (omega arith) (ap (λ (n : ℕ). s .args .self .at + n) (given r .1)) (given r .0)
+    let found = ap (λ (n : ℕ). s .args .self .at + n) (given r .1) in
+    next-read (s .args .self) (s .args .text .now) (s .pre) (omega arith) (omega arith) found (given r .0)
     (sym (e .before .is-refused .ensures) ∙ e .if3 .left)
 
 pub next-line-spec : {M : Type 1} → statement M

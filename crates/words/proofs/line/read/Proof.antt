@@ -2,7 +2,7 @@
 use mathlib.Core.Path.{ap, _∙_}
 use native.Mathlib.Omega.{arith}
 use Rattle.words.specs.laws.Scan.{lineOf}
-use Rattle.words.specs.laws.First.{first-whole, line-broken}
+use Rattle.words.specs.laws.Scanning.{first-whole, line-broken}
 use borrow.Author.Needs.{needs}
 use Rattle.words.proofs.line.read.Statement.{statement}
 use Rattle.words.proofs.line.read.Tie as tie

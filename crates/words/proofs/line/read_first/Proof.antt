@@ -10,7 +10,7 @@ use Rattle.letters.specs.laws.Put.{gathered-none, gathered-more, words-more}
 use Rattle.words.specs.laws.Scan.{firstLine}
 use Rattle.words.specs.laws.Run.{scanned-start}
 use Rattle.words.specs.laws.FirstLine.{in-text, at-end}
-use Rattle.words.specs.laws.First.{Scanning, line-left, line-over, inside, line-blank, line-other, line-wrong, line-word}
+use Rattle.words.specs.laws.Scanning.{Scanning, line-left, line-over, inside, line-blank, line-other, line-wrong, line-word}
 use borrow.Author.Needs.{needs}
 use Rattle.words.proofs.line.read_first.Statement.{statement}
 use Rattle.words.proofs.line.read_first.Tie as tie
@@ -126,7 +126,8 @@ loop-again c =
     let t = o .before .before .before in
     let v = t .before .before .loop in
     let letter = sym (o .of-byte .ensures) ∙ l .named .given .1 in
-    let word = line-word (text t) (v .inv .scanned) (on t .0) (on t .1) (o .before .if2 .taken) _ letter (n .read .result) (n .read .ensures .0) in
+    let r = v .inv .scanned in
+    let word = line-word (text t) r (on t .0) (on t .1) (o .before .if2 .taken) _ letter (n .read .result) (n .read .ensures .0) in
     let g = v .inv .gathered in
     let k = l .named .given .0 .0 in
     rw (c .add .ensures, m .magnitude .ensures, p .index .ensures)

@@ -6,11 +6,11 @@ use Rattle.words.proofs.line.refused.Tie as tie
 not-words-requires : tie.Need-not-words-requires
 not-words-requires c κs = search needs
 
-line-end-requires : tie.Need-line-end-requires
-line-end-requires c κs = search needs
+end-of-line-requires : tie.Need-end-of-line-requires
+end-of-line-requires c κs = search needs
 
 returns : tie.Need-returns
 returns c = search needs
 
 pub refused-spec : {M : Type 1} → statement M
-refused-spec = tie.close (tie.spec not-words-requires line-end-requires returns)
+refused-spec = tie.close (tie.spec not-words-requires end-of-line-requires returns)

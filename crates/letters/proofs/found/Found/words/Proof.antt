@@ -27,7 +27,19 @@ word-requires-7 c κs = search needs
 returns : tie.Need-returns
 returns c =
     let f = c .before .before .before in
-    rw (c .word7 .ensures, c .before .word6 .ensures, c .before .before .word5 .ensures, f .word4 .ensures, f .before .word3 .ensures, f .before .before .word2 .ensures, f .before .before .before .word .ensures)
+    let g = f .before .before in
+    rw (c .word7 .ensures, c .before .word6 .ensures, c .before .before .word5 .ensures, f .word4 .ensures, f .before .word3 .ensures)
+    (rw (g .word2 .ensures, g .before .word .ensures))
 
 pub words-spec : {M : Type 1} → statement M
-words-spec = tie.close (tie.spec word-requires word-requires-2 word-requires-3 word-requires-4 word-requires-5 word-requires-6 word-requires-7 returns)
+words-spec =
+    tie.close
+    (tie.spec
+    word-requires
+    word-requires-2
+    word-requires-3
+    word-requires-4
+    word-requires-5
+    word-requires-6
+    word-requires-7
+    returns)

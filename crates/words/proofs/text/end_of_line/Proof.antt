@@ -1,4 +1,4 @@
--- Invariant of `line_end`: the line that begins where it began ends where the rest from here on ends.
+-- Invariant of `end_of_line`: the line that begins where it began ends where the rest from here on ends.
 use mathlib.Core.Path.{_≡_, refl, sym, _∙_}
 use Prim.Native.Nat.{_+_, _-_, _<_}
 use native.Mathlib.Omega.{arith}
@@ -6,8 +6,8 @@ use lib.ListN.{length, drop, getD}
 use Rattle.words.specs.laws.Scan.{firstLine}
 use Rattle.words.specs.laws.FirstLine.{end-later, in-text, at-end}
 use borrow.Author.Needs.{needs}
-use Rattle.words.proofs.text.line_end.Statement.{statement}
-use Rattle.words.proofs.text.line_end.Tie as tie
+use Rattle.words.proofs.text.end_of_line.Statement.{statement}
+use Rattle.words.proofs.text.end_of_line.Tie as tie
 
 abbrev Inv-loop : tie.InvT-loop
 Inv-loop text from end₀ end = end + length (firstLine (drop end text)) ≡ from + length (firstLine (drop from text))
@@ -19,8 +19,14 @@ loop-holds : tie.Need-loop-holds Inv-loop μ-loop
 loop-holds c = refl
 
 -- a byte of the line is in the text
-on : (c : tie.Then1 Inv-loop μ-loop) → let text = c .before .before .before .before .args .text .now in let end = c .before .before .loop .end in (end < length text) × (getD text end 0 ≡ 10 → ⊥)
-on c = in-text (c .before .before .before .before .args .text .now) (c .before .before .loop .end) (sym (c .before .in-line .ensures) ∙ c .if1 .taken)
+on :
+    (c : tie.Then1 Inv-loop μ-loop)
+    → (let text = c .before .before .before .before .args .text .now in
+    let end = c .before .before .loop .end in
+    (end < length text) × (getD text end 0 ≡ 10 → ⊥))
+on c =
+    let here = sym (c .before .in-line .ensures) ∙ c .if1 .taken in
+    in-text (c .before .before .before .before .args .text .now) (c .before .before .loop .end) here
 
 in-line-requires : tie.Need-in-line-requires Inv-loop μ-loop
 in-line-requires c κs = search needs
@@ -42,5 +48,5 @@ returns c =
     let none = sym (c .before .in-line .ensures) ∙ c .if1 .left in
     omega (arith, v .inv, at-end (c .before .before .before .before .args .text .now) (v .end) none)
 
-pub line-end-spec : {M : Type 1} → statement M
-line-end-spec = tie.close (tie.spec Inv-loop μ-loop loop-holds in-line-requires add-end loop-less loop-again returns)
+pub end-of-line-spec : {M : Type 1} → statement M
+end-of-line-spec = tie.close (tie.spec Inv-loop μ-loop loop-holds in-line-requires add-end loop-less loop-again returns)

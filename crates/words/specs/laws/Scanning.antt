@@ -50,7 +50,8 @@ module _ (s : List ℕ) {ws : Words} {i : ℕ} (r : Scanned (firstLine s) ws i) 
     byte : getD (firstLine s) i 0 ≡ getD s i 0
     byte =
         let here : i + 0 ≡ i = omega arith in
-        sym (rw here at (getD-drop i (firstLine s) 0 0)) ∙ ap (λ (l : List ℕ). getD l 0 0) (first-drop i s (r .within) ∙ first-more s i h on)
+        sym (rw here at (getD-drop i (firstLine s) 0 0))
+        ∙ ap (λ (l : List ℕ). getD l 0 0) (first-drop i s (r .within) ∙ first-more s i h on)
 
     pub line-blank : getD s i 0 ≡ 32 → Scanned (firstLine s) ws (i + 1)
     line-blank e = scanned-blank r inside (byte ∙ e)
