@@ -11,7 +11,8 @@
  * Use: vz_make once; then for each block a vz_load_.. and vz_tick (from the clock's interrupt) or vz_run until the block ends.
  * A board that is given a job text reads it line by line with vz_read_line; vz_check_start and vz_check_fill list it beforehand.
  *
- * Needed: C11 or C++11, and an x86-64 machine: tools/archive writes target/libverdaizka.a for it, which calls no library.
+ * Needed: C11 or C++11, and an x86-64 machine: tools/archive writes target/libverdaizka.a for it.
+ * From outside the archive needs memcpy and memset alone.
  *     cc -std=c11 -Iinclude program.c target/libverdaizka.a
  * examples/c has whole programs: square_and_circle.c, run_a_job.c, check_a_job.c.
  *
@@ -21,11 +22,14 @@
  *
  * Work: every call does a bounded number of steps but for what it writes or reads. At most, beside sums, products and tests:
  *     vz_make, vz_hold, vz_release, vz_stop, vz_tick   no loop, no root, no division
- *     vz_load_line, vz_load_cw, vz_load_ccw            one root: one division of doubles and, where its guess fails, 32 halvings
- *     vz_run                                           one such root, five divisions, a turn a cycle, and the bytes of its ticks cleared once
+ *     vz_load_cw, vz_load_ccw                          the same
+ *     vz_load_line                                     one root: one division of doubles and, where its guess fails, 32 halvings
+ *     vz_run                                           on a line five divisions, on an arc three and one such root; a turn a cycle, and the
+ *                                                      bytes of its ticks cleared once
  *     vz_read_line                                     a turn for each byte of the line, then a load
  *     vz_check_start                                   as vz_make
- *     vz_check_fill                                    for each text line it lists: vz_read_line, another root, a division, the row's digits
+ *     vz_check_fill                                    for each text line it lists: vz_read_line, of an arc one such root, a division, the
+ *                                                      row's digits
  * Whole numbers confirm the guess, so no setting of the floating-point unit makes an answer another; a program that has unmasked its
  * exceptions masks them again before it calls.
  *
