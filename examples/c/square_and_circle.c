@@ -1,6 +1,7 @@
 /* Cuts a square of 10 mm and then a circle of 10 mm. For each block it writes the sums of the pulses sent on each axis, with and
  * without their signs, the cycles, the ticks and where the machine stands. The square goes by vz_run into a buffer, the circle
- * by vz_tick, as from the clock's interrupt. It ends with 1 where a call is refused or the pulses don't add up to the way. */
+ * by vz_tick, as from the clock's interrupt. It ends with 1 where a call is refused or the pulses don't add up to the way, and with 2
+ * where this can't be written. */
 #include <inttypes.h>
 #include <stdio.h>
 
@@ -98,5 +99,9 @@ int main(void)
     good &= cut(&m, vz_load_line(&m, 0, 0, FEED), (struct block){"down", 0, 0, 0, SIDE, by_runs});
     good &= cut(&m, vz_load_ccw(&m, 0, 0, FEED, SIDE / 2, 0), (struct block){"circle", 0, 0, 2 * SIDE, 2 * SIDE, by_ticks});
     puts(good ? "the pulses add up" : "the pulses don't add up");
+    if (fflush(stdout) != 0 || ferror(stdout)) {
+        perror("square_and_circle");
+        return 2;
+    }
     return good ? 0 : 1;
 }
