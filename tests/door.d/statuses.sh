@@ -1,6 +1,6 @@
 # shellcheck shell=bash disable=SC2154
 # The exit status of every command: 0 done; 1 a line of the job is refused; 2 bad usage, or a file that cannot be read or written. When it is
-# 3 stands in builds.sh.
+# 3 stands in builds.sh. Last the program behind the pictures, which has 0 and 2.
 mkdir "$work/status"
 file=$work/status/file
 
@@ -100,3 +100,32 @@ ok "something is left of an output that failed" holds "$work/status"
 ends 2 ticks "$work/slow.job" "$file"
 ends 2 plot "$work/slow.job" "$file"
 ends 2 plot "$work/slow-refused.job" "$file"
+
+# told N WORDS..: the status of the program that tells a picture the blocks; where it is 2, one line of standard error says why
+told() {
+    "$blocks" "${@:2}" >"$work/out" 2>"$work/err"
+    [[ $? -eq $1 && $(wc -l <"$work/err") -eq $(($1 / 2)) ]]
+}
+blocks=target/rust/release/blocks
+ok "blocks: the exit status is not 0" told 0 <"$good"
+ok "blocks of a refused job: the exit status is not 0" told 0 <"$bad"
+ok "blocks of an empty job: the exit status is not 0" told 0 </dev/null
+ok "blocks, an unknown argument: the exit status is not 2" told 2 --records <"$good"
+ok "blocks, an empty argument: the exit status is not 2" told 2 "" <"$good"
+ok "blocks of a folder: the exit status is not 2" told 2 <tests
+ok "blocks, standard input closed: the exit status is not 2" told 2 <&-
+to_full() {
+    "$blocks" <"$good" >/dev/full 2>"$work/err"
+    [[ $? -eq 2 && -s $work/err ]]
+}
+all_full() {
+    "$blocks" <"$good" >/dev/full 2>/dev/full
+    [[ $? -eq 2 ]]
+}
+no_output() {
+    "$blocks" </dev/null >&- 2>"$work/err"
+    [[ $? -eq 2 && -s $work/err ]]
+}
+ok "blocks, to a full device: the exit status is not 2" to_full
+ok "blocks, nobody hears why: the exit status is not 2" all_full
+ok "blocks, standard output closed: the exit status is not 2" no_output

@@ -2,6 +2,7 @@
 //! declarations of them are not.
 
 pub mod crc;
+pub mod descriptors;
 pub mod fields;
 
 /// The record as the core has it, in words of 64 bits.

@@ -2,11 +2,12 @@
 //!
 //! Reads a job on standard input and writes a row for each block, up to the end of the text or the refused line, `NUMBER LINE KIND X Y CX
 //! CY`: its number and text line as in the listing; 1 for a line, 2 for an arc clockwise, 3 for one counterclockwise; its end; an arc's
-//! centre, for a line 0 0. Positions are in pulses. Exit status: 0, or 2 where the job cannot be read or the rows cannot be written.
+//! centre, for a line 0 0. Positions are in pulses. Exit status: 0, or 2 where the job cannot be read, the rows cannot be written or an
+//! argument is given.
 
 use std::io::{self, BufWriter, Read, Write};
 use std::process::ExitCode;
-use verdaizka::{Block, Known, Machine, Refused, Turn, Why, Work, USUAL};
+use verdaizka::{descriptors, Block, Known, Machine, Refused, Turn, Why, Work, USUAL};
 
 const LONGEST_TEXT: usize = 65_536;
 /// The feed number that gives a cycle on every tick.
@@ -59,6 +60,10 @@ fn write_rows(text: &[u8], out: &mut impl Write) -> io::Result<()> {
 }
 
 fn run() -> io::Result<()> {
+    if std::env::args_os().len() > 1 {
+        return Err(io::Error::other("it takes no argument: the job comes on standard input"));
+    }
+    descriptors::are_open()?;
     let mut text = Vec::new();
     // A byte more than a text may have, so that a longer one is seen to be longer: it has no blocks.
     io::stdin().lock().take(LONGEST_TEXT as u64 + 1).read_to_end(&mut text)?;
@@ -73,7 +78,8 @@ fn main() -> ExitCode {
     match run() {
         Ok(()) => ExitCode::SUCCESS,
         Err(error) => {
-            eprintln!("blocks: {error}");
+            // Where standard error takes nothing there is nobody left to tell.
+            let _ = writeln!(io::stderr(), "blocks: {error}");
             ExitCode::from(2)
         }
     }

@@ -2,14 +2,14 @@
 //!
 //! `calls [--records]` reads standard input. With `--records` a line `= RECORD` stands after each answer, and every word of the core's
 //! record is compared with it. Exit status 2, with what was answered so far: a line that is no call, a run that asks for more memory than
-//! there is, and reading or writing that failed; standard error has the line and why.
+//! there is, and reading or writing that failed; standard error has the line and why. Also where standard input or output is closed.
 
 use std::fmt;
 use std::io::{self, BufRead, BufWriter, Write};
 use std::process::ExitCode;
 use verdaizka::crc::Crc;
 use verdaizka::fields::{is_of, record_told, Fields};
-use verdaizka::{word, Block, Known, Machine, Refused, Settings, Why, USUAL};
+use verdaizka::{descriptors, word, Block, Known, Machine, Refused, Settings, Why, USUAL};
 
 /// The longest buffer that a run is lent, in bytes: a system that promises more memory than it has would end the runner unheard.
 const LONGEST_BUFFER: usize = 1 << 30;
@@ -207,7 +207,7 @@ fn answer_file(input: &mut impl BufRead, records: bool, out: &mut impl Write) ->
     Ok(())
 }
 
-/// Where standard error is closed there is nobody left to tell.
+/// Where standard error takes nothing there is nobody left to tell.
 fn end_by_2(why: &dyn fmt::Display) -> ExitCode {
     let _ = writeln!(io::stderr(), "calls: {why}");
     ExitCode::from(2)
@@ -218,6 +218,9 @@ fn main() -> ExitCode {
     let records = arguments == ["--records"];
     if !records && !arguments.is_empty() {
         return end_by_2(&"usage: calls [--records]");
+    }
+    if let Err(error) = descriptors::are_open() {
+        return end_by_2(&error);
     }
     let mut out = BufWriter::new(io::stdout().lock());
     let answered = answer_file(&mut io::stdin().lock(), records, &mut out);
