@@ -11,12 +11,23 @@ named() (
     status 1 plot -- "$1" "$1.svg" && xmllint --noout "./$1.svg" || exit 1
     status 2 ticks -- "$1" "$1" && cmp -s "./$1" "$refused" && [[ $(find . -mindepth 1 -printf x) == xxx ]]
 )
-for name in 'with blank.job' ' ' -dash.job --help '*' "quote'\"\`\$x" 'back\slash' $'line\nfeed.job' $'last\n' $'\xff\xfe bytes.job' \
+for name in 'with blank.job' ' ' -dash.job --help - -- '*' "quote'\"\`\$x" 'back\slash' $'line\nfeed.job' $'last\n' $'\xff\xfe bytes.job' \
     'naïve-π.job' '<a & b>]]>.job' $'bell\a\e[31m.job' '%s%n'; do
-    ok "the name $(printf %q "$name")" named "$name"
+    ok "the name $(printf %q "$name")" named "$name" </dev/null
 done
 long=$(printf 'x%.0s' {1..240})
 ok "a name of 240 bytes" named "$long"
+
+# dash COMMAND FILE OTHER TEXT: after -- the word - is the file of this name, before it standard input; TEXT is in what is written of OTHER
+# and not of FILE
+dash() (
+    file=$PWD/$2 other=$PWD/$3
+    cd "$work/names" && cp "$file" ./- || exit 1
+    "$door" "$1" -- - <"$other" >"$work/out" 2>"$work/err" && [[ -s $work/out ]] && ! grep -q "$4" "$work/out" || exit 1
+    "$door" "$1" - <"$other" >"$work/out" 2>"$work/err" && grep -q "$4" "$work/out"
+)
+ok "check -- - reads standard input" dash check "$good" examples/gasket.job '^total 20 '
+ok "calls -- - reads standard input" dash calls examples/calls/{worked,text}.calls '^> text '
 
 # A message shows a name so that no byte of it does harm.
 harmless() {
