@@ -55,7 +55,7 @@ fn progress_of(c: Check) -> Progress
 }
 
 // The words in their order.
-fn lay(p: Progress) -> [i64; 8]
+fn in_order(p: Progress) -> [i64; 8]
     ensures { λ r. ⌜ r ≡ progressWords p ⌝ }
 {
     let known = p.known;
@@ -74,7 +74,7 @@ fn lay(p: Progress) -> [i64; 8]
 pub fn encode_progress(c: Check) -> [i64; 8]
     ensures { λ r. ⌜ r ≡ encodeProgress c ⌝ }
 {
-    lay(progress_of(c))
+    in_order(progress_of(c))
 }
 
 // The check counts only where the words are one's.
