@@ -7,6 +7,7 @@ ghost use Rattle.machine.specs.Machine.{soundOf};
 ghost use Rattle.reader.specs.TextLine.{reads, still, takenOf, readWordsOf, readLineOf};
 ghost use Rattle.reader.specs.declared.«text_line».Read.the-variants.{Refused};
 ghost use Rattle.reader.specs.laws.Small.{Writable};
+ghost use Rattle.reader.specs.laws.TextLine.{brokenNo};
 use crate::Reader;
 use crate::command::block_of;
 use crate::command::reader_after;
@@ -51,6 +52,16 @@ fn stands_still(b: Block, at: Point) -> bool
     }
 }
 
+fn refused(k: Reader, m: Machine, number: u64) -> ReadLine
+    ensures { λ r. ⌜ r ≡ reads (Refused number) k m ⌝ }
+{
+    ReadLine {
+        answer: Read::Refused(number),
+        reader: k,
+        machine: m,
+    }
+}
+
 // The block of a line that passed its questions: k is the reader before it, next the one after it.
 fn take(k: Reader, next: Reader, m: Machine, b: Block) -> ReadLine
     requires { ⌜ soundOf m ≡ true ⌝ }
@@ -78,21 +89,7 @@ fn take(k: Reader, next: Reader, m: Machine, b: Block) -> ReadLine
             reader: next,
             machine: after,
         },
-        Answer::Refused(no) => ReadLine {
-            answer: Read::Refused(no),
-            reader: k,
-            machine: m,
-        },
-    }
-}
-
-fn unsound(k: Reader, m: Machine) -> ReadLine
-    ensures { λ r. ⌜ r ≡ reads (Refused 9) k m ⌝ }
-{
-    ReadLine {
-        answer: Read::Refused(9),
-        reader: k,
-        machine: m,
+        Answer::Refused(no) => refused(k, m, no),
     }
 }
 
@@ -107,11 +104,7 @@ fn read_words(k: Reader, m: Machine, bytes: u64, l: Line) -> ReadLine
     let next = reader_after(k, ws);
     let no = line_no(settings.scale, next, bytes, l);
     if no != 0 {
-        return ReadLine {
-            answer: Read::Refused(no),
-            reader: k,
-            machine: m,
-        };
+        return refused(k, m, no);
     }
     if !moves(ws) {
         return ReadLine {
@@ -123,20 +116,7 @@ fn read_words(k: Reader, m: Machine, bytes: u64, l: Line) -> ReadLine
     take(k, next, m, block_of(settings.scale, next, ws, at))
 }
 
-// A line alone; a record that is not sound gets 9.
-pub fn read_line(k: Reader, m: Machine, line: &[u8]) -> ReadLine
-    ensures { λ r. ⌜ r ≡ readLineOf k m (now (line .entry)) ⌝ }
-{
-    let settings = m.settings;
-    let at = m.at;
-    let work = m.work;
-    if !sound(settings, at, m.remainder, work) {
-        return unsound(k, m);
-    }
-    read_words(k, m, line.len() as u64, words::line::read(line))
-}
-
-// The first line of a text, likewise.
+// The first line of a text; a record that is not sound gets 9.
 pub fn read_first(k: Reader, m: Machine, text: &[u8]) -> ReadFirst
     ensures { λ r. ⌜ r .read ≡ readLineOf k m (firstLine (now (text .entry))) ⌝ }
     ensures { λ r. ⌜ r .bytes ≡ length (firstLine (now (text .entry))) ⌝ }
@@ -146,7 +126,7 @@ pub fn read_first(k: Reader, m: Machine, text: &[u8]) -> ReadFirst
     let work = m.work;
     if !sound(settings, at, m.remainder, work) {
         return ReadFirst {
-            read: unsound(k, m),
+            read: refused(k, m, 9),
             bytes: words::text::end_of_line(text, 0),
         };
     }
@@ -156,4 +136,28 @@ pub fn read_first(k: Reader, m: Machine, text: &[u8]) -> ReadFirst
         read: read_words(k, m, first.bytes as u64, l),
         bytes: first.bytes,
     }
+}
+
+// The number that bytes with an LF among them get: they are no line of words.
+fn broken_no(m: Machine, bytes: usize) -> u64
+    ensures { λ r. ⌜ r ≡ brokenNo m bytes ⌝ }
+{
+    let settings = m.settings;
+    let at = m.at;
+    let work = m.work;
+    if !sound(settings, at, m.remainder, work) {
+        return 9;
+    }
+    if bytes <= 80 { 32 } else { 31 }
+}
+
+// A line alone, likewise. It is its own first line, where it has no LF.
+pub fn read_line(k: Reader, m: Machine, line: &[u8]) -> ReadLine
+    ensures { λ r. ⌜ r ≡ readLineOf k m (now (line .entry)) ⌝ }
+{
+    let first = read_first(k, m, line);
+    if first.bytes < line.len() {
+        return refused(k, m, broken_no(m, line.len()));
+    }
+    first.read
 }

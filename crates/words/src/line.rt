@@ -96,14 +96,3 @@ pub fn read_first(s: &[u8]) -> First
         bytes: i,
     }
 }
-
-// The words of a line alone: an LF in it begins no word.
-pub fn read(s: &[u8]) -> Line
-    ensures { λ r. ⌜ r ≡ lineOf (now (s .entry)) ⌝ }
-{
-    let first = read_first(s);
-    if first.bytes < s.len() {
-        return not_words();
-    }
-    first.line
-}

@@ -2,14 +2,16 @@
 use mathlib.Core.Path.{_≡_, refl}
 use mathlib.Core.Bool.{Bool, true, false, cond}
 use mathlib.Core.List.{List}
-use Prim.Native.Nat.{ℕ, zero, suc}
+use Prim.Native.Nat.{ℕ, zero, suc, _<_}
+use lib.Dec.{leb}
 use lib.ListN.{length}
 use Rattle.block.specs.declared.Block.{Block}
 use Rattle.letters.specs.declared.word.Words.{Words}
 use Rattle.words.specs.declared.line.Line.{Line}
-use Rattle.words.specs.Meaning.{Means}
-use Rattle.words.specs.laws.Scan.{lineOf}
+use Rattle.words.specs.Meaning.{Means, notWords}
+use Rattle.words.specs.laws.Scan.{lineOf, firstLine}
 use Rattle.words.specs.laws.Reading.{line-means, means-unique}
+use Rattle.words.specs.laws.Scanning.{line-broken}
 use Rattle.machine.specs.declared.Machine.{Machine}
 use Rattle.machine.specs.declared.Answer.{Answer}
 use Rattle.machine.specs.Machine.{soundOf}
@@ -68,3 +70,21 @@ read-either P k m bytes same load = by (soundOf m)
     by : (sound : Bool) → P (cond sound (readWith k k′ m (lineOf bytes .words) number) (reads (Read.Refused 9) k m) .machine)
     by true = with-either P m same load k k′ (lineOf bytes .words) number
     by false = same
+
+-- ---- bytes with an LF among them
+
+-- the number that they get
+abbrev pub brokenNo : Machine → (bytes : ℕ) → ℕ
+brokenNo m bytes = cond (soundOf m) (cond (leb bytes 80) 32 31) 9
+
+pub read-broken : (k : Reader) (m : Machine) (bytes : List ℕ) → length (firstLine bytes) < length bytes
+    → reads (Read.Refused (brokenNo m (length bytes))) k m ≡ readLineOf k m bytes
+unfolding readLineOf lineNo
+read-broken k m bytes lf = rw (← line-broken bytes lf) (by (soundOf m) (leb (length bytes) 80))
+  where
+    by : (sound short : Bool)
+        → reads (Read.Refused (cond sound (cond short 32 31) 9)) k m
+        ≡ cond sound (readWith k (readerAfter k (notWords .words)) m (notWords .words) (cond short 32 31)) (reads (Read.Refused 9) k m)
+    by true true = refl
+    by true false = refl
+    by false short = refl

@@ -1,4 +1,4 @@
--- How far the loops of `digits::read` and `line::read` have come, and what the ways out of a number are.
+-- How far the loops of `digits::read` and `line::read_first` have come, and what the ways out of a number are.
 use Prim.Native.Nat.{ℕ, _+_, _-_, _*_, _^_, _≤_, _<_}
 use mathlib.Core.Path.{_≡_, refl, sym, ap, _∙_}
 use mathlib.Core.List.{List, [], _∷_}

@@ -16,8 +16,8 @@ record-sound c = sym (c .before .sound .ensures) ∙ not-false _ (c .if1 .left)
 sound-requires : tie.Need-sound-requires
 sound-requires c κs = search needs
 
-unsound-requires : tie.Need-unsound-requires
-unsound-requires c κs = search needs
+refused-requires : tie.Need-refused-requires
+refused-requires c κs = search needs
 
 end-of-line-requires : tie.Need-end-of-line-requires
 end-of-line-requires c κs = search needs
@@ -27,7 +27,7 @@ unfolding readLineOf
 returns c =
     let u = c .before in
     let t = u .before in
-    (u .unsound .ensures ∙ rw (sym (t .before .sound .ensures) ∙ not-true _ (t .if1 .taken)), omega (arith, c .end-of-line .ensures))
+    (u .refused .ensures ∙ rw (sym (t .before .sound .ensures) ∙ not-true _ (t .if1 .taken)), omega (arith, c .end-of-line .ensures))
 
 read-first-requires : tie.Need-read-first-requires
 read-first-requires c κs = search needs
@@ -47,7 +47,7 @@ read-first-spec =
     tie.close
     (tie.spec
     sound-requires
-    unsound-requires
+    refused-requires
     end-of-line-requires
     returns
     read-first-requires

@@ -1,36 +1,37 @@
--- `read_line` is right because it asks whether the record is sound, and its words are those of the line.
+-- `read_line` is right because a line without an LF is its own first line, and with one it is no line of words.
 use borrow.Author.Needs.{needs}
-use mathlib.Core.Path.{_≡_, sym, _∙_}
-use mathlib.Core.Bool.{true}
-use borrow.Author.Tests.{not-true, not-false}
-use Rattle.machine.specs.Machine.{soundOf}
+use mathlib.Core.Path.{ap, _∙_}
+use mathlib.Core.List.{List}
+use Prim.Native.Nat.{ℕ}
+use native.Mathlib.Omega.{arith}
+use Rattle.words.specs.laws.Scanning.{first-whole}
 use Rattle.reader.specs.TextLine.{readLineOf}
-use Rattle.reader.specs.laws.Small.{line-writable}
+use Rattle.reader.specs.laws.TextLine.{read-broken}
 use Rattle.reader.proofs.text_line.read_line.Statement.{statement}
 use Rattle.reader.proofs.text_line.read_line.Tie as tie
 
-record-sound : (c : tie.Else1) → soundOf (c .before .before .before .before .before .args .m) ≡ true
-record-sound c = sym (c .before .sound .ensures) ∙ not-false _ (c .if1 .left)
+read-first-requires : tie.Need-read-first-requires
+read-first-requires c κs = search needs
 
-sound-requires : tie.Need-sound-requires
-sound-requires c κs = search needs
+broken-no-requires : tie.Need-broken-no-requires
+broken-no-requires c κs = search needs
 
-unsound-requires : tie.Need-unsound-requires
-unsound-requires c κs = search needs
+refused-requires : tie.Need-refused-requires
+refused-requires c κs = search needs
 
 returns : tie.Need-returns
-unfolding readLineOf
-returns c = let t = c .before in c .unsound .ensures ∙ rw (sym (t .before .sound .ensures) ∙ not-true _ (t .if1 .taken))
-
-read-requires : tie.Need-read-requires
-read-requires c κs = search needs
-
-read-words-requires : tie.Need-read-words-requires
-read-words-requires c κs = (record-sound (c .before), rw (c .read .ensures) (line-writable _))
+returns c =
+    let n = c .before in
+    let f = n .before .before .before in
+    let a = f .before .before .args in
+    c .refused .ensures ∙ rw (n .broken-no .ensures) (read-broken (a .k) (a .m) (a .line .now) (omega (arith, f .read-first .ensures .1)))
 
 returns-2 : tie.Need-returns-2
-unfolding readLineOf
-returns-2 c = rw (record-sound (c .before .before)) (rw (c .before .read .ensures) at (c .read-words .ensures))
+returns-2 c =
+    let f = c .before .before .before in
+    let a = f .before .before .args in
+    let same = first-whole (a .line .now) (omega (arith, f .read-first .ensures .1)) in
+    f .read-first .ensures .0 ∙ ap (λ (line : List ℕ). readLineOf (a .k) (a .m) line) same
 
 pub read-line-spec : {M : Type 1} → statement M
-read-line-spec = tie.close (tie.spec sound-requires unsound-requires returns read-requires read-words-requires returns-2)
+read-line-spec = tie.close (tie.spec read-first-requires broken-no-requires refused-requires returns returns-2)

@@ -24,10 +24,16 @@ line-no-requires c κs =
     let p = c .before .before .before .before .pre in
     small-words _ (settings-right _ (sound (p .0) .settings) .scale-most) (p .1)
 
+refused-requires : tie.Need-refused-requires
+refused-requires c κs = search needs
+
 returns : tie.Need-returns
 returns c =
-    let s = c .before .before .before .before .before .before .args in
-    read-refused (s .k) (readerAfter (s .k) (s .l .words)) (s .m) (s .l .words) _ (c .if1 .taken) ∙ rw (number-is (c .before))
+    let t = c .before in
+    let s = t .before .before .before .before .before .before .args in
+    c .refused .ensures
+    ∙ read-refused (s .k) (readerAfter (s .k) (s .l .words)) (s .m) (s .l .words) _ (t .if1 .taken)
+    ∙ rw (number-is (t .before))
 
 moves-requires : tie.Need-moves-requires
 moves-requires c κs = search needs
@@ -59,4 +65,13 @@ returns-3 c =
 pub read-words-spec : {M : Type 1} → statement M
 read-words-spec =
     tie.close
-    (tie.spec reader-after-requires line-no-requires returns moves-requires returns-2 block-of-requires take-requires returns-3)
+    (tie.spec
+    reader-after-requires
+    line-no-requires
+    refused-requires
+    returns
+    moves-requires
+    returns-2
+    block-of-requires
+    take-requires
+    returns-3)

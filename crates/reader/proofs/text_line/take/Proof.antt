@@ -24,6 +24,9 @@ enum-known-answer c = search needs
 enum-known-answer-2 : tie.Need-enum-known-answer-2
 enum-known-answer-2 c = search needs
 
+refused-requires : tie.Need-refused-requires
+refused-requires c κs = search needs
+
 returns-2 : tie.Need-returns-2
 unfolding takenOf
 returns-2 c =
@@ -39,8 +42,10 @@ returns-3 c =
 returns-4 : tie.Need-returns-4
 unfolding takenOf
 returns-4 c =
-    let e = c .before .before .before .before .before in
-    rw (sym (e .before .stands-still .ensures) ∙ e .if1 .left, ← c .before .before .before .before .load-sound .ensures, c .before .answer2 .given .1)
+    let a = c .before .before in
+    let e = a .before .before .before .before in
+    c .refused .ensures
+    ∙ rw (sym (e .before .stands-still .ensures) ∙ e .if1 .left, ← a .before .before .before .load-sound .ensures, a .answer2 .given .1)
 
 pub take-spec : {M : Type 1} → statement M
 take-spec =
@@ -52,6 +57,7 @@ take-spec =
     enum-told
     enum-known-answer
     enum-known-answer-2
+    refused-requires
     returns-2
     returns-3
     returns-4)
