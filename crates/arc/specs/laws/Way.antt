@@ -47,7 +47,8 @@ pub way-left : (a : Arc) (at : Point) → Circles a at
 way-left a at on =
     let k = arcCycles a at in
     let h = after-close (a .square) (a .turn) (seenFrom (a .centre) at) (on .on) k in
-    let there : afterOf (a .square) (a .turn) (seenFrom (a .centre) at) k ≡ seenFrom (a .centre) (a .end) = sym (seen-after a at k) ∙ ap (seenFrom (a .centre)) (arc-end a at on) in
+    let there : afterOf (a .square) (a .turn) (seenFrom (a .centre) at) k ≡ seenFrom (a .centre) (a .end) =
+    sym (seen-after a at k) ∙ ap (seenFrom (a .centre)) (arc-end a at on) in
     let x = rw there at (h .0) in
     let y = rw there at (h .1) in (
       subst (λ (z : ℤ). natAbs z ≤ k) (from-centre (a .centre .x) (at .x) (a .end .x)) x,

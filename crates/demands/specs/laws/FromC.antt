@@ -48,7 +48,8 @@ use Rattle.layout.specs.Words.{encodeOf, machineIn, isRecord, markWord}
 use Rattle.layout.specs.laws.Same.{same-true, same-words, other-words}
 use Rattle.layout.specs.laws.Record.{machine-back}
 use Rattle.layout.specs.laws.Number.{word-small}
-use Rattle.export.specs.Calls.{answerNumber, tickNumber, reportNumber, toldTick, Call, Told, tells, callOf, toldOf, madeOf, ToldRun, tellsRun, ran, toldRunOf}
+use Rattle.export.specs.Calls.{answerNumber, tickNumber, reportNumber, toldTick, Call, Told, tells, callOf, toldOf}
+use Rattle.export.specs.Calls.{madeOf, ToldRun, tellsRun, ran, toldRunOf}
 use Rattle.progress.specs.declared.known.DecodedKnown.{DecodedKnown}
 use Rattle.progress.specs.Known.{encodeKnown, feedOf, readerOf, knownIn, decodeKnown}
 use Rattle.progress.specs.Progress.{encodeProgress, checkIn, decodeProgress}
@@ -66,7 +67,8 @@ use Rattle.demands.specs.Sound.{Sound, settingsQuestions}
 use Rattle.demands.specs.Questions.{lineQuestions, makesBlock, lineBlock}
 use Rattle.demands.specs.Answers.{readReply}
 use Rattle.demands.specs.Texts.{FrontOf}
-use Rattle.demands.specs.FromC.{Own, NoRecord, FeedOf32, NotKnown, LineOnWords, OnWords, RunOnWords, MadeWords, StartedWords, OwnFill, IsCheck, RowsOutToC, EveryCallFromC}
+use Rattle.demands.specs.FromC.{Own, NoRecord, FeedOf32, NotKnown, LineOnWords, OnWords, RunOnWords, MadeWords}
+use Rattle.demands.specs.FromC.{StartedWords, OwnFill, IsCheck, RowsOutToC, EveryCallFromC}
 use Rattle.demands.specs.laws.Sound.{sound-is, settings-pass}
 use Rattle.demands.specs.laws.Answers.{load-answers, run-answers}
 use Rattle.demands.specs.laws.TextLine.{line-answers, line-taken}
@@ -96,7 +98,8 @@ own-call m Call.release = ((releaseOf m, refl, refl, refl), refl)
 own-call m Call.stop = ((stopOf m, refl, refl, refl), refl)
 
 -- a call on a sound record that answers a negative number is a load that refused, and left the record as it was
-refused-load : (m : Machine) (b : Block) (a : Answered) → a ≡ loadOf m b → soundOf m ≡ true → (k : ℕ) → answerNumber (a .answer) ≡ negsuc k → a .machine ≡ m
+refused-load : (m : Machine) (b : Block) (a : Answered) → a ≡ loadOf m b → soundOf m ≡ true
+    → (k : ℕ) → answerNumber (a .answer) ≡ negsuc k → a .machine ≡ m
 refused-load m b a is sound k = by (a .answer) refl
   where
     by : (answer : Answer) → a .answer ≡ answer → answerNumber answer ≡ negsuc k → a .machine ≡ m
@@ -104,7 +107,8 @@ refused-load m b a is sound k = by (a .answer) refl
     by (Answer.Width w) at e = let small = word-small (width-word m sound b (ap (λ (x : Answered). x .answer) (sym is) ∙ at)) in cc
     by (Answer.Refused q) at e = load-answers m b a is .kept q (ap answerReply at)
 
-refused-call : (m : Machine) → soundOf m ≡ true → (call : Call) (k : ℕ) → callOf m call .answer ≡ negsuc k → callOf m call .words ≡ encodeOf m
+refused-call : (m : Machine) → soundOf m ≡ true → (call : Call) (k : ℕ) → callOf m call .answer ≡ negsuc k
+    → callOf m call .words ≡ encodeOf m
 unfolding callOf tickOf holdOf releaseOf stopOf
 refused-call m sound (Call.load b) k e = ap encodeOf (refused-load m b (loadOf m b) refl sound k e)
 refused-call m sound Call.tick k e = by (m .held || isNothing (m .work)) (rw sound at e)
@@ -112,7 +116,8 @@ refused-call m sound Call.tick k e = by (m .held || isNothing (m .work)) (rw sou
     a : Advance
     a = advanceOf (capacityOf (m .settings)) (m .at) (m .remainder) (m .work)
 
-    by : (still : Bool) → tickNumber (cond still (ticks (Tick.Byte 0) m) (working m a) .tick) ≡ negsuc k → toldTick (tickOf m) .words ≡ encodeOf m
+    by : (still : Bool) → tickNumber (cond still (ticks (Tick.Byte 0) m) (working m a) .tick) ≡ negsuc k
+        → toldTick (tickOf m) .words ≡ encodeOf m
     by true e = cc
     by false e = cc
 refused-call m sound Call.hold k e = let z = rw sound at e in cc
@@ -136,7 +141,8 @@ no-refusal m sound budget buffer k = rw sound (by (isNothing (m .work)) (m .held
     reported false false e = apart e
 
     by : (nothing held : Bool)
-        → reportNumber (cond nothing (noTick m Report.Idle) (cond held (noTick m Report.Held) (ranOver m budget s)) .ran .report) ≡ negsuc k → ⊥
+        → reportNumber (cond nothing (noTick m Report.Idle) (cond held (noTick m Report.Held) (ranOver m budget s)) .ran .report)
+        ≡ negsuc k → ⊥
     by true held e = apart e
     by false true e = apart e
     by false false e = reported (s .ended) (leb budget (length (s .bytes))) e
@@ -146,7 +152,8 @@ on-words call before n after h =
     record {
       own = λ m s e.
           let c = own-call m call in
-          let same = h ∙ sym (told-call before (tells-sound before m s e) call) ∙ ap (λ (x : Machine). callOf x call) (tells-it before m s e) in (
+          let same = h ∙ sym (told-call before (tells-sound before m s e) call)
+          ∙ ap (λ (x : Machine). callOf x call) (tells-it before m s e) in (
             machineAfter m call,
             subst (λ (n : ℤ). Own call m n (machineAfter m call)) (sym (ap (λ (t : Told). t .answer) same)) (c .0),
             sound-is (machineAfter m call) .0 (keeps m call (sound-is m .1 s)),
@@ -201,7 +208,8 @@ run-on-words before budget out out′ n ticks after h =
     by : (sound : Bool) → soundWords before ≡ sound → (k : ℕ) → n ≡ negsuc k → (ticks ≡ 0) × (after ≡ before) × (now out′ ≡ now out)
     by true t k e =
         let same = h ∙ sym (told-run before t budget (now out)) in
-        absurd (no-refusal (machineIn before) (told-sound before t) budget (length (now out)) k (sym (ap (λ (t : ToldRun). t .answer) same) ∙ e))
+        absurd (no-refusal (machineIn before) (told-sound before t) budget (length (now out)) k
+        (sym (ap (λ (t : ToldRun). t .answer) same) ∙ e))
     by false t k e = let p = parts t in (p .1, p .2, p .3)
 
 made-words : (s : Settings) (n : ℤ) (after : List ℤ) → tells n after ≡ madeOf s → MadeWords s n after
@@ -247,7 +255,8 @@ isLoaded (Read.Loaded bits) = 1
 isLoaded (Read.Refused number) = 0
 
 -- a line whose answer is a width has loaded a block of that width
-loaded-width : (k : Reader) (m : Machine) (line : RefT (List ℕ)) {bits : ℕ} → readLineOf k m (now line) .answer ≡ Read.Loaded bits → bits < 2 ^ 63
+loaded-width : (k : Reader) (m : Machine) (line : RefT (List ℕ)) {bits : ℕ} → readLineOf k m (now line) .answer ≡ Read.Loaded bits
+    → bits < 2 ^ 63
 loaded-width k m line {bits} e = by (makesBlock k m l) refl
   where
     l : Line
@@ -266,7 +275,8 @@ loaded-width k m line {bits} e = by (makesBlock k m l) refl
     by true b =
         let t = line-taken ([], tt) k m line r refl l (line-means (now line)) all .block b in
         let width = ap bitsOf (sym (ap (λ (x : ReadLine). x .answer) (t .4)) ∙ e) in
-        subst (λ (w : ℕ). w < 2 ^ 63) width (width-word m (sound-is m .1 (all .0)) (lineBlock k m l) (ap (λ (x : Answered). x .answer) (sym (t .2)) ∙ t .3))
+        subst (λ (w : ℕ). w < 2 ^ 63) width
+        (width-word m (sound-is m .1 (all .0)) (lineBlock k m l) (ap (λ (x : Answered). x .answer) (sym (t .2)) ∙ t .3))
     by false b =
         let t = line-taken ([], tt) k m line r refl l (line-means (now line)) all .no-block b in
         omega (arith, ap isLoaded (sym (ap (λ (x : ReadLine). x .answer) t) ∙ e))
@@ -281,9 +291,11 @@ refused-line k m line q = by (readLineOf k m (now line) .answer) refl
     by Read.Nothing at e = absurd (apart e)
     by (Read.Loaded bits) at e = absurd (apart (sym (word-small (loaded-width k m line at)) ∙ e))
     by (Read.Refused number) at e =
-        line-answers ([], tt) k m line (readLineOf k m (now line)) refl (lineOf (now line)) (line-means (now line)) .kept number (ap readReply at)
+        line-answers ([], tt) k m line (readLineOf k m (now line)) refl (lineOf (now line)) (line-means (now line)) .kept number
+        (ap readReply at)
 
-module _ (before known : List ℤ) (line : RefT (List ℕ)) (n : ℤ) (after known′ : List ℤ) (h : tellsLine n after known′ ≡ toldLineOf before known (now line)) where
+module _ (before known : List ℤ) (line : RefT (List ℕ)) (n : ℤ) (after known′ : List ℤ)
+    (h : tellsLine n after known′ ≡ toldLineOf before known (now line)) where
   -- words of which something is wrong
   line-others : (soundWords before && decodeKnown known .ok) ≡ false → (n ≡ negsuc 8) × (after ≡ before) × (known′ ≡ known)
   unfolding toldLineOf
@@ -356,8 +368,11 @@ no-check-is ws ps none =
     refuted (isCheck ws ps)
     (λ t.
     let b = both {a = soundWords ws} t in
-    none (machineIn ws)
-    (sound-is (machineIn ws) .0 (told-sound ws (b .0)), words-are ws (b .0), same-true ps (encodeProgress (checkIn (machineIn ws) ps)) (b .1)))
+    none (machineIn ws) (
+      sound-is (machineIn ws) .0 (told-sound ws (b .0)),
+      words-are ws (b .0),
+      same-true ps (encodeProgress (checkIn (machineIn ws) ps)) (b .1),
+    ))
 
 own-fill : {c : Check} (text out out′ : RefT (List ℕ)) {n : ℤ} {len : ℕ} {ws′ ps′ : List ℤ}
     → Hands c (now text) (now out) n len ws′ ps′ (now out′) → OwnFill c text out out′ n len ws′ ps′
@@ -383,9 +398,11 @@ come : {text : List ℕ} {ws ps : List ℤ} (c : Check) → CheckTold ws ps c �
     → RowsOutToC text ws ps bytes n ws′ ps′ → Come (restOf c text) text bytes n ws′ ps′
 unfolding restOf
 come {text} c t RowsOutToC.none = record { check = c; told = t; front = refl; ended = zero-one (restOf c text) }
-come {text} c t (RowsOutToC.fill {bytes = bytes} {ws₁ = ws₁} before κs words words′ progress progress′ lent out out′ len len′ n′ at-words at-progress is h) =
+come {text} c t (RowsOutToC.fill {bytes = bytes} {ws₁ = ws₁} before κs words words′ progress progress′ lent out out′ len len′ n′
+    at-words at-progress is h) =
     let b = come c t before in
-    let f = subst (λ (t : List ℕ). TellsFill (now words) (now progress) t (now out) n′ (now len′) (now words′) (now progress′) (now out′)) is h in
+    let f = subst (λ (t : List ℕ). TellsFill (now words) (now progress) t (now out) n′ (now len′) (now words′) (now progress′)
+    (now out′)) is h in
     let here = subst (λ (ws : List ℤ). CheckTold ws (now progress) (b .check)) (sym at-words)
     (subst (λ (ps : List ℤ). CheckTold ws₁ ps (b .check)) (sym at-progress) (b .told)) in
     let g = hands here f in
@@ -417,7 +434,8 @@ started s n ws ps made progress = (
 )
 
 from-words : (s : Settings) → AllYes (settingsQuestions s) → {n : ℤ} (ws ps : List ℤ) → tells n ws ≡ madeOf s → ps ≡ startProgress s
-    → (text bytes : List ℕ) (last : ℤ) (ws′ ps′ : List ℤ) → RowsOutToC text ws ps bytes last ws′ ps′ → FrontOf (listingOf s text) bytes (last ≡ pos 1)
+    → (text bytes : List ℕ) (last : ℤ) (ws′ ps′ : List ℤ) → RowsOutToC text ws ps bytes last ws′ ps′
+    → FrontOf (listingOf s text) bytes (last ≡ pos 1)
 unfolding madeOf
 from-words s pass ws ps made progress text bytes last ws′ ps′ rows =
     from-start s pass text bytes last ws′ ps′

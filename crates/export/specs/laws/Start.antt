@@ -1,4 +1,5 @@
--- What a start's words have to hand out is the listing, whatever the text; and a caller may hand the words that a start or a fill wrote to the next fill.
+-- What a start's words have to hand out is the listing, whatever the text; and a caller may hand the words that a start or a fill wrote
+-- to the next fill.
 use mathlib.Core.Path.{_≡_, refl, sym, ap, subst, _∙_}
 use mathlib.Core.Bool.{Bool, true, false, cond}
 use mathlib.Core.List.{List}

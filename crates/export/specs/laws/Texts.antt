@@ -54,7 +54,8 @@ module _ (ws ps : List ℤ) where
         TellsFill.check (is ∙ progress) (subst (λ (g : DecodedProgress). Hands (g .check) text old answer len ws′ ps′ new) f rows)
 
 module _ {ws ps : List ℤ} {text old : List ℕ} {answer : ℤ} {len : ℕ} {ws′ ps′ : List ℤ} {new : List ℕ} where
-  pub rows-told : isCheck ws ps ≡ true → TellsFill ws ps text old answer len ws′ ps′ new → Hands (checkTold ws ps .check) text old answer len ws′ ps′ new
+  pub rows-told : isCheck ws ps ≡ true → TellsFill ws ps text old answer len ws′ ps′ new
+      → Hands (checkTold ws ps .check) text old answer len ws′ ps′ new
   rows-told ok (TellsFill.check _ rows) = rows
   rows-told ok (TellsFill.no-check bad _) = absurd (true≢false (sym ok ∙ bad))
 

@@ -33,12 +33,14 @@ module _ (ws : List ℤ) (t : soundWords ws ≡ true) where
   pub hold-told : tells (pos 0) (setMark ws true) ≡ toldOf ws Call.hold
   unfolding callOf holdOf
   hold-told =
-      ap (tells (pos 0)) (of-own (λ (l : List ℤ). setMark l true) (marked-words (machineIn ws) true)) ∙ rw (told-sound ws t) at (told-call ws t Call.hold)
+      ap (tells (pos 0)) (of-own (λ (l : List ℤ). setMark l true) (marked-words (machineIn ws) true))
+      ∙ rw (told-sound ws t) at (told-call ws t Call.hold)
 
   pub release-told : tells (pos 0) (setMark ws false) ≡ toldOf ws Call.release
   unfolding callOf releaseOf
   release-told =
-      ap (tells (pos 0)) (of-own (λ (l : List ℤ). setMark l false) (marked-words (machineIn ws) false)) ∙ rw (told-sound ws t) at (told-call ws t Call.release)
+      ap (tells (pos 0)) (of-own (λ (l : List ℤ). setMark l false) (marked-words (machineIn ws) false))
+      ∙ rw (told-sound ws t) at (told-call ws t Call.release)
 
   pub stop-told : tells (pos 0) (stoppedOf ws) ≡ toldOf ws Call.stop
   unfolding callOf stopOf
@@ -51,7 +53,8 @@ module _ (ws : List ℤ) (t : soundWords ws ≡ true) where
   tick-told =
       let r = tickOf (machineIn ws) in
       let n = r .machine in
-      ap (tells (tickNumber (r .tick))) (of-own (λ (l : List ℤ). storedOf l (n .at) (n .remainder) (n .work)) (tick-words (machineIn ws) (told-sound ws t)))
+      ap (tells (tickNumber (r .tick)))
+      (of-own (λ (l : List ℤ). storedOf l (n .at) (n .remainder) (n .work)) (tick-words (machineIn ws) (told-sound ws t)))
       ∙ told-call ws t Call.tick
 
   pub load-told : (b : Block) → (let r = loadOf (machineIn ws) b in
@@ -59,7 +62,8 @@ module _ (ws : List ℤ) (t : soundWords ws ≡ true) where
   unfolding callOf
   load-told b =
       let r = loadOf (machineIn ws) b in
-      ap (tells (answerNumber (r .answer))) (of-own (λ (l : List ℤ). setWork l (workWordsOf (r .machine .work))) (load-words (machineIn ws) (told-sound ws t) b))
+      ap (tells (answerNumber (r .answer)))
+      (of-own (λ (l : List ℤ). setWork l (workWordsOf (r .machine .work))) (load-words (machineIn ws) (told-sound ws t) b))
       ∙ told-call ws t (Call.load b)
 
   pub run-told : (budget : ℕ) (out : List ℕ) → (let r = runOf (machineIn ws) budget (length out) in let n = r .ran .machine in
@@ -69,7 +73,8 @@ module _ (ws : List ℤ) (t : soundWords ws ≡ true) where
       let r = runOf (machineIn ws) budget (length out) in
       let n = r .ran .machine in
       ap (λ (after : List ℤ). tellsRun (reportNumber (r .ran .report)) (r .ran .ticks) after (written (r .bytes) out))
-      (of-own (λ (l : List ℤ). storedOf l (n .at) (n .remainder) (n .work)) (run-words (machineIn ws) (told-sound ws t) budget (length out)))
+      (of-own (λ (l : List ℤ). storedOf l (n .at) (n .remainder) (n .work))
+      (run-words (machineIn ws) (told-sound ws t) budget (length out)))
       ∙ told-run ws t budget out
 
   -- a line stores what a load of its block changes, or nothing

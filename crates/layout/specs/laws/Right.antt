@@ -16,7 +16,9 @@ use Rattle.circle.specs.declared.plane.Turn.{Turn}
 use Rattle.work.specs.declared.Work.{Work}
 use Rattle.layout.specs.declared.encode.Head.{Head}
 use Rattle.layout.specs.declared.encode.WorkWords.{WorkWords}
-use Rattle.layout.specs.Words.{abi, at, wordOf, countOf, markWord, turnWord, lineOf, arcOf, workWords, workWordsOf, workOf, headOf, headIn, workWordsIn, machineOf, machineIn, wordsOf, encodeOf, isRecord}
+use Rattle.layout.specs.Words.{abi, at, wordOf, countOf, markWord, turnWord, lineOf, arcOf, workWords}
+use Rattle.layout.specs.Words.{workWordsOf, workOf, headOf, headIn, workWordsIn, machineOf, machineIn, wordsOf}
+use Rattle.layout.specs.Words.{encodeOf, isRecord}
 use Rattle.layout.specs.Right.{isCount, isMark, headRight, nothingRight, lineRight, arcRight, workRight, partsRight, wordsRight}
 use Rattle.layout.specs.laws.Number.{word-small}
 use Rattle.layout.specs.laws.Same.{same-true, same-words}
@@ -112,9 +114,11 @@ module _ (w : WorkWords) where
 
   work-again : WorkFits w → workRight w ≡ true → workWordsOf (workOf w) ≡ of-kind (w .kind)
   unfolding workRight workOf
-  work-again s = by (equalZ (w .kind) (pos 0)) refl (equalZ (w .kind) (pos 1)) refl (equalZ (w .kind) (pos 2)) refl (equalZ (w .kind) (pos 3)) refl
+  work-again s = by (equalZ (w .kind) (pos 0)) refl (equalZ (w .kind) (pos 1)) refl (equalZ (w .kind) (pos 2)) refl
+      (equalZ (w .kind) (pos 3)) refl
     where
-      by : (k0 : Bool) → equalZ (w .kind) (pos 0) ≡ k0 → (k1 : Bool) → equalZ (w .kind) (pos 1) ≡ k1 → (k2 : Bool) → equalZ (w .kind) (pos 2) ≡ k2
+      by : (k0 : Bool) → equalZ (w .kind) (pos 0) ≡ k0 → (k1 : Bool) → equalZ (w .kind) (pos 1) ≡ k1 → (k2 : Bool)
+          → equalZ (w .kind) (pos 2) ≡ k2
           → (k3 : Bool) → equalZ (w .kind) (pos 3) ≡ k3
           → cond k0 (nothingRight w) (cond k1 (lineRight w) (cond k2 (arcRight w) (cond k3 (arcRight w) false))) ≡ true
           → workWordsOf (workOf w) ≡ of-kind (w .kind)
@@ -153,7 +157,8 @@ module _ (w : WorkWords) where
   work-right = by (eqb (countOf (w .kind)) 1) (eqb (countOf (w .kind)) 2) (eqb (countOf (w .kind)) 3)
     where
       by : (k1 k2 k3 : Bool)
-          → workWordsOf (cond k1 (Work.Line (lineOf w)) (cond k2 (Work.Arc (arcOf Turn.Clockwise w)) (cond k3 (Work.Arc (arcOf Turn.Counterclockwise w)) Work.Nothing))) ≡ w
+          → workWordsOf (cond k1 (Work.Line (lineOf w))
+          (cond k2 (Work.Arc (arcOf Turn.Clockwise w)) (cond k3 (Work.Arc (arcOf Turn.Counterclockwise w)) Work.Nothing))) ≡ w
           → workRight w ≡ true
       by true k2 k3 e = rw (kind-is (Work.Line (lineOf w)) e) (line-right e)
       by false true k3 e = rw (kind-is (Work.Arc (arcOf Turn.Clockwise w)) e) (arc-right Turn.Clockwise e)

@@ -93,7 +93,8 @@ module _ (k : Known) where
   known-right : knownOf (readerOf k) ≡ k → knownRight k ≡ true
   unfolding knownRight
   known-right e =
-      let m : withinOf motions (k .motion) ≡ true = rw (← ap (λ (l : Known). l .motion) e) (motion-right (motionOf (countOf (k .motion)))) in
+      let m : withinOf motions (k .motion) ≡ true =
+      rw (← ap (λ (l : Known). l .motion) e) (motion-right (motionOf (countOf (k .motion)))) in
       joined m (feed-right (k .feed) (ap (λ (l : Known). l .feed) e))
 
 pub known-same : (ws : List ℤ) → length ws ≡ 2 → knownRight (knownIn ws) ≡ sameWords ws (encodeKnown (readerOf (knownIn ws)))
@@ -142,7 +143,8 @@ module _ (m : Machine) (p : Progress) where
       (joined (count-right (p .at) (ap (λ (q : Progress). q .at) e))
       (joined (count-right (p .lines) (ap (λ (q : Progress). q .lines) e))
       (joined (count-right (p .blocks) (ap (λ (q : Progress). q .blocks) e))
-      (joined (count-right (p .cycles) (ap (λ (q : Progress). q .cycles) e)) (count-right (p .ticks) (ap (λ (q : Progress). q .ticks) e)))))))
+      (joined (count-right (p .cycles) (ap (λ (q : Progress). q .cycles) e))
+      (count-right (p .ticks) (ap (λ (q : Progress). q .ticks) e)))))))
 
 pub progress-same : (m : Machine) (ws : List ℤ) → length ws ≡ 8 → Fits (progressIn ws)
     → progressRight (progressIn ws) ≡ sameWords ws (encodeProgress (checkIn m ws))

@@ -28,14 +28,18 @@ short-same {q0} {at} {r} {w} i most k few t =
     let short = ltb-true (r + most * feedOf w) (k * q0) (both {a = ltb most 1000000000} t .1) in
     let e = end-tick q0 (feedOf w) r (cyclesLeft at w) (in-work i .feed .some) (due-later i) in
     let more = mul-le-mul-right q0 few in
-    let beyond : most < endTick q0 (feedOf w) r (cyclesLeft at w) = lt-of-mul-lt-mul-right (feedOf w) (omega (arith, e .reached, short, more)) in
+    let beyond : most < endTick q0 (feedOf w) r (cyclesLeft at w) =
+    lt-of-mul-lt-mul-right (feedOf w) (omega (arith, e .reached, short, more)) in
     record { same = omega arith }
 
 -- what its code asks of cycles that are surely left
 pub short-asks : {q0 : ℕ} {at : Point} {r : ℕ} {w : Work} → SoundIn q0 at r w → (k : ℕ) → k ≤ cyclesLeft at w
     → (feedOf w ≤ 1200000) × (r ≤ 1200000) × (k * q0 < 2 ^ 64)
-short-asks {q0} i k few =
-    (omega (arith, in-work i .feed .most, i .capacity), omega (arith, i .below, i .capacity), omega (arith, mul-le-mul-right q0 few, end-asks i .2))
+short-asks {q0} i k few = (
+  omega (arith, in-work i .feed .most, i .capacity),
+  omega (arith, i .below, i .capacity),
+  omega (arith, mul-le-mul-right q0 few, end-asks i .2),
+)
 
 -- and so its ticks are few
 pub short-few : (q0 f r most k : ℕ) → shortOf q0 f r most k ≡ true → most < 1000000000

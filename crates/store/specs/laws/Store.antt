@@ -54,7 +54,8 @@ module _ (m : Machine) where
   unfolding encodeOf
   kept-words = refl
 
-ticked : (s : Machine) (at : Point) (r : ℕ) (v w : Work) → s .work ≡ v → Follows v w → storedOf (encodeOf s) at r w ≡ encodeOf (movedOf s at r w)
+ticked : (s : Machine) (at : Point) (r : ℕ) (v w : Work) → s .work ≡ v → Follows v w
+    → storedOf (encodeOf s) at r w ≡ encodeOf (movedOf s at r w)
 unfolding encodeOf movedOf
 ticked s at r v Work.Nothing e f = refl
 ticked s at r Work.Nothing (Work.Line l) e f = absurd f
@@ -64,7 +65,8 @@ ticked s at r Work.Nothing (Work.Arc b) e f = absurd f
 ticked s at r (Work.Line l) (Work.Arc b) e f = absurd f
 ticked s at r (Work.Arc a) (Work.Arc b) e f = rw (e, f)
 
-pub stored-words : (m : Machine) (at : Point) (r : ℕ) (w : Work) → Follows (m .work) w → storedOf (encodeOf m) at r w ≡ encodeOf (movedOf m at r w)
+pub stored-words : (m : Machine) (at : Point) (r : ℕ) (w : Work) → Follows (m .work) w
+    → storedOf (encodeOf m) at r w ≡ encodeOf (movedOf m at r w)
 stored-words m at r w f = ticked m at r (m .work) w refl f
 
 -- ---- ticks and runs
@@ -112,9 +114,11 @@ advance-follows q0 at r w = by (fedOf q0 (feedOf w) r .cycle) (fedOf q0 (feedOf 
 strip-follows : (q0 n : ℕ) (at : Point) (r : ℕ) (w : Work) → Follows w (stripOf q0 n at r w .work)
 unfolding stripOf
 strip-follows q0 zero at r w = follows-self w
-strip-follows q0 (suc n) at r w = let a = advanceOf q0 at r w in by (isNothing (a .work)) (advance-follows q0 at r w) (strip-follows q0 n (a .at) (a .remainder) (a .work))
+strip-follows q0 (suc n) at r w = let a = advanceOf q0 at r w in by (isNothing (a .work)) (advance-follows q0 at r w)
+    (strip-follows q0 n (a .at) (a .remainder) (a .work))
   where
-    by : (ended : Bool) → (let a = advanceOf q0 at r w in Follows w (a .work) → Follows (a .work) (stripOf q0 n (a .at) (a .remainder) (a .work) .work)
+    by : (ended : Bool) →
+        (let a = advanceOf q0 at r w in Follows w (a .work) → Follows (a .work) (stripOf q0 n (a .at) (a .remainder) (a .work) .work)
         → Follows w (inFront ended a (stripOf q0 n (a .at) (a .remainder) (a .work)) .work))
     by true f g = f
     by false f g = let a = advanceOf q0 at r w in follows-again w (a .work) (stripOf q0 n (a .at) (a .remainder) (a .work) .work) f g
@@ -162,9 +166,11 @@ module _ (m : Machine) (sound : soundOf m ≡ true) where
       by true held = unmoved m
       by false true = unmoved m
       by false false =
-          moved m (s .at) (s .remainder) (s .work) (strip-follows (capacityOf (m .settings)) (min budget buffer) (m .at) (m .remainder) (m .work))
+          moved m (s .at) (s .remainder) (s .work)
+          (strip-follows (capacityOf (m .settings)) (min budget buffer) (m .at) (m .remainder) (m .work))
 
-  pub run-words : (budget buffer : ℕ) → (let n = runOf m budget buffer .ran .machine in storedOf (encodeOf m) (n .at) (n .remainder) (n .work) ≡ encodeOf n)
+  pub run-words : (budget buffer : ℕ)
+      → (let n = runOf m budget buffer .ran .machine in storedOf (encodeOf m) (n .at) (n .remainder) (n .work) ≡ encodeOf n)
   run-words budget buffer = later-words m (runOf m budget buffer .ran .machine) (run-later budget buffer)
 
   -- a load changes what is in work, or nothing
