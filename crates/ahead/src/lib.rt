@@ -54,7 +54,7 @@ fn way(from: Point, to: Point) -> Sums
 }
 
 // The record after so many ticks, of a record that has been tested; ticks that are no working ones leave it as it was.
-fn after_ticks(m: Machine, ticks: u64) -> Machine
+pub fn after_ticks(m: Machine, ticks: u64) -> Machine
     requires { ⌜ soundOf m ≡ true ⌝ }
     ensures { λ r. ⌜ r ≡ tickingOf ticks m .machine ⌝ }
 {
@@ -71,6 +71,25 @@ fn after_ticks(m: Machine, ticks: u64) -> Machine
     m.moved(here, r.remainder, next)
 }
 
+// What so many ticks would give on a copy, of a record that has been tested.
+pub fn look_sound(m: Machine, ticks: u64) -> Ahead
+    requires { ⌜ soundOf m ≡ true ⌝ }
+    ensures { λ r. ⌜ r ≡ aheadOf m ticks ⌝ }
+{
+    if MOST_TICKS < ticks {
+        return refused(m, 38);
+    }
+    let at = m.at;
+    let then = after_ticks(m, ticks);
+    let there = then.at;
+    Ahead {
+        answer: Answer::Done,
+        then: then,
+        sums: way(at, there),
+        machine: m,
+    }
+}
+
 // What so many ticks would give on a copy.
 pub fn look_ahead(m: Machine, ticks: u64) -> Ahead
     ensures { λ r. ⌜ r ≡ aheadOf m ticks ⌝ }
@@ -81,15 +100,5 @@ pub fn look_ahead(m: Machine, ticks: u64) -> Ahead
     if !sound(settings, at, m.remainder, work) {
         return refused(m, 9);
     }
-    if MOST_TICKS < ticks {
-        return refused(m, 38);
-    }
-    let then = after_ticks(m, ticks);
-    let there = then.at;
-    Ahead {
-        answer: Answer::Done,
-        then: then,
-        sums: way(at, there),
-        machine: m,
-    }
+    look_sound(m, ticks)
 }
