@@ -9,7 +9,8 @@
  * the type says, that don't overlap, and one call at a time on one record.
  *
  * Use: vz_make once; then for each block a vz_load_.. and vz_tick (from the clock's interrupt) or vz_run until the block ends.
- * A board that is given a job text reads it line by line with vz_read_line; vz_check_start and vz_check_fill list it beforehand.
+ * vz_ahead tells where so many more ticks will leave it. A board that is given a job text reads it line by line with vz_read_line;
+ * vz_check_start and vz_check_fill list it beforehand.
  *
  * Needed: C11 or C++11, and an x86-64 machine: tools/archive writes target/libverdaizka.a for it.
  * From outside the archive needs memcpy and memset alone.
@@ -17,8 +18,8 @@
  * examples/c has whole programs: square_and_circle.c, run_a_job.c, check_a_job.c.
  *
  * Answers: a refusal is negative everywhere, minus the number of the question that was answered by no, so `if (answer < 0)` sees
- * every one. What a refusal writes: vz_run sets *ticks and vz_check_fill *written to 0; vz_make and vz_check_start make their
- * words anew. All else stays as it was, every word and every byte.
+ * every one. What a refusal writes: vz_run sets *ticks and vz_check_fill *written to 0; vz_ahead copies the record to *then and sets
+ * both sums to 0; vz_make and vz_check_start make their words anew. All else stays as it was, every word and every byte.
  *
  * Work: every call does a bounded number of steps but for what it writes or reads. At most, beside sums, products and tests:
  *     vz_make, vz_hold, vz_release, vz_stop, vz_tick   no loop, no root, no division
@@ -26,6 +27,7 @@
  *     vz_load_line                                     one root: one division of doubles and, where its guess fails, 32 halvings
  *     vz_run                                           on a line five divisions, on an arc three and one such root; a turn a cycle, and the
  *                                                      bytes of its ticks cleared once
+ *     vz_ahead                                         whatever the ticks: on a line four divisions, on an arc four and three such roots
  *     vz_read_line                                     a turn for each byte of the line, then a load
  *     vz_check_start                                   as vz_make
  *     vz_check_fill                                    for each text line it lists: vz_read_line, of an arc one such root, a division, the
@@ -111,7 +113,8 @@ enum vz_refusal {
     VZ_REFUSED_CENTRE = 14, /* i or j is beyond 1,000,000 either way, or both are 0. They are the centre seen from the start. */
     VZ_REFUSED_CIRCLE = 15, /* the end is not on the circle. Seen from the centre, keep its shorter coordinate and round the
                                longer one to the pulse nearest to the circle. A full turn ends where it starts. */
-    VZ_REFUSED_WAY = 16     /* the arc leaves the travel on its way, though both ends are inside. */
+    VZ_REFUSED_WAY = 16,    /* the arc leaves the travel on its way, though both ends are inside. */
+    VZ_REFUSED_FAR = 38     /* more than VZ_AHEAD_TICKS ticks ahead. Look again from the record ahead. */
 };
 
 /* Of a job text these too, before those of a load. vz_read_line answers them but the first; a listing has them all. */
@@ -181,6 +184,24 @@ VZ_ANSWERS int64_t vz_release(vz_record *record);
 
 /* Drops the block in work and sets the remainder to 0. The machine stands where it is; a hold stays. */
 VZ_ANSWERS int64_t vz_stop(vz_record *record);
+
+/* ---- ahead: where will it be? The record, and the sum of the pulses on each axis, plus ones less minus ones, that so many vz_tick
+ * would give on a copy. No tick is done, so a look takes no longer for VZ_AHEAD_TICKS than for 1. Ticks while held or idle change
+ * nothing, and so do those after the block's end.
+ * Answers 0; or -9, or -38 for more than VZ_AHEAD_TICKS, and then *then is the record as it stands and both sums are 0.
+ * *then and *sums are always written, record never is; they are three places in memory, none within another. Of a sound record
+ * *then is one too: it may be looked ahead from again. */
+
+#define VZ_AHEAD_TICKS 1000000
+
+typedef struct vz_sums {
+    int64_t x;
+    int64_t y;
+} vz_sums;
+
+VZ_ASSERT(sizeof(vz_sums) == 16, "two sums are 2 words of 64 bits");
+
+VZ_ANSWERS int64_t vz_ahead(const vz_record *record, uint64_t ticks, vz_record *then, vz_sums *sums);
 
 /* ---- a line of a job text, read at the record: what the line asks is loaded, so that a board needs no parser of its own */
 

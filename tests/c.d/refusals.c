@@ -23,6 +23,19 @@ static vz_record fresh(void)
     return m;
 }
 
+/* A refused look ahead gives the record's own words and sums of 0. */
+static void look_refused(const char *what, const vz_record *m, uint64_t ticks, int64_t number)
+{
+    vz_record own = *m, then;
+    vz_sums sums = {7, 7};
+    memset(&then, 7, sizeof then);
+    is(what, vz_ahead(&own, ticks, &then, &sums), -number);
+    is("words after a refused look", memcmp(&own, m, sizeof own), 0);
+    is("words of a refused look", memcmp(&then, m, sizeof then), 0);
+    is("sum of a refused look", sums.x, 0);
+    is("sum of a refused look", sums.y, 0);
+}
+
 /* Every call on words that are no sound record. */
 static void refused(const char *what, const vz_record *bad)
 {
@@ -46,6 +59,8 @@ static void refused(const char *what, const vz_record *bad)
     is("what is known at a refused line", memcmp(&known, &before, sizeof known), 0);
     is("ticks of a refused run", (int64_t)ticks, 0);
     is("bytes of a refused run", memcmp(out, "\7\7\7\7", 4), 0);
+    look_refused(what, bad, 1, VZ_REFUSED_RECORD);
+    look_refused(what, bad, UINT64_MAX, VZ_REFUSED_RECORD);
 }
 
 static void make(void)
@@ -144,6 +159,77 @@ static void bytes(void)
     is("work after a stop", m.word[VZ_WORD_WORK], 0);
 }
 
+/* A look of so many ticks is what so many vz_tick give on a copy, their bytes added up, and leaves the record. */
+static void looks(const vz_record *m, uint64_t ticks)
+{
+    static const int64_t pulses[] = {0, 1, -1};
+    vz_record own = *m, ticked = *m, then;
+    vz_sums sums = {7, 7}, sent = {0, 0};
+    for (uint64_t i = 0; i < ticks; i++) {
+        int64_t byte = vz_tick(&ticked);
+        sent.x += pulses[VZ_X_CODE(byte)];
+        sent.y += pulses[VZ_Y_CODE(byte)];
+    }
+    memset(&then, 7, sizeof then);
+    is("a look", vz_ahead(&own, ticks, &then, &sums), 0);
+    is("words after a look", memcmp(&own, m, sizeof own), 0);
+    is("words of a look", memcmp(&then, &ticked, sizeof then), 0);
+    is("sum of a look", sums.x, sent.x);
+    is("sum of a look", sums.y, sent.y);
+}
+
+/* Ten ticks from here on, one by one: the last of them are after the block's end. */
+static void ahead(vz_record m)
+{
+    vz_record held = m;
+    is("hold", vz_hold(&held), 0);
+    for (uint64_t ticks = 0; ticks <= 10; ticks++) {
+        looks(&m, ticks);
+        looks(&held, ticks);
+    }
+    looks(&m, VZ_AHEAD_TICKS);
+    look_refused("too far", &m, VZ_AHEAD_TICKS + 1, VZ_REFUSED_FAR);
+    look_refused("too far", &m, UINT64_MAX, VZ_REFUSED_FAR);
+    look_refused("too far, held", &held, VZ_AHEAD_TICKS + 1, VZ_REFUSED_FAR);
+}
+
+/* The line (3, -4) at a cycle for each tick: two ticks on it is at (1, -2), three after that at its end. */
+static void ahead_of_line(void)
+{
+    vz_record m = fresh(), then;
+    vz_sums sums;
+    is("width", vz_load_line(&m, 3, -4, 300000), 3);
+    is("two ahead", vz_ahead(&m, 2, &then, &sums), 0);
+    is("x", then.word[VZ_WORD_X], 1);
+    is("y", then.word[VZ_WORD_Y], -2);
+    is("cycles done", then.word[VZ_RECORD_WORDS - 1], 2);
+    is("sum", sums.x, 1);
+    is("sum", sums.y, -2);
+    is("and three", vz_ahead(&then, 3, &m, &sums), 0);
+    is("x", m.word[VZ_WORD_X], 3);
+    is("work", m.word[VZ_WORD_WORK], 0);
+    is("sum", sums.x, 2);
+    is("sum", sums.y, -2);
+}
+
+/* Idle, on slow and fast lines and arcs, and in the midst of one. */
+static void everywhere(void)
+{
+    vz_record m = fresh(), line = m, arc = m;
+    ahead(m);
+    is("a slow line", vz_load_line(&m, 3, 4, 1), 3);
+    ahead(m);
+    is("a line", vz_load_line(&line, -3, 4, 300000), 3);
+    ahead(line);
+    is("a tick", vz_tick(&line), 2 + 4 + 16);
+    ahead(line);
+    is("an arc", vz_load_ccw(&arc, 4, 2, 200000, 4, -3), 3);
+    ahead(arc);
+    is("stop", vz_stop(&arc), 0);
+    is("a full turn", vz_load_cw(&arc, 0, 0, 7, 5, 0), 3);
+    ahead(arc);
+}
+
 /* One word of a sound record changed. */
 static void changed(const char *what, vz_record m, int word, int64_t to)
 {
@@ -159,6 +245,8 @@ int main(void)
     load();
     lines();
     bytes();
+    ahead_of_line();
+    everywhere();
     is("a line", vz_load_line(&line, 3, 4, 1), 3);
     is("an arc", vz_load_cw(&arc, 0, 0, 1, 5, 0), 3);
     is("ABI of a record", idle.word[VZ_WORD_ABI], VZ_ABI);

@@ -16,7 +16,8 @@ use Rattle.machine.specs.declared.Machine.{Machine}
 use Rattle.machine.specs.declared.Answered.{Answered}
 use Rattle.machine.specs.declared.Ticked.{Ticked}
 use Rattle.machine.specs.declared.Ran.{Ran}
-use Rattle.history.specs.Contracts.{Makes, Loads, Ticks, Runs, Holds, Releases, Stops}
+use Rattle.ahead.specs.declared.Ahead.{Ahead}
+use Rattle.history.specs.Contracts.{Makes, Loads, Ticks, Runs, Holds, Releases, Stops, Looks}
 use Rattle.reader.specs.declared.Feed.{Feed}
 use Rattle.reader.specs.declared.Reader.{Reader}
 use Rattle.reader.specs.declared.«text_line».ReadLine.{ReadLine}
@@ -29,6 +30,7 @@ use Rattle.layout.specs.Words.{encodeOf, settingsOf, markWord}
 use Rattle.progress.specs.Known.{encodeKnown}
 use Rattle.progress.specs.Progress.{encodeProgress, checkIn}
 use Rattle.export.specs.Calls.{Call, answerNumber, tickNumber, reportNumber, arcPath, blockOf}
+use Rattle.export.specs.Looks.{sumWords, noSums}
 use Rattle.export.specs.Texts.{readNumber, Refuses}
 use Rattle.export.proofs.vz_make.Reads as make-reads
 use Rattle.export.proofs.vz_load_line.Reads as line-reads
@@ -39,6 +41,7 @@ use Rattle.export.proofs.vz_run.Reads as run-reads
 use Rattle.export.proofs.vz_hold.Reads as hold-reads
 use Rattle.export.proofs.vz_release.Reads as release-reads
 use Rattle.export.proofs.vz_stop.Reads as stop-reads
+use Rattle.export.proofs.look.«vz_ahead».Reads as ahead-reads
 use Rattle.export.proofs.text.«vz_read_line».Reads as text-reads
 use Rattle.export.proofs.text.«vz_check_start».Reads as start-reads
 use Rattle.export.proofs.text.«vz_check_fill».Reads as fill-reads
@@ -84,6 +87,15 @@ pub record RunOnWords (before : List ℤ) (budget : ℕ) (out out′ : RefT (Lis
       → (m′ : Machine) × OwnRun m budget out out′ n ticks m′ × Sound m′ × (after ≡ encodeOf m′)
   pub others : NoRecord before → (n ≡ negsuc 8) × (ticks ≡ 0) × (after ≡ before) × (now out′ ≡ now out)
   pub refused : (k : ℕ) → n ≡ negsuc k → (ticks ≡ 0) × (after ≡ before) × (now out′ ≡ now out)
+
+-- of a look ahead, the words of the record that it gives, and the sums; those of the machine itself are lent for reading
+pub record LookOnWords (before : List ℤ) (ticks : ℕ) (n : ℤ) (then sums : List ℤ) : Type 0 where
+  pub own : (m : Machine) → Sound m → before ≡ encodeOf m
+      → (r : Ahead) × Looks m ticks r × (n ≡ answerNumber (r .answer)) × Sound (r .then) × (then ≡ encodeOf (r .then))
+      × (sums ≡ sumWords (r .sums))
+  pub others : NoRecord before → (n ≡ negsuc 8) × (then ≡ before) × (sums ≡ noSums)
+  -- 02 §1: "A refusal gives the machine's own record and sums of 0."
+  pub refused : (k : ℕ) → n ≡ negsuc k → (then ≡ before) × (sums ≡ noSums)
 
 -- a make asks nothing of the words
 abbrev pub MadeWords : Settings → (n : ℤ) (after : List ℤ) → Type 0
@@ -175,6 +187,9 @@ pub record EveryCallFromC : Type 0 where
   pub run : (κs : Lfts 3) (words words′ : RefT (List ℤ)) (budget : ℕ) (out out′ : RefT (List ℕ)) (ticks ticks′ : RefT ℕ) (n : ℤ)
       → run-reads.Learnt κs (words, (budget, (out, (ticks, tt)))) n (words′, (budget, (out′, (ticks′, tt))))
       → RunOnWords (now words) budget out out′ n (now ticks′) (now words′)
+  pub look : (κs : Lfts 3) (words then then′ sums sums′ : RefT (List ℤ)) (ticks : ℕ) (n : ℤ)
+      → ahead-reads.Learnt κs (words, (ticks, (then, (sums, tt)))) n (words, (ticks, (then′, (sums′, tt))))
+      → LookOnWords (now words) ticks n (now then′) (now sums′)
   pub text : (κs : Lfts 3) (words words′ known known′ : RefT (List ℤ)) (line : RefT (List ℕ)) (n : ℤ)
       → text-reads.Learnt κs (words, (known, (line, tt))) n (words′, (known′, (line, tt)))
       → LineOnWords (now words) (now known) line n (now words′) (now known′)

@@ -27,6 +27,7 @@ use store::store_work;
 
 mod answer;
 mod given;
+pub mod look;
 pub mod text;
 
 // ---- tick

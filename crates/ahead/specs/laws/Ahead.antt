@@ -39,7 +39,7 @@ module _ (m : Machine) (n : ℕ) where
   unsound not-sound = rw not-sound
 
   -- what holds of a look, and of a refusal
-  either : (P : Ahead → Type 0) → (soundOf m ≡ true → n ≤ mostTicks → P (looked m (tickingOf n m)))
+  pub either : (P : Ahead → Type 0) → (soundOf m ≡ true → n ≤ mostTicks → P (looked m (tickingOf n m)))
       → ((number : ℕ) → P (refusing m number)) → P (aheadOf m n)
   unfolding aheadOf
   either P seen refused = by (soundOf m) (leb n mostTicks) refl refl
@@ -53,6 +53,10 @@ module _ (m : Machine) (n : ℕ) where
   -- "The machine itself comes back unchanged."
   pub unchanged : aheadOf m n .machine ≡ m
   unchanged = either (λ a. a .machine ≡ m) (λ s l. refl) (λ k. refl)
+
+  -- so a caller may go on with it
+  pub then-sound : soundOf m ≡ true → soundOf (aheadOf m n .then) ≡ true
+  then-sound sound = either (λ a. soundOf (a .then) ≡ true) (λ s l. ticking-sound n m s) (λ k. sound)
 
   -- the sums are the point ahead less the point, of a refusal too
   pub sums-are : aheadOf m n .sums ≡ wayOf (m .at) (aheadOf m n .then .at)

@@ -28,6 +28,9 @@ use Rattle.history.specs.Reply.{answerReply}
 use Rattle.machine.specs.declared.Report.{Report}
 use Rattle.run.specs.Run.{Strip, stripOf}
 use Rattle.machine.specs.Run.{reportOf, ranOver, noTick, runOf}
+use Rattle.ahead.specs.declared.Ahead.{Ahead}
+use Rattle.ahead.specs.Ahead.{aheadOf}
+use Rattle.ahead.specs.laws.Ahead.{either, then-sound}
 use Rattle.keeps.specs.laws.Make.{make-keeps}
 use Rattle.keeps.specs.laws.Calls.{run-keeps}
 use Rattle.words.specs.declared.line.Line.{Line}
@@ -50,6 +53,7 @@ use Rattle.layout.specs.laws.Record.{machine-back}
 use Rattle.layout.specs.laws.Number.{word-small}
 use Rattle.export.specs.Calls.{answerNumber, tickNumber, reportNumber, toldTick, Call, Told, tells, callOf, toldOf}
 use Rattle.export.specs.Calls.{madeOf, ToldRun, tellsRun, ran, toldRunOf}
+use Rattle.export.specs.Looks.{ToldAhead, tellsAhead, sumWords, noSums, aheadTold, toldAheadOf}
 use Rattle.progress.specs.declared.known.DecodedKnown.{DecodedKnown}
 use Rattle.progress.specs.Known.{encodeKnown, feedOf, readerOf, knownIn, decodeKnown}
 use Rattle.progress.specs.Progress.{encodeProgress, checkIn, decodeProgress}
@@ -57,7 +61,7 @@ use Rattle.progress.specs.laws.Inverse.{FeedFits, known-decode}
 use Rattle.export.specs.Texts.{readNumber, ToldLine, tellsLine, lineTold, toldLineOf, startProgress, checkTold, isCheck, Hands, TellsFill}
 use Rattle.store.specs.Words.{soundWords}
 use Rattle.store.specs.laws.Words.{words-are, told-sound, sound-words}
-use Rattle.export.specs.laws.Words.{told-call, told-run, told-refused, run-refused}
+use Rattle.export.specs.laws.Words.{told-call, told-run, told-ahead, told-refused, run-refused, ahead-refused}
 use Rattle.export.specs.laws.Again.{machineAfter, keeps}
 use Rattle.export.specs.laws.Width.{width-word}
 use Rattle.export.specs.laws.Texts.{rows-told, refused-told}
@@ -67,7 +71,7 @@ use Rattle.demands.specs.Sound.{Sound, settingsQuestions}
 use Rattle.demands.specs.Questions.{lineQuestions, makesBlock, lineBlock}
 use Rattle.demands.specs.Answers.{readReply}
 use Rattle.demands.specs.Texts.{FrontOf}
-use Rattle.demands.specs.FromC.{Own, NoRecord, FeedOf32, NotKnown, LineOnWords, OnWords, RunOnWords, MadeWords}
+use Rattle.demands.specs.FromC.{Own, NoRecord, FeedOf32, NotKnown, LineOnWords, OnWords, RunOnWords, LookOnWords, MadeWords}
 use Rattle.demands.specs.FromC.{StartedWords, OwnFill, IsCheck, RowsOutToC, EveryCallFromC}
 use Rattle.demands.specs.laws.Sound.{sound-is, settings-pass}
 use Rattle.demands.specs.laws.Answers.{load-answers, run-answers}
@@ -211,6 +215,44 @@ run-on-words before budget out out′ n ticks after h =
         absurd (no-refusal (machineIn before) (told-sound before t) budget (length (now out)) k
         (sym (ap (λ (t : ToldRun). t .answer) same) ∙ e))
     by false t k e = let p = parts t in (p .1, p .2, p .3)
+
+-- a look that answers a negative number is a refusal, which gives the machine's own record and no pulses
+refused-look : (m : Machine) (ticks k : ℕ) → (let a = aheadOf m ticks in
+    answerNumber (a .answer) ≡ negsuc k → (encodeOf (a .then) ≡ encodeOf m) × (sumWords (a .sums) ≡ noSums))
+refused-look m ticks k =
+    either m ticks (λ a. answerNumber (a .answer) ≡ negsuc k → (encodeOf (a .then) ≡ encodeOf m) × (sumWords (a .sums) ≡ noSums))
+    (λ s l e. absurd (apart e)) (λ number e. (refl, refl))
+
+look-on-words : (before : List ℤ) (ticks : ℕ) (n : ℤ) (then sums : List ℤ) → tellsAhead n then sums ≡ toldAheadOf before ticks
+    → LookOnWords before ticks n then sums
+look-on-words before ticks n then sums h =
+    record {
+      own = λ m s e.
+          let r = aheadOf m ticks in
+          let same = h ∙ sym (told-ahead before (tells-sound before m s e) ticks)
+          ∙ ap (λ (x : Machine). aheadTold (aheadOf x ticks)) (tells-it before m s e) in (
+            r,
+            refl,
+            ap (λ (t : ToldAhead). t .answer) same,
+            sound-is (r .then) .0 (then-sound m ticks (sound-is m .1 s)),
+            ap (λ (t : ToldAhead). t .then) same,
+            ap (λ (t : ToldAhead). t .sums) same,
+          );
+      others = λ none. parts (unsound-words before none);
+      refused = by (soundWords before) refl;
+    }
+  where
+    parts : soundWords before ≡ false → (n ≡ negsuc 8) × (then ≡ before) × (sums ≡ noSums)
+    parts t =
+        let e = h ∙ sym (ahead-refused before t ticks) in
+        (ap (λ (t : ToldAhead). t .answer) e, ap (λ (t : ToldAhead). t .then) e, ap (λ (t : ToldAhead). t .sums) e)
+
+    by : (sound : Bool) → soundWords before ≡ sound → (k : ℕ) → n ≡ negsuc k → (then ≡ before) × (sums ≡ noSums)
+    by true t k e =
+        let same = h ∙ sym (told-ahead before t ticks) in
+        let own = refused-look (machineIn before) ticks k (sym (ap (λ (t : ToldAhead). t .answer) same) ∙ e) in
+        (ap (λ (t : ToldAhead). t .then) same ∙ own .0 ∙ sym (words-are before t), ap (λ (t : ToldAhead). t .sums) same ∙ own .1)
+    by false t k e = let p = parts t in (p .1, p .2)
 
 made-words : (s : Settings) (n : ℤ) (after : List ℤ) → tells n after ≡ madeOf s → MadeWords s n after
 unfolding madeOf
@@ -455,6 +497,7 @@ every-call-from-c =
       release = λ κs words words′ n h. on-words Call.release (now words) n (now words′) h;
       stop = λ κs words words′ n h. on-words Call.stop (now words) n (now words′) h;
       run = λ κs words words′ budget out out′ ticks ticks′ n h. run-on-words (now words) budget out out′ n (now ticks′) (now words′) h;
+      look = λ κs words then then′ sums sums′ ticks n h. look-on-words (now words) ticks n (now then′) (now sums′) h;
       text = λ κs words words′ known known′ line n h. line-on-words (now words) (now known) line n (now words′) (now known′) h;
       start = λ κs words words′ progress progress′ p w xlo xhi ylo yhi n h. started _ n (now words′) (now progress′) (h .0) (h .1);
       fill = λ κs ws ws′ ps ps′ text out out′ len len′ n h m c.
