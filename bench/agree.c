@@ -104,6 +104,43 @@ static int64_t spoil(const int64_t *words, int64_t at)
     }
 }
 
+/* ---- looks ahead */
+
+/* By closed forms, on words that may be no record: answer, record ahead and sums; and neither side writes to the words. */
+static void agree_ahead(const int64_t *words, uint64_t ticks)
+{
+    int64_t own[WORDS], then[2][WORDS];
+    struct plain_sums sums[2];
+    memcpy(own, words, sizeof own);
+    const int64_t answer = core_ahead(own, ticks, then[0], &sums[0]);
+    must(c_words_ahead(own, ticks, then[1], &sums[1]) == answer, "a look's answer");
+    must(memcmp(then[0], then[1], sizeof then[0]) == 0 && memcmp(&sums[0], &sums[1], sizeof *sums) == 0, "a look");
+    must(memcmp(own, words, sizeof own) == 0, "the record of a look");
+}
+
+/* Near, as far as a block of the history may take, and around the most. */
+static uint64_t drawn_ticks(void)
+{
+    switch (drawn(4)) {
+    case 0: return (uint64_t)drawn(8);
+    case 1: return (uint64_t)drawn(1000);
+    case 2: return (uint64_t)drawn(1000001);
+    default: return 1000000 - 1 + (uint64_t)drawn(3);
+    }
+}
+
+/* The timed looks, tick by tick. */
+static void agree_look(const struct work *w)
+{
+    const struct plain_run plain = plain_begun(w);
+    int64_t words[WORDS], then[WORDS];
+    struct plain_sums sums;
+    loaded(words, w);
+    must(core_ahead(words, w->given, then, &sums) == 0, w->name);
+    const struct plain_sums other = plain_look(&plain, w->given);
+    must(sums.x == other.x && sums.y == other.y, w->name);
+}
+
 /* Words that mostly are no sound record: one of them is changed. */
 static void agree_spoilt(int64_t words[SIDES][WORDS])
 {
@@ -111,6 +148,7 @@ static void agree_spoilt(int64_t words[SIDES][WORDS])
     memcpy(spoilt, words, sizeof spoilt);
     for (int s = 0; s < SIDES; s++)
         spoilt[s][at] = to;
+    agree_ahead(spoilt[0], drawn_ticks());
     call_all(spoilt, tick, "tick on a changed record");
 }
 
@@ -170,6 +208,7 @@ static void agree_history(void)
         memcpy(before, words[0], sizeof before);
         for (int i = 0; i < TICKS; i++) {
             agree_spoilt(words);
+            agree_ahead(words[0], drawn_ticks());
             int64_t was[WORDS];
             memcpy(was, words[0], sizeof was);
             sum = plain_mix(sum, core_tick(was));
@@ -233,6 +272,8 @@ void agree(void)
         agree_run(w, rust_line_ticks, rust_arc_ticks);
         agree_run(w, rust_line_cycles, rust_arc_cycles);
     }
+    for (const struct work *w = look_works; w < look_works + LOOK_WORKS; w++)
+        agree_look(w);
     for (int i = 0; i < HISTORIES; i++) {
         agree_make();
         agree_history();

@@ -37,11 +37,12 @@ static double median(double *v, int n)
 /* ns a unit of each side of each work, and the core's part of it. */
 static double times[MOST_WORKS][MOST_WAYS][MOST_ROUNDS], ratios[MOST_WORKS][MOST_WAYS][MOST_ROUNDS];
 
-static double timed(const struct way *side, const struct work *w)
+static double timed(const struct table *t, int side, const struct work *w)
 {
+    const uint64_t often = times_of(t, side, w, w->times);
     double start = now();
-    side->go(w, w->times);
-    return (now() - start) / (double)(w->times * w->units);
+    t->way[side].go(w, often);
+    return (now() - start) / (double)(often * w->units);
 }
 
 /* Each round does every work by every side once, so that what else the machine does falls on all of them. Each round begins with
@@ -52,7 +53,7 @@ static void measure(const struct table *t, int rounds)
         for (int w = 0; w < t->works; w++) {
             for (int k = 0; k < t->ways; k++) {
                 int s = (k + r) % t->ways;
-                times[w][s][r] = timed(&t->way[s], &t->work[w]);
+                times[w][s][r] = timed(t, s, &t->work[w]);
             }
             for (int s = 0; s < t->ways; s++)
                 ratios[w][s][r] = times[w][0][r] / times[w][s][r];
@@ -158,8 +159,8 @@ static void list(void)
         const struct table *t = &tables[n];
         for (int w = 0; is_there(t) && w < t->works; w++)
             for (int s = 0; s < t->ways; s++)
-                printf("%d\t%d\t%d\t%" PRIu64 "\t%" PRIu64 "\t%s\t%s\t%s\t%s\n", n, w, s, t->counted, t->work[w].units, t->name, t->unit,
-                       t->work[w].name, t->way[s].name);
+                printf("%d\t%d\t%d\t%" PRIu64 "\t%" PRIu64 "\t%s\t%s\t%s\t%s\n", n, w, s, times_of(t, s, &t->work[w], t->counted),
+                       t->work[w].units, t->name, t->unit, t->work[w].name, t->way[s].name);
     }
 }
 

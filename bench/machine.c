@@ -1,9 +1,9 @@
-/* The machine in plain C: the test of the record (01, "sound"), tick, load and stop. */
+/* The machine in plain C: the test of the record (01, "sound"), tick, load, stop and look ahead. */
 #include "arc.h"
 #include "cycle.h"
 #include "root.h"
 
-enum { MOST_CYCLES = 4000000, FARTHEST_CENTRE = 2000000, UNSOUND = -9 };
+enum { MOST_CYCLES = 4000000, FARTHEST_CENTRE = 2000000, MOST_AHEAD = 1000000, UNSOUND = -9 };
 static const int64_t LARGEST_SQUARE = 2000000000000;
 
 static bool axis_right(struct range r) { return within(-TRAVEL, r.lower, 0) && within(0, r.upper, TRAVEL); }
@@ -151,6 +151,16 @@ int64_t c_stop_in(struct machine *m)
         return UNSOUND;
     m->kind = NOTHING;
     m->remainder = 0;
+    return 0;
+}
+
+int64_t c_ahead_in(struct machine *m, uint64_t ticks)
+{
+    if (!sound(m))
+        return UNSOUND;
+    if (ticks > MOST_AHEAD)
+        return -38;
+    c_skip(m, (int64_t)ticks);
     return 0;
 }
 

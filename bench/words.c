@@ -3,6 +3,7 @@
 #include "record.h"
 
 #include <stdlib.h>
+#include <string.h>
 
 enum { UNSOUND = -9 };
 
@@ -84,6 +85,20 @@ int64_t c_words_stop(int64_t *words)
         return UNSOUND;
     int64_t answer = c_stop_in(&m);
     encode(&m, words);
+    return answer;
+}
+
+int64_t c_words_ahead(const int64_t *words, uint64_t ticks, int64_t *then, struct plain_sums *sums)
+{
+    struct machine m;
+    int64_t answer = decode(words, &m) ? c_ahead_in(&m, ticks) : UNSOUND;
+    if (answer < 0) {
+        memcpy(then, words, WORDS * sizeof *then);
+        *sums = (struct plain_sums){ 0, 0 };
+        return answer;
+    }
+    *sums = (struct plain_sums){ m.at.x - words[WORD_X], m.at.y - words[WORD_Y] };
+    encode(&m, then);
     return answer;
 }
 

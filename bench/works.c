@@ -169,7 +169,7 @@ static uint64_t roots_free(uint64_t square, uint64_t times, uint64_t (*root)(uin
 
 static void roots(const struct work *w, uint64_t times, uint64_t (*root)(uint64_t))
 {
-    kept = (w->waits ? roots_waiting : roots_free)(w->square, times, root);
+    kept = (w->waits ? roots_waiting : roots_free)(w->given, times, root);
 }
 
 static void roots_core(const struct work *w, uint64_t times) { roots(w, times, core_root); }
@@ -252,12 +252,14 @@ static const struct work root_works[] = {
 };
 
 #define COUNT(LIST) (sizeof LIST / sizeof *LIST)
-#define TABLE(NAME, UNIT, COUNTED, KIND) { NAME, UNIT, COUNTED, COUNT(KIND##_ways), COUNT(KIND##_works), KIND##_ways, KIND##_works }
+#define TABLE(NAME, UNIT, COUNTED, KIND, BY_TICK) \
+    { NAME, UNIT, COUNTED, COUNT(KIND##_ways), COUNT(KIND##_works), KIND##_ways, KIND##_works, BY_TICK }
 const struct table tables[] = {
-    TABLE("run", "tick", 4, run),
-    TABLE("single tick", "call", 2000, tick),
-    TABLE("load", "pair of calls", 1000, load),
-    TABLE("least root", "call", 1000, root),
+    TABLE("run", "tick", 4, run, -1),
+    TABLE("single tick", "call", 2000, tick, -1),
+    TABLE("load", "pair of calls", 1000, load, -1),
+    TABLE("look ahead", "look", 1000, look, LOOK_BY_TICK),
+    TABLE("least root", "call", 1000, root, -1),
 };
 const int table_count = COUNT(tables);
 

@@ -6,7 +6,7 @@
 
 #include <stddef.h>
 
-enum { BUFFER = 65536, MOST_WAYS = 6, MOST_WORKS = 8, MOST_GOALS = 3 };
+enum { BUFFER = 65536, MOST_WAYS = 6, MOST_WORKS = 12, MOST_GOALS = 3 };
 static const uint64_t CAPACITY = 300000;
 
 /* A ratio of the core to a way that is not to be passed, in every work that names the goal; of way 0, the core itself, a time in ns. */
@@ -20,7 +20,7 @@ struct work {
     const char *name;
     int arc;
     uint64_t part;   /* the feed is the capacity divided by this */
-    uint64_t square; /* whose root is taken */
+    uint64_t given;  /* the number whose root is taken, or the ticks of a look ahead */
     int waits;       /* each root waits for the one before it */
     uint64_t times;  /* how often the work is done between two looks at the clock */
     uint64_t units;  /* in one time: the bytes that a run fills, or 1 */
@@ -38,7 +38,16 @@ struct table {
     int ways, works;
     const struct way *way; /* the first is the core */
     const struct work *work;
+    int by_tick; /* the way that does a look tick by tick, and so much less often; -1 where there is none */
 };
+
+/* How often a way does a work that others do so many times. */
+static inline uint64_t times_of(const struct table *t, int way, const struct work *w, uint64_t times)
+{
+    if (way != t->by_tick)
+        return times;
+    return times < w->given ? 1 : times / w->given;
+}
 
 extern const struct table tables[];
 extern const int table_count;
@@ -46,6 +55,12 @@ extern const int table_count;
 /* The core's calls in the shape of plain.h. */
 plain_call core_tick, core_stop;
 plain_load core_load;
+plain_ahead core_ahead;
+
+/* The look ahead: its table's ways and works. */
+enum { LOOK_WAYS = 4, LOOK_WORKS = 12, LOOK_BY_TICK = 2 };
+extern const struct way look_ways[LOOK_WAYS];
+extern const struct work look_works[LOOK_WORKS];
 
 /* The core's own root, which the archive does not export: bench/run makes it visible. Null where the compiler has left no such function. */
 extern uint64_t core_root(uint64_t s) __attribute__((weak));
@@ -63,6 +78,7 @@ struct plain_run {
     struct plain_feed feed;
 };
 struct plain_run plain_begun(const struct work *w);
+struct plain_sums plain_look(const struct plain_run *r, uint64_t ticks);
 uint64_t plain_run_on(struct plain_run *r, plain_run_line *line, plain_run_arc *arc, uint64_t most, uint8_t *out);
 
 /* Stops the program unless all sides give the same bytes, answers and records. */
