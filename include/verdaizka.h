@@ -15,7 +15,7 @@
  * Needed: C11 or C++11, and an x86-64 machine: tools/archive writes target/libverdaizka.a for it.
  * From outside the archive needs memcpy and memset alone.
  *     cc -std=c11 -Iinclude program.c target/libverdaizka.a
- * examples/c has whole programs: square_and_circle.c, run_a_job.c, check_a_job.c.
+ * examples/c has whole programs: square_and_circle.c, look_ahead.c, run_a_job.c, check_a_job.c.
  *
  * Answers: a refusal is negative everywhere, minus the number of the question that was answered by no, so `if (answer < 0)` sees
  * every one. What a refusal writes: vz_run sets *ticks and vz_check_fill *written to 0; vz_ahead copies the record to *then and sets
