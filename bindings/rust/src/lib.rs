@@ -14,6 +14,9 @@ pub const KNOWN_WORDS: usize = 2;
 /// How far a check has come, in words of 64 bits.
 pub const PROGRESS_WORDS: usize = 8;
 
+/// As far as a look ahead goes, in ticks.
+pub const AHEAD_TICKS: u64 = 1_000_000;
+
 /// Word 0 of every record: the layout that this file knows. Words with another number there are no record.
 pub const ABI: i64 = 1;
 
@@ -66,6 +69,7 @@ extern "C" {
     fn vz_hold(record: *mut i64) -> i64;
     fn vz_release(record: *mut i64) -> i64;
     fn vz_stop(record: *mut i64) -> i64;
+    fn vz_ahead(record: *const i64, ticks: u64, then: *mut i64, sums: *mut i64) -> i64;
     fn vz_read_line(record: *mut i64, known: *mut i64, line: *const u8, length: usize) -> i64;
     fn vz_check_start(record: *mut i64, progress: *mut i64, p: i64, w: i64, xlo: i64, xhi: i64, ylo: i64, yhi: i64) -> i64;
     fn vz_check_fill(
@@ -126,6 +130,14 @@ pub enum Why {
     Ended,
     Spent,
     Full,
+}
+
+/// What a look ahead gives: the machine so many ticks on, and the sum of the pulses of those ticks on each axis, plus ones less minus ones.
+/// Of a refused look these are the machine as it stands, and 0.
+#[derive(Clone, PartialEq, Eq, Debug)]
+pub struct Ahead {
+    pub then: Machine,
+    pub sums: (i64, i64),
 }
 
 /// The call's answer, which is not negative, or the number of its refusal, which it tells as a negative one.
@@ -241,6 +253,31 @@ impl Machine {
     pub fn stop(&mut self) -> Result<(), Refused> {
         // SAFETY: as in make.
         answered(unsafe { vz_stop(self.words.as_mut_ptr()) }).map(|_| ())
+    }
+
+    /// Where so many ticks would leave the machine, and what they would send; the machine itself stays as it is, and no tick is done. Ticks
+    /// while held or idle change nothing, and so do those after the block's end. More than `AHEAD_TICKS` are refused by 38, after 9.
+    ///
+    /// ```
+    /// use verdaizka::{Block, Machine, Refused, AHEAD_TICKS, USUAL};
+    ///
+    /// let (mut machine, _) = Machine::make(USUAL);
+    /// machine.load(Block::Line { x: 3, y: 4, feed: 300_000 }).expect("accepted");
+    /// let (ahead, answer) = machine.ahead(2);
+    /// assert_eq!((answer, ahead.sums, ahead.then.position()), (Ok(()), (1, 2), (1, 2)));
+    /// assert_eq!(machine.position(), (0, 0));
+    ///
+    /// let (end, answer) = ahead.then.ahead(AHEAD_TICKS);
+    /// assert_eq!((answer, end.sums, end.then.position(), end.then.is_busy()), (Ok(()), (2, 2), (3, 4), false));
+    ///
+    /// let (ahead, answer) = machine.ahead(AHEAD_TICKS + 1);
+    /// assert_eq!((answer, ahead.sums, ahead.then), (Err(Refused(38)), (0, 0), machine));
+    /// ```
+    pub fn ahead(&self, ticks: u64) -> (Ahead, Result<(), Refused>) {
+        let (mut then, mut sums) = ([0; WORDS], [0; 2]);
+        // SAFETY: the core reads the words of the record, writes those of the record ahead and the two sums, and no others.
+        let told = unsafe { vz_ahead(self.words.as_ptr(), ticks, then.as_mut_ptr(), sums.as_mut_ptr()) };
+        (Ahead { then: Machine { words: then }, sums: (sums[0], sums[1]) }, answered(told).map(|_| ()))
     }
 
     pub fn position(&self) -> (i64, i64) {

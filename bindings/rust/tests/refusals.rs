@@ -1,6 +1,6 @@
 //! A refused call carries its number and leaves every word and every byte.
 
-use verdaizka::{word, Block, Check, Known, Machine, Refused, Settings, Turn, ABI, PROGRESS_WORDS, USUAL, WORDS};
+use verdaizka::{word, Ahead, Block, Check, Known, Machine, Refused, Settings, Turn, ABI, AHEAD_TICKS, PROGRESS_WORDS, USUAL, WORDS};
 
 const LINE: Block = Block::Line { x: 300, y: -400, feed: 60_000 };
 
@@ -20,6 +20,9 @@ fn no_record(words: [i64; WORDS]) {
     assert_eq!(machine.run(10, &mut out), Err(nine));
     assert_eq!((machine.hold(), machine.release(), machine.stop()), (Err(nine), Err(nine), Err(nine)));
     assert_eq!(machine.read_line(&mut known, b"X1"), Err(nine));
+    for ticks in [1, AHEAD_TICKS + 1] {
+        assert_eq!(machine.ahead(ticks), (Ahead { then: Machine::from_words(words), sums: (0, 0) }, Err(nine)));
+    }
     assert_eq!((machine.words(), out, known.words()), (&words, [7; 20], &[1, 100]));
 }
 

@@ -1,15 +1,16 @@
 //! The runner of call files (`docs/CALL-FILES.md`): every line is written anew, each `>` line followed by the core's answer.
 //!
 //! `calls [--records]` reads standard input. With `--records` a line `= RECORD` stands after each answer, and every word of the core's
-//! record is compared with it. Exit status 2, with what was answered so far: a line that is no call, a run that asks for more memory than
-//! there is, and reading or writing that failed; standard error has the line and why. Also where standard input or output is closed.
+//! record is compared with it; of a record ahead every word is compared in any case. Exit status 2, with what was answered so far: a line
+//! that is no call, a run that asks for more memory than there is, and reading or writing that failed; standard error has the line and why.
+//! Also where standard input or output is closed.
 
 use std::fmt;
 use std::io::{self, BufRead, BufWriter, Write};
 use std::process::ExitCode;
 use verdaizka::crc::Crc;
 use verdaizka::fields::{is_of, record_told, Fields};
-use verdaizka::{descriptors, word, Block, Known, Machine, Refused, Settings, Why, USUAL};
+use verdaizka::{descriptors, word, Ahead, Block, Known, Machine, Refused, Settings, Why, USUAL};
 
 /// The longest buffer that a run is lent, in bytes: a system that promises more memory than it has would end the runner unheard.
 const LONGEST_BUFFER: usize = 1 << 30;
@@ -29,6 +30,9 @@ enum Call<'a> {
         fill: u8,
     },
     Text(&'a [u8]),
+    Ahead(u64),
+    /// A look ahead, after which the runner goes on with the machine ahead.
+    Jump(u64),
 }
 
 impl<'a> Call<'a> {
@@ -51,6 +55,8 @@ impl<'a> Call<'a> {
             "release" => Call::Release,
             "stop" => Call::Stop,
             "run" => Call::Run { budget: fields.u64()?, length: fields.u64()?, fill: u8::try_from(fields.u64()?).ok()? },
+            "ahead" => Call::Ahead(fields.u64()?),
+            "jump" => Call::Jump(fields.u64()?),
             _ => return None,
         };
         fields.end()?;
@@ -117,7 +123,22 @@ impl Runner {
                 let read = self.machine.read_line(&mut self.known, line);
                 read.map(|bits| bits.map_or("none".to_string(), |bits| format!("bits {bits}")))
             }
+            Call::Ahead(ticks) => Ok(self.look(ticks)?.0),
+            Call::Jump(ticks) => {
+                let (told, then) = self.look(ticks)?;
+                self.machine = then;
+                Ok(told)
+            }
         })
+    }
+
+    /// What a look tells, a refused one with its record and sums too, and the machine ahead.
+    fn look(&self, ticks: u64) -> Result<(String, Machine), Left> {
+        let (Ahead { then, sums: (x, y) }, answer) = self.machine.ahead(ticks);
+        let word = answer.map_or_else(refusal_told, |()| "ahead".to_string());
+        let record = self.record_told(&then);
+        compared(&record, &then)?;
+        Ok((format!("{word} {x} {y} {}", state_of(&record)), then))
     }
 
     fn run(&mut self, budget: u64, out: &mut [u8], fill: u8) -> Result<Result<String, Refused>, Left> {
@@ -131,9 +152,14 @@ impl Runner {
         Ok(told.map(|(why, _)| format!("{} {ticks} {}", why_told(why), bytes_told(done))))
     }
 
-    fn record_told(&self) -> String {
-        self.made_up.clone().unwrap_or_else(|| record_told(&self.machine))
+    /// The record of the runner's machine, or of the one ahead of it: a made-up record is refused, so that both are one.
+    fn record_told(&self, machine: &Machine) -> String {
+        self.made_up.clone().unwrap_or_else(|| record_told(machine))
     }
+}
+
+fn refusal_told(Refused(number): Refused) -> String {
+    format!("refused {number}")
 }
 
 fn why_told(why: Why) -> &'static str {
@@ -171,16 +197,20 @@ fn bytes_told(bytes: &[u8]) -> String {
     }
 }
 
+/// The record told has these words, every one.
+fn compared(record: &str, machine: &Machine) -> Result<(), Left> {
+    let undone = || Left::Undone(format!("{:?} are not the words of {record}", machine.words()));
+    is_of(record, machine).then_some(()).ok_or_else(undone)
+}
+
 fn answer(runner: &mut Runner, line: &[u8], records: bool, out: &mut impl Write) -> Result<(), Left> {
     let told = runner.call(Call::of_line(line).ok_or(Left::NoCall)?)?;
-    let told = told.unwrap_or_else(|Refused(number)| format!("refused {number}"));
-    let record = runner.record_told();
+    let told = told.unwrap_or_else(refusal_told);
+    let record = runner.record_told(&runner.machine);
     out.write_all(line)?;
     writeln!(out, "\n< {told} | {}", state_of(&record))?;
     if records {
-        if !is_of(&record, &runner.machine) {
-            return Err(Left::Undone(format!("{:?} are not the words of {record}", runner.machine.words())));
-        }
+        compared(&record, &runner.machine)?;
         writeln!(out, "= {record}")?;
     }
     Ok(())
