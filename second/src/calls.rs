@@ -7,7 +7,7 @@ use crate::book::{Load, Why};
 use crate::crc::Crc;
 use crate::fields::Fields;
 use crate::job::{Meaning, Reader};
-use crate::machine::Machine;
+use crate::machine::{Ahead, Machine};
 use crate::settings::{Settings, USUAL};
 use crate::sound::{Record, Work};
 
@@ -27,6 +27,10 @@ pub enum Call {
     },
     /// A line of a job text, of bytes 32 to 126.
     Text(String),
+    /// A look-ahead of so many ticks.
+    Ahead(u64),
+    /// The same, after which the machine is the one ahead.
+    Jump(u64),
 }
 
 /// The line at which a file was left, and why.
@@ -109,11 +113,10 @@ impl Runner {
         }
     }
 
-    /// Does the call and tells `< ANSWER | X Y HELD REM BUSY`.
+    /// Does the call and tells `< ANSWER | STATE`.
     pub fn answer(&mut self, call: &Call) -> String {
         let told = self.call(call).unwrap_or_else(|number| format!("refused {number}"));
-        let Record { point, held, remainder, work, .. } = self.machine.record();
-        format!("< {told} | {point} {} {remainder} {}", u8::from(held), u8::from(work != Work::Nothing))
+        format!("< {told} | {}", state(&self.machine.record()))
     }
 
     fn call(&mut self, call: &Call) -> Result<String, u32> {
@@ -144,8 +147,27 @@ impl Runner {
                 Meaning::NoBlock => Ok("none".to_string()),
                 Meaning::Refused(number) => Err(number),
             },
+            // A refused look has more to tell than its number.
+            Call::Ahead(ticks) => Ok(look(&machine.ahead(ticks))),
+            Call::Jump(ticks) => {
+                let ahead = machine.ahead(ticks);
+                let told = look(&ahead);
+                *machine = ahead.then;
+                Ok(told)
+            }
         }
     }
+}
+
+/// X Y HELD REM BUSY
+fn state(record: &Record) -> String {
+    let Record { point, held, remainder, work, .. } = record;
+    format!("{point} {} {remainder} {}", u8::from(*held), u8::from(*work != Work::Nothing))
+}
+
+fn look(ahead: &Ahead) -> String {
+    let word = ahead.refusal.map_or("ahead".to_string(), |number| format!("refused {number}"));
+    format!("{word} {} {}", ahead.sums, state(&ahead.then.record()))
 }
 
 fn word(why: Why) -> &'static str {
@@ -211,6 +233,8 @@ impl Call {
             "release" => Some(Call::Release),
             "stop" => Some(Call::Stop),
             "run" => Some(Call::Run { budget: fields.u64()?, length: fields.u64()?, fill: u8::try_from(fields.u64()?).ok()? }),
+            "ahead" => Some(Call::Ahead(fields.u64()?)),
+            "jump" => Some(Call::Jump(fields.u64()?)),
             _ => None,
         }
     }
@@ -229,6 +253,8 @@ impl fmt::Display for Call {
             Call::Stop => write!(out, "> stop"),
             Call::Run { budget, length, fill } => write!(out, "> run {budget} {length} {fill}"),
             Call::Text(line) => write!(out, "> text {line}"),
+            Call::Ahead(ticks) => write!(out, "> ahead {ticks}"),
+            Call::Jump(ticks) => write!(out, "> jump {ticks}"),
         }
     }
 }
@@ -308,9 +334,70 @@ mod tests {
             "> text G1\tX1",
             "> text G1 X1\r",
             "> text é",
+            "> ahead",
+            "> ahead ",
+            "> ahead -1",
+            "> ahead +1",
+            "> ahead 01",
+            "> ahead 1.0",
+            "> ahead 1 1",
+            "> ahead 18446744073709551616",
+            "> jump",
+            "> jump -1",
+            "> jump 1 ",
+            "> jump 18446744073709551616",
         ] {
             assert_eq!(answers(&format!("# ok\n> tick\n{line}\n")), Err(3), "{line}");
         }
+    }
+
+    /// A look tells the record ahead and leaves the machine; a jump goes on with that record, whose cycles done the tick after it shows.
+    #[test]
+    fn looks_and_jumps() {
+        all_answered(&[
+            ("make 50 1000 -20 20 -20 20", "made | 0 0 0 0 0"),
+            ("load L 3 4 60000", "bits 3 | 0 0 0 0 1"),
+            ("ahead 2", "ahead 1 2 1 2 0 0 1 | 0 0 0 0 1"),
+            ("ahead 1000001", "refused 38 0 0 0 0 0 0 1 | 0 0 0 0 1"),
+            ("jump 2", "ahead 1 2 1 2 0 0 1 | 1 2 0 0 1"),
+            ("tick", "byte 17 | 2 2 0 0 1"),
+            ("ahead 2", "ahead 1 2 3 4 0 0 0 | 2 2 0 0 1"),
+            ("jump 18446744073709551615", "refused 38 0 0 2 2 0 0 1 | 2 2 0 0 1"),
+            ("hold", "done | 2 2 1 0 1"),
+            ("jump 1000000", "ahead 0 0 2 2 1 0 1 | 2 2 1 0 1"),
+            ("ahead 1000001", "refused 38 0 0 2 2 1 0 1 | 2 2 1 0 1"),
+            ("release", "done | 2 2 0 0 1"),
+            ("jump 1000000", "ahead 1 2 3 4 0 0 0 | 3 4 0 0 0"),
+            ("jump 0", "ahead 0 0 3 4 0 0 0 | 3 4 0 0 0"),
+            ("jump 1000001", "refused 38 0 0 3 4 0 0 0 | 3 4 0 0 0"),
+        ]);
+    }
+
+    /// 9 comes before 38; the record is the machine's own, numbers that no sound one has too.
+    #[test]
+    fn looks_at_an_unsound_record() {
+        let refused = "refused 9 0 0 11 0 1 18446744073709551615 0 | 11 0 1 18446744073709551615 0";
+        all_answered(&[
+            ("record 50 5000 -10 10 -10 10 11 0 1 18446744073709551615 none", "set | 11 0 1 18446744073709551615 0"),
+            ("ahead 0", refused),
+            ("ahead 1000001", refused),
+            ("jump 1", refused),
+            ("jump 18446744073709551615", refused),
+            ("ahead 1", refused),
+        ]);
+    }
+
+    /// Neither a look nor a jump changes the G and F known.
+    #[test]
+    fn what_is_known_after_a_jump() {
+        all_answered(&[
+            ("text G1 X0.04 F3000", "bits 2 | 0 0 0 0 1"),
+            ("jump 3", "ahead 1 0 1 0 0 150000 1 | 1 0 0 150000 1"),
+            ("jump 1", "ahead 1 0 2 0 0 0 0 | 2 0 0 0 0"),
+            ("ahead 9", "ahead 0 0 2 0 0 0 0 | 2 0 0 0 0"),
+            ("text X0", "bits 2 | 2 0 0 0 1"),
+            ("run 9 9 0", "ended 4 00120032 | 0 0 0 0 0"),
+        ]);
     }
 
     /// G and F known stand beside the record: a refused line leaves them, a make and a record forget them.

@@ -1,6 +1,7 @@
 //! Demand 3 on made-up histories: what was done adds up, and the claims of the paper hold after every
 //! call. The sums are kept beside the book, from its answers only.
 
+use crate::ahead::{ahead, MOST_TICKS};
 use crate::arc::Kind;
 use crate::book::{Block, Book, Load, Path};
 use crate::calls::Call;
@@ -167,6 +168,8 @@ fn follow(calls: &[Call]) {
                 stopped(&mut sums);
             }
             Call::Run { budget, length, .. } => run(&mut book, &mut sums, budget, length),
+            Call::Ahead(ticks) => drop(look(&book, ticks)),
+            Call::Jump(ticks) => jump(&mut book, &mut sums, ticks),
         }
         adds_up(&book, &sums);
         still_sound(&book);
@@ -186,6 +189,35 @@ fn run(book: &mut Book, sums: &mut Sums, budget: u64, length: u64) {
         assert_eq!(byte, one_tick(book, sums));
     }
     assert_eq!(record_of(book), record_of(&by_run));
+}
+
+/// The book ahead, none where 38 refuses it. What is asked of it needs no tick: whether the block has ended, and that the sums lead to
+/// its point and the feeds to its remainder.
+fn look(book: &Book, ticks: u64) -> Option<Book> {
+    let looked = ahead(book, ticks);
+    assert_eq!(looked.as_ref().err(), (ticks > MOST_TICKS).then_some(&38));
+    let (then, sums) = looked.ok()?;
+    assert_eq!(book.point.moved_by(sums), then.point, "sums are the point ahead less the point");
+    let Some(block) = book.block.filter(|_| !book.held) else {
+        assert_eq!(record_of(&then), record_of(book));
+        return Some(then);
+    };
+    let working = book.ticks_to_the_end().min(ticks.into());
+    let done = then.block.map_or(block.k, |block| block.c) - block.c;
+    assert_eq!(then.block.is_none(), working == book.ticks_to_the_end());
+    let fed = u128::from(book.remainder) + working * u128::from(block.f);
+    assert_eq!(u128::from(done) * u128::from(book.settings.q0()) + u128::from(then.remainder), fed);
+    still_sound(&then);
+    Some(then)
+}
+
+/// A jump is the ticks that it looks over.
+fn jump(book: &mut Book, sums: &mut Sums, ticks: u64) {
+    let Some(then) = look(book, ticks) else { return };
+    for _ in 0..ticks {
+        one_tick(book, sums);
+    }
+    assert_eq!(record_of(book), record_of(&then));
 }
 
 #[test]

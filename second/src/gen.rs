@@ -3,6 +3,7 @@
 
 use std::io::{self, Write};
 
+use crate::ahead::MOST_TICKS;
 use crate::arc::{is_circle_point, Circle, Kind, LARGEST_N};
 use crate::book::{Book, Load};
 use crate::calls::{Call, Runner};
@@ -15,7 +16,11 @@ use crate::root::root_up;
 use crate::settings::Settings;
 use crate::sound::{Record, Work};
 
+/// The level of call files that has every call below.
+const LEVEL: u32 = 1;
+
 pub fn write_calls(seed: u64, count: u64, out: &mut impl Write) -> io::Result<()> {
+    writeln!(out, "# level {LEVEL}")?;
     for index in 0..count {
         writeln!(out, "# history {index} of seed {seed}")?;
         for call in history(seed, index) {
@@ -37,7 +42,10 @@ pub fn history(seed: u64, index: u64) -> Vec<Call> {
             Some(book) => next_call(rng, book, &runner.known),
             None => call_on_unsound(rng),
         };
-        runner.answer(&call);
+        // A look leaves the machine; its ticks need not be done here.
+        if !matches!(call, Call::Ahead(_)) {
+            runner.answer(&call);
+        }
         calls.push(call);
     }
     calls
@@ -52,8 +60,10 @@ fn next_call(rng: &mut Rng, book: &Book, known: &Reader) -> Call {
         (_, 0..=2) => Call::Hold,
         (_, 3..=4) => Call::Release,
         (false, 5..=6) | (true, 5..=9) => Call::Stop,
-        (false, 7..=12) | (true, 10..=34) => Call::Tick,
-        (false, 13..=18) | (true, 35..=88) => run(rng, book),
+        (false, 7..=10) | (true, 10..=24) => Call::Tick,
+        (false, 11..=14) | (true, 25..=64) => run(rng, book),
+        (false, 15..=16) | (true, 65..=76) => Call::Ahead(ticks_ahead(rng, book)),
+        (false, 17..=18) | (true, 77..=88) => Call::Jump(ticks_ahead(rng, book)),
         (false, 19..=58) | (true, 89..=94) => Call::Load(load(rng, book)),
         (true, _) | (false, 59..=97) => Call::Text(text(rng, book, known)),
         (false, 98) => Call::Make(settings(rng)),
@@ -71,7 +81,7 @@ fn text(rng: &mut Rng, book: &Book, known: &Reader) -> String {
 }
 
 fn call_on_unsound(rng: &mut Rng) -> Call {
-    match rng.below(14) {
+    match rng.below(17) {
         0 => Call::Tick,
         1 => Call::Hold,
         2 => Call::Release,
@@ -81,9 +91,14 @@ fn call_on_unsound(rng: &mut Rng) -> Call {
         6 => Call::Load(Load::Arc { kind: kind(rng), end: ORIGIN, f: 1, i: 1, j: 0 }),
         7..=8 => Call::Text(rng.one_of(&["G1 X1 F100", "", "N1", "G9", "?"], "X1").to_string()),
         9..=11 => Call::Record(record(rng)),
+        12..=13 => Call::Ahead(rng.one_of(&TICKS_AHEAD, 0)),
+        14 => Call::Jump(rng.one_of(&TICKS_AHEAD, 0)),
         _ => Call::Make(settings(rng)),
     }
 }
+
+/// The ends of what question 38 allows and of 64 bits.
+const TICKS_AHEAD: [u64; 7] = [0, 1, MOST_TICKS - 1, MOST_TICKS, MOST_TICKS + 1, 1 << 63, u64::MAX];
 
 /// Numbers at the ends of what questions allow and of 64 bits.
 const EDGES: [i64; 16] = [
@@ -189,8 +204,32 @@ fn sound_feed(rng: &mut Rng, q0: u64) -> u64 {
     }
 }
 
+fn to_the_end(book: &Book) -> u64 {
+    u64::try_from(book.ticks_to_the_end()).unwrap_or(u64::MAX)
+}
+
+/// How far to look: not at all, some ticks, into the block, about its end, about the most there may be. Every tick of a look is done, so
+/// that long ones are seldom.
+fn ticks_ahead(rng: &mut Rng, book: &Book) -> u64 {
+    let end = to_the_end(book);
+    let near = if end < 6_000 || rng.percent(3) { end } else { rng.below(6_000) };
+    match rng.below(1_000) {
+        0..=79 => 0,
+        80..=179 => 1,
+        180..=379 => 1 + rng.below(20),
+        380..=679 => rng.below(near.saturating_add(2)),
+        680..=769 => near,
+        770..=839 => near.saturating_sub(1),
+        840..=909 => near.saturating_add(1),
+        910..=959 => MOST_TICKS + 1,
+        960..=996 => rng.one_of(&[MOST_TICKS + 2, 1 << 63, u64::MAX], 0),
+        997..=998 => rng.one_of(&[MOST_TICKS - 1, MOST_TICKS, MOST_TICKS], 0),
+        _ => rng.below(MOST_TICKS),
+    }
+}
+
 fn run(rng: &mut Rng, book: &Book) -> Call {
-    let to_the_end = u64::try_from(book.ticks_to_the_end()).unwrap_or(u64::MAX);
+    let to_the_end = to_the_end(book);
     let mut amount = || match rng.below(16) {
         0 => 0,
         1..=3 => to_the_end,
@@ -486,22 +525,65 @@ fn hurt_unsigned(rng: &mut Rng, number: &mut u64) {
 #[cfg(test)]
 mod tests {
     use super::*;
+    use crate::book::{Block, Path};
     use std::collections::HashMap;
+    use std::sync::OnceLock;
 
-    /// Which counts a call goes into: that of all, and those of the lines of text by where they are read.
+    /// Which counts a call goes into: that of all, and those of lines of text and of looks by where they are asked.
     fn counts(call: &Call, runner: &Runner) -> Vec<&'static str> {
         let mut all = vec!["any"];
-        if matches!(call, Call::Text(_)) {
-            let book = runner.machine.book();
-            all.push("text");
-            all.extend(book.filter(|book| book.settings.p != 50).map(|_| "text at another p"));
-            all.extend(book.filter(|book| book.block.is_some()).map(|_| "text at work"));
+        match (call, runner.machine.book()) {
+            (Call::Text(_), book) => {
+                all.push("text");
+                all.extend(book.filter(|book| book.settings.p != 50).map(|_| "text at another p"));
+                all.extend(book.filter(|book| book.block.is_some()).map(|_| "text at work"));
+            }
+            (Call::Ahead(_), None) => all.push("ahead of an unsound record"),
+            (Call::Jump(_), None) => all.push("jump of an unsound record"),
+            (Call::Ahead(ticks), Some(book)) => all.extend(["ahead"].into_iter().chain(counts_of_look(book, *ticks))),
+            (Call::Jump(ticks), Some(book)) => all.extend(["jump"].into_iter().chain(counts_of_look(book, *ticks))),
+            _ => (),
         }
         all
     }
 
+    /// From where a look goes, how far, and how near to the block's end.
+    fn counts_of_look(book: &Book, ticks: u64) -> Vec<&'static str> {
+        let from = match book.block {
+            None => "from idle",
+            Some(_) if book.held => "from held",
+            Some(block) if book.settings.q0() / block.f >= 100 => "at a slow feed",
+            Some(Block { path: Path::Line, .. }) => "on a line",
+            Some(Block { path: Path::Arc { .. }, .. }) => "on an arc",
+        };
+        let far = match ticks {
+            0 => "of none",
+            1 => "of one",
+            999_999 => "of one less than the most",
+            1_000_000 => "of the most",
+            1_000_001 => "of one too many",
+            u64::MAX => "of the greatest number",
+            _ => "of some",
+        };
+        let end = to_the_end(book);
+        let near = match (book.block.is_some() && !book.held).then(|| end.abs_diff(ticks)) {
+            Some(0) => "to the end",
+            Some(1) if ticks < end => "to just before the end",
+            Some(1) => "to just after the end",
+            _ => "to elsewhere",
+        };
+        vec![from, far, near]
+    }
+
+    type Met = HashMap<(&'static str, String), u64>;
+
+    fn met() -> &'static Met {
+        static MET: OnceLock<Met> = OnceLock::new();
+        MET.get_or_init(meet)
+    }
+
     /// How often each answer turns up in each count, by its first word, a refusal by its number too.
-    fn met() -> HashMap<(&'static str, String), u64> {
+    fn meet() -> Met {
         let mut met = HashMap::new();
         for index in 0..3_000 {
             let mut runner = Runner::fresh();
@@ -540,6 +622,32 @@ mod tests {
         }
         assert!(times("text", "refused 9") > 20 && times("text at work", "none") > 3);
         assert_eq!((times("text", "refused 13"), times("text at work", "bits"), times("any", "refused 0")), (0, 0, 0));
+    }
+
+    /// Looks and jumps from everywhere and of every length, refused ones too.
+    #[test]
+    fn histories_hold_every_look() {
+        let met = met();
+        let times = |count, key: &str| met.get(&(count, key.to_string())).copied().unwrap_or(0);
+        for count in ["ahead", "jump", "from idle", "from held", "at a slow feed", "on a line", "on an arc"] {
+            assert!(times(count, "ahead") > 50 && times(count, "refused 38") > 20, "{count}");
+        }
+        for count in ["of none", "of one", "of some", "to the end", "to just before the end", "to just after the end"] {
+            assert!(times(count, "ahead") > 100, "{count}");
+        }
+        assert!(times("of one less than the most", "ahead") > 2 && times("of the most", "ahead") > 5);
+        assert!(times("of one too many", "refused 38") > 100 && times("of the greatest number", "refused 38") > 50);
+        assert!(times("ahead of an unsound record", "refused 9") > 50 && times("jump of an unsound record", "refused 9") > 20);
+    }
+
+    /// What is generated says of which level it is.
+    #[test]
+    fn the_level_stands_first() {
+        let mut out = Vec::new();
+        write_calls(1, 2, &mut out).unwrap();
+        let text = String::from_utf8(out).unwrap();
+        assert!(text.starts_with("# level 1\n# history 0 of seed 1\n> "));
+        assert_eq!(text.matches("# level").count(), 1);
     }
 
     #[test]

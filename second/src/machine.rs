@@ -1,13 +1,23 @@
 //! "Any call on a record: is it sound? 9." A refused call leaves the record as it is, so an unsound
 //! record stays one; that a call on a sound one answers a sound one is tried in demand3.rs.
 
+use crate::ahead::ahead;
 use crate::book::{Book, Load, Why};
+use crate::point::{Point, ORIGIN};
 use crate::settings::Settings;
 use crate::sound::{book_of, record_of, Record};
 
+#[derive(Clone)]
 pub enum Machine {
     Sound(Book),
     Unsound(Record),
+}
+
+/// What a look-ahead gives, a refused one too.
+pub struct Ahead {
+    pub refusal: Option<u32>,
+    pub then: Machine,
+    pub sums: Point,
 }
 
 const UNSOUND: u32 = 9;
@@ -66,6 +76,14 @@ impl Machine {
     pub fn stop(&mut self) -> Result<(), u32> {
         self.asked()?.stop();
         Ok(())
+    }
+
+    /// "A refusal gives the machine's own record and sums of 0."
+    pub fn ahead(&self, ticks: u64) -> Ahead {
+        match self.book().ok_or(UNSOUND).and_then(|book| ahead(book, ticks)) {
+            Ok((book, sums)) => Ahead { refusal: None, then: Machine::Sound(book), sums },
+            Err(number) => Ahead { refusal: Some(number), then: self.clone(), sums: ORIGIN },
+        }
     }
 
     pub fn record(&self) -> Record {

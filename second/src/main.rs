@@ -1,5 +1,6 @@
 //! A second opinion on the pulse core, written from document 01's words alone. See README.md.
 
+mod ahead;
 mod arc;
 mod book;
 mod calls;
