@@ -1,0 +1,46 @@
+-- A whole job after so many ticks. 02 §1, Where will it be?: "Operators ask for the point and block state after a given number of ticks, to
+-- place a clamp." It is said by runs and ticks, not by the closed forms that the code uses.
+use mathlib.Core.Bool.{cond}
+use mathlib.Core.List.{List, [], _∷_}
+use Prim.Native.Nat.{ℕ, _+_, _-_}
+use lib.Dec.{leb, ltb}
+use lib.ListN.{length}
+use Rattle.machine.specs.declared.Machine.{Machine}
+use Rattle.machine.specs.Run.{runOf}
+use Rattle.ahead.specs.Ahead.{tickingOf}
+use Rattle.reader.specs.declared.Reader.{Reader}
+use Rattle.reader.specs.declared.«text_line».Read.{Read}
+use Rattle.reader.specs.Reader.{unknown}
+use Rattle.reader.specs.TextLine.{readLineOf}
+use Rattle.job.specs.Text.{linesOf}
+use Rattle.job.specs.Calls.{enough}
+use Rattle.seek.specs.declared.Found.{Found}
+use Rattle.seek.specs.declared.Sought.{Sought}
+
+abbrev pub answer : Found → (block line n : ℕ) → Machine → Sought
+answer found block line n m = record { found = found; block = block; line = line; ticks = n; machine = m }
+
+-- A block newly in work, with n ticks to go. Where its run to the end does more, it is still in work after n tick calls: 02 §1, "the record
+-- .. that the same ticks would give on a copy". Else the job goes on where that run leaves the machine, also where it does just n.
+abbrev pub afterBlock : (block line n : ℕ) → Machine → (rest : (n : ℕ) → Machine → Sought) → Sought
+afterBlock block line n m rest =
+    let x = runOf m enough enough .ran in
+    cond (ltb n (x .ticks)) (answer Found.InWork block line n (tickingOf n m .machine)) (rest (n - x .ticks) (x .machine))
+
+-- what a line's reading answers, with so many blocks before it
+abbrev pub afterRead : (blocks line n : ℕ) → Machine → Read → (rest : (blocks n : ℕ) → Machine → Sought) → Sought
+afterRead blocks line n m Read.Nothing rest = rest blocks n m
+afterRead blocks line n m (Read.Loaded bits) rest = afterBlock (blocks + 1) line n m (rest (blocks + 1))
+afterRead blocks line n m (Read.Refused number) rest = answer (Found.Refused number) blocks line n m
+
+-- 01, The check program: "Each block is loaded once the one before has ended, remainder kept." After the last line the job is over, with
+-- n ticks left. So many blocks and lines stand before these.
+unfoldable pub seekFrom : (blocks lines n : ℕ) → Machine → Reader → (rest : List (List ℕ)) → Sought
+seekFrom blocks lines n m k [] = answer Found.Over blocks lines n m
+seekFrom blocks lines n m k (l ∷ ls) =
+    let r = readLineOf k m l in
+    afterRead blocks (lines + 1) n (r .machine) (r .answer) (λ blocks′ n′ m′. seekFrom blocks′ (lines + 1) n′ m′ (r .reader) ls)
+
+-- "is the text at most 65,536 bytes (asked once, line 1)? 30."
+unfoldable pub seekOf : Machine → (text : List ℕ) (n : ℕ) → Sought
+seekOf m text n = cond (leb (length text) 65536) (seekFrom 0 0 n m unknown (linesOf text)) (answer (Found.Refused 30) 0 1 n m)

@@ -1,0 +1,66 @@
+-- A run to the end of any sound record is what finishing it gives, in ticks and in the record left.
+use mathlib.Core.Path.{_≡_, refl, ap, _∙_}
+use mathlib.Core.Bool.{Bool, true, false}
+use Prim.Native.Nat.{ℕ, _+_, _-_}
+use lib.Dec.{ltb}
+use Rattle.ahead.specs.Ahead.{tickingOf}
+use Rattle.machine.specs.declared.Machine.{Machine}
+use Rattle.machine.specs.declared.Ran.{Ran}
+use Rattle.machine.specs.Run.{runOf}
+use Rattle.machine.specs.laws.Run.{ticks-are}
+use Rattle.finish.specs.declared.Finished.{Finished}
+use Rattle.finish.specs.Finish.{worksOf, finishOf}
+use Rattle.finish.specs.laws.Record.{works, ticks-most}
+use Rattle.finish.specs.laws.Run.{finish-is-run}
+use Rattle.reader.specs.declared.Reader.{Reader}
+use Rattle.job.specs.Calls.{enough}
+use Rattle.tape.specs.laws.Pieces.{still}
+use Rattle.seek.specs.declared.Found.{Found}
+use Rattle.seek.specs.declared.Search.{Search}
+use Rattle.seek.specs.Seek.{answer}
+use Rattle.seek.specs.laws.Search.{blockWith, blockOf}
+
+pub record Ends (m : Machine) : Type 0 where
+  pub ticks : runOf m enough enough .ran .ticks ≡ finishOf m .ticks
+  pub machine : runOf m enough enough .ran .machine ≡ finishOf m .machine
+
+-- held or idle neither does a tick
+resting : (m : Machine) → worksOf m ≡ false → Ends m
+unfolding finishOf
+resting m rests =
+    let s = still m rests enough enough in
+    record { ticks = ticks-are m enough enough ∙ rw (s .0, rests); machine = rw (s .1, rests) }
+
+pub run-ends : (m : Machine) → Ends m
+run-ends m = by (worksOf m) refl
+  where
+    by : (b : Bool) → worksOf m ≡ b → Ends m
+    by true e =
+        let is = finish-is-run m (works e) enough enough (ticks-most m) (ticks-most m) in
+        record { ticks = ap (λ (r : Ran). r .ticks) is; machine = ap (λ (r : Ran). r .machine) is }
+    by false e = resting m e
+
+-- a block of a search, finished
+module _ (s : Search) (k : Reader) (m : Machine) {f : Finished} (is : f ≡ finishOf m) where
+  block-ends : blockOf s k m ≡ blockWith s k m (f .ticks) (f .machine)
+  unfolding blockOf
+  block-ends = rw (is, run-ends m .ticks, run-ends m .machine)
+
+  abbrev n : ℕ
+  n = s .sought .ticks
+
+  pub block-here : ltb n (f .ticks) ≡ true → {then : Machine} → then ≡ tickingOf n m .machine
+      → record {
+        over = ltb n (f .ticks);
+        reader = k;
+        sought = answer Found.InWork (s .sought .block + 1) (s .sought .line + 1) n then;
+      } ≡ blockOf s k m
+  block-here more here = rw (block-ends, more, here)
+
+  pub block-on : ltb n (f .ticks) ≡ false
+      → record {
+        over = ltb n (f .ticks);
+        reader = k;
+        sought = answer Found.Over (s .sought .block + 1) (s .sought .line + 1) (n - f .ticks) (f .machine);
+      } ≡ blockOf s k m
+  block-on all = rw (block-ends, all)

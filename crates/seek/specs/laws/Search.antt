@@ -1,0 +1,138 @@
+-- A search between two lines, what a line makes of it, and that it finds what is sought.
+use mathlib.Core.Path.{_≡_, refl}
+use mathlib.Core.Bool.{Bool, true, false, cond, true≢false}
+use mathlib.Core.List.{List, _∷_}
+use Prim.Native.Nat.{ℕ, _+_, _-_, _≤_}
+use native.Mathlib.Omega.{arith}
+use lib.Dec.{ltb}
+use Rattle.machine.specs.declared.Machine.{Machine}
+use Rattle.machine.specs.Machine.{soundOf}
+use Rattle.machine.specs.Run.{runOf}
+use Rattle.ahead.specs.Ahead.{tickingOf}
+use Rattle.reader.specs.declared.Reader.{Reader}
+use Rattle.reader.specs.declared.«text_line».Read.{Read}
+use Rattle.reader.specs.declared.«text_line».ReadLine.{ReadLine}
+use Rattle.reader.specs.Reader.{unknown}
+use Rattle.reader.specs.TextLine.{readLineOf}
+use Rattle.job.specs.Calls.{enough}
+use Rattle.seek.specs.declared.Found.{Found}
+use Rattle.seek.specs.declared.Sought.{Sought}
+use Rattle.seek.specs.declared.Search.{Search}
+use Rattle.seek.specs.Seek.{answer, afterBlock, afterRead, seekFrom}
+
+-- ---- what the code's functions compute
+
+-- the counts before a line have room for it
+abbrev pub Counted : Search → Type 0
+Counted s = (s .sought .block ≤ s .sought .line) × (s .sought .line ≤ 65536)
+
+-- a line that made a block left a sound record
+abbrev pub Tested : ReadLine → Type 0
+Tested r = (bits : ℕ) → r .answer ≡ Read.Loaded bits → soundOf (r .machine) ≡ true
+
+unfoldable pub startOf : Machine → (n : ℕ) → Search
+startOf m n = record { over = false; reader = unknown; sought = answer Found.Over 0 0 n m }
+
+abbrev pub passedOf : Search → Reader → Machine → Search
+passedOf s k m =
+    record { over = false; reader = k; sought = answer Found.Over (s .sought .block) (s .sought .line + 1) (s .sought .ticks) m }
+
+-- a block, whose run to the end does so many ticks
+abbrev pub blockWith : Search → Reader → (loaded : Machine) (ticks : ℕ) (ended : Machine) → Search
+blockWith s k m t ended =
+    let block = s .sought .block + 1 in
+    let line = s .sought .line + 1 in
+    let n = s .sought .ticks in
+    let over = ltb n t in
+    record {
+      over = over;
+      reader = k;
+      sought = cond over (answer Found.InWork block line n (tickingOf n m .machine)) (answer Found.Over block line (n - t) ended);
+    }
+
+unfoldable pub blockOf : Search → Reader → (loaded : Machine) → Search
+blockOf s k m = let x = runOf m enough enough .ran in blockWith s k m (x .ticks) (x .machine)
+
+abbrev pub refusedOf : Search → Machine → (number : ℕ) → Search
+refusedOf s m number =
+    let t = s .sought in
+    record { over = true; reader = s .reader; sought = answer (Found.Refused number) (t .block) (t .line + 1) (t .ticks) m }
+
+abbrev pub lineWith : Search → Reader → Machine → Read → Search
+lineWith s k m Read.Nothing = passedOf s k m
+lineWith s k m (Read.Loaded bits) = blockOf s k m
+lineWith s k m (Read.Refused number) = refusedOf s m number
+
+abbrev pub lineOf : Search → ReadLine → Search
+lineOf s r = lineWith s (r .reader) (r .machine) (r .answer)
+
+-- ---- what is sought is found
+
+-- what a search that goes on is still to find in these lines
+abbrev pub sought : Search → (lines : List (List ℕ)) → Sought
+sought s ls = let t = s .sought in seekFrom (t .block) (t .line) (t .ticks) (t .machine) (s .reader) ls
+
+abbrev pub found : Search → (lines : List (List ℕ)) → Sought
+found s ls = cond (s .over) (s .sought) (sought s ls)
+
+block-found : (s : Search) (k : Reader) (m : Machine) (ls : List (List ℕ))
+    → (let b = s .sought .block + 1 in
+    let l = s .sought .line + 1 in
+    afterBlock b l (s .sought .ticks) m (λ n m′. seekFrom b l n m′ k ls) ≡ found (blockOf s k m) ls)
+unfolding blockOf
+block-found s k m ls = by (ltb (s .sought .ticks) (runOf m enough enough .ran .ticks))
+  where
+    by : (over : Bool)
+        → (let b = s .sought .block + 1 in
+        let l = s .sought .line + 1 in
+        let n = s .sought .ticks in
+        let x = runOf m enough enough .ran in
+        let here = answer Found.InWork b l n (tickingOf n m .machine) in
+        let on = answer Found.Over b l (n - x .ticks) (x .machine) in
+        cond over here (seekFrom b l (n - x .ticks) (x .machine) k ls)
+        ≡ found (record { over = over; reader = k; sought = cond over here on }) ls)
+    by true = refl
+    by false = refl
+
+-- a line takes the first of the lines that are left
+pub line-found : (s : Search) (l : List ℕ) (ls : List (List ℕ)) {r : ReadLine} → r ≡ readLineOf (s .reader) (s .sought .machine) l
+    → sought s (l ∷ ls) ≡ found (lineOf s r) ls
+unfolding seekFrom
+line-found s l ls {r} read = rw (← read) (by (r .answer))
+  where
+    by : (a : Read)
+        → (let t = s .sought in
+        afterRead (t .block) (t .line + 1) (t .ticks) (r .machine) a (λ b n m. seekFrom b (t .line + 1) n m (r .reader) ls)
+        ≡ found (lineWith s (r .reader) (r .machine) a) ls)
+    by Read.Nothing = refl
+    by (Read.Loaded bits) = block-found s (r .reader) (r .machine) ls
+    by (Read.Refused number) = refl
+
+-- a line that is counted, with its block
+pub record Onward (s t : Search) : Type 0 where
+  pub blocks : t .sought .block ≤ s .sought .block + 1
+  pub lines : t .sought .line ≡ s .sought .line + 1
+  pub going : t .over ≡ false → t .sought .found ≡ Found.Over
+
+pub line-onward : (s : Search) (r : ReadLine) → Onward s (lineOf s r)
+unfolding blockOf
+line-onward s r = by (r .answer)
+  where
+    block : (over : Bool) (m n : Machine) (k : ℕ)
+        → (let b = s .sought .block + 1 in
+        let l = s .sought .line + 1 in
+        Onward s (record {
+          over = over;
+          reader = r .reader;
+          sought = cond over (answer Found.InWork b l (s .sought .ticks) m) (answer Found.Over b l k n);
+        }))
+    block true m n k = record { blocks = omega arith; lines = refl; going = λ e. absurd (true≢false e) }
+    block false m n k = record { blocks = omega arith; lines = refl; going = λ e. refl }
+
+    by : (a : Read) → Onward s (lineWith s (r .reader) (r .machine) a)
+    by Read.Nothing = record { blocks = omega arith; lines = refl; going = λ e. refl }
+    by (Read.Loaded bits) =
+        let x = runOf (r .machine) enough enough .ran in
+        let n = s .sought .ticks in
+        block (ltb n (x .ticks)) (tickingOf n (r .machine) .machine) (x .machine) (n - x .ticks)
+    by (Read.Refused number) = record { blocks = omega arith; lines = refl; going = λ e. absurd (true≢false e) }

@@ -1,0 +1,81 @@
+-- The loop over the lines: before each, what the search is still to find is what is sought.
+use mathlib.Core.Path.{_≡_, refl, sym, ap, _∙_}
+use mathlib.Core.Bool.{Bool, true, false, cond}
+use mathlib.Core.List.{List}
+use Prim.Native.Nat.{ℕ, suc, _+_, _≤_, _<_}
+use native.Mathlib.Omega.{arith}
+use lib.ListN.{length, drop, length-drop, drop-of-length-le}
+use lib.Seq.{drop-drop}
+use borrow.Author.Tests.{le-leb, lt-leb}
+use Rattle.words.specs.laws.Scan.{firstLine}
+use Rattle.machine.specs.declared.Machine.{Machine}
+use Rattle.reader.specs.declared.«text_line».ReadLine.{ReadLine}
+use Rattle.reader.specs.TextLine.{readLineOf}
+use Rattle.job.specs.Text.{linesOf}
+use Rattle.job.specs.laws.Text.{lines-next}
+use Rattle.seek.specs.declared.Found.{Found}
+use Rattle.seek.specs.declared.Sought.{Sought}
+use Rattle.seek.specs.declared.Search.{Search}
+use Rattle.seek.specs.Seek.{seekFrom, seekOf}
+use Rattle.seek.specs.laws.Search.{startOf, refusedOf, lineOf, sought, found, Counted, line-found, line-onward}
+
+pub start-counted : (m : Machine) (n : ℕ) {s : Search} → s ≡ startOf m n → Counted s
+unfolding startOf
+start-counted m n is = rw is (omega arith, omega arith)
+
+pub seek-long : (m : Machine) (text : List ℕ) (n : ℕ) → 65536 < length text → refusedOf (startOf m n) m 30 .sought ≡ seekOf m text n
+unfolding seekOf startOf
+seek-long m text n long = rw (lt-leb (length text) 65536 long)
+
+pub seek-short : (m : Machine) (text : List ℕ) (n : ℕ) → length text ≤ 65536 → sought (startOf m n) (linesOf text) ≡ seekOf m text n
+unfolding seekOf startOf
+seek-short m text n short = rw (le-leb (length text) 65536 short)
+
+-- the lines before `at` are read, and what is left of the text holds the answer
+pub record Seeking (text : List ℕ) (answer : Sought) (s : Search) (at : ℕ) : Type 0 where
+  pub rest : sought s (linesOf (drop at text)) ≡ answer
+  pub going : s .sought .found ≡ Found.Over
+  pub blocks : s .sought .block ≤ s .sought .line
+  pub lines : s .sought .line ≤ at
+  pub short : length text ≤ 65536
+
+pub seeking-start : (m : Machine) (text : List ℕ) (n : ℕ) {s : Search} → s ≡ startOf m n → length text ≤ 65536
+    → Seeking text (sought s (linesOf text)) s 0
+unfolding startOf
+seeking-start m text n is short = rw is (record { rest = refl; going = refl; blocks = omega arith; lines = omega arith; short = short })
+
+module _ {text : List ℕ} {answer : Sought} {s : Search} {at : ℕ} (g : Seeking text answer s at) where
+  -- no line is left
+  pub seeking-end : length text ≤ at → s .sought ≡ answer
+  unfolding seekFrom linesOf
+  seeking-end end =
+      let t = s .sought in
+      (λ i. record { found = g .going i; block = t .block; line = t .line; ticks = t .ticks; machine = t .machine })
+      ∙ rw (drop-of-length-le text end) at (g .rest)
+
+  module _ (more : at < length text) where
+    pub counted : Counted s
+    counted = (g .blocks, omega (arith, g .lines, g .short))
+
+    module _ {r : ReadLine} (read : r ≡ readLineOf (s .reader) (s .sought .machine) (firstLine (drop at text))) where
+      cut : found (lineOf s r) (linesOf (drop (suc (length (firstLine (drop at text)))) (drop at text))) ≡ answer
+      cut =
+          let some : 1 ≤ length (drop at text) = rw (length-drop at text) (omega arith) in
+          sym (line-found s (firstLine (drop at text)) _ read) ∙ ap (sought s) (sym (lines-next (drop at text) some)) ∙ g .rest
+
+      pub seeking-found : lineOf s r .over ≡ true → lineOf s r .sought ≡ answer
+      seeking-found over = rw over at cut
+
+      module _ {bytes : ℕ} (first : bytes ≡ length (firstLine (drop at text))) where
+        pub seeking-on : lineOf s r .over ≡ false → Seeking text answer (lineOf s r) (at + bytes + 1)
+        seeking-on on =
+            let o = line-onward s r in
+            let same : at + suc (length (firstLine (drop at text))) ≡ at + bytes + 1 = omega (arith, first) in
+            let after = drop-drop _ at text ∙ ap (λ (k : ℕ). drop k text) same in
+            record {
+              rest = rw (on, after) at cut;
+              going = o .going on;
+              blocks = omega (arith, o .blocks, o .lines, g .blocks);
+              lines = omega (arith, o .lines, g .lines);
+              short = g .short;
+            }

@@ -1,0 +1,173 @@
+// Where a whole job stands after so many ticks: the block in work then, its text line, and the record. No tick is done: the blocks
+// before it are finished, and the record after some of its own ticks is found, by closed forms, so the cost grows with the text alone.
+ghost use mathlib.Core.Path.{_≡_};
+ghost use mathlib.Core.Bool.{true};
+ghost use Rattle.machine.specs.Machine.{soundOf};
+ghost use Rattle.seek.specs.Seek.{seekOf};
+ghost use Rattle.seek.specs.laws.Search.{Counted, Tested, startOf, passedOf, blockOf, refusedOf, lineOf};
+use ahead::after_ticks;
+use finish::finish;
+use machine::Machine;
+use reader::Reader;
+use reader::text_line::Read;
+use reader::text_line::ReadLine;
+use reader::text_line::read_first;
+
+// What the ticks come to: a block is in work, or all blocks have ended, or a line before that is refused, with the number of the question.
+pub enum Found {
+    InWork,
+    Over,
+    Refused(u64),
+}
+
+pub struct Sought {
+    pub found: Found,
+    // The block in work, counted from 1; else how many blocks have ended.
+    pub block: u64,
+    // The text line of the block in work, or the refused one, counted from 1; else how many lines there are.
+    pub line: u64,
+    // Those done of the block in work; else those that are left over.
+    pub ticks: u64,
+    pub machine: Machine,
+}
+
+// A search between two lines. `sought` is the answer where the text ends there, or where the search is over before.
+struct Search {
+    over: bool,
+    reader: Reader,
+    sought: Sought,
+}
+
+impl Search {
+    fn start(machine: Machine, ticks: u64) -> Search
+        ensures { λ r. ⌜ r ≡ startOf machine ticks ⌝ }
+    {
+        let reader = Reader::start();
+        let sought = Sought {
+            found: Found::Over,
+            block: 0,
+            line: 0,
+            ticks: ticks,
+            machine: machine,
+        };
+        Search {
+            over: false,
+            reader: reader,
+            sought: sought,
+        }
+    }
+
+    // The next line makes no block.
+    fn passed(self, reader: Reader, machine: Machine) -> Search
+        requires { ⌜ Counted self ⌝ }
+        ensures { λ r. ⌜ r ≡ passedOf self reader machine ⌝ }
+    {
+        let s = self.sought;
+        let next = Sought {
+            found: Found::Over,
+            block: s.block,
+            line: s.line + 1,
+            ticks: s.ticks,
+            machine: machine,
+        };
+        Search {
+            over: false,
+            reader: reader,
+            sought: next,
+        }
+    }
+
+    // The next line brought a block into work: the one sought, or it ends with ticks left over.
+    fn block(self, reader: Reader, loaded: Machine) -> Search
+        requires { ⌜ Counted self × (soundOf loaded ≡ true) ⌝ }
+        ensures { λ r. ⌜ r ≡ blockOf self reader loaded ⌝ }
+    {
+        let s = self.sought;
+        let done = finish(loaded);
+        let over = s.ticks < done.ticks;
+        let next = if over {
+            Sought {
+                found: Found::InWork,
+                block: s.block + 1,
+                line: s.line + 1,
+                ticks: s.ticks,
+                machine: after_ticks(loaded, s.ticks),
+            }
+        } else {
+            let ended = done.machine;
+            Sought {
+                found: Found::Over,
+                block: s.block + 1,
+                line: s.line + 1,
+                ticks: s.ticks - done.ticks,
+                machine: ended,
+            }
+        };
+        Search {
+            over: over,
+            reader: reader,
+            sought: next,
+        }
+    }
+
+    // The next line is refused.
+    fn refused(self, machine: Machine, number: u64) -> Search
+        requires { ⌜ Counted self ⌝ }
+        ensures { λ r. ⌜ r ≡ refusedOf self machine number ⌝ }
+    {
+        let reader = self.reader;
+        let s = self.sought;
+        let next = Sought {
+            found: Found::Refused(number),
+            block: s.block,
+            line: s.line + 1,
+            ticks: s.ticks,
+            machine: machine,
+        };
+        Search {
+            over: true,
+            reader: reader,
+            sought: next,
+        }
+    }
+
+    // What the next line, read, makes of the search.
+    fn line(self, read: ReadLine) -> Search
+        requires { ⌜ Counted self × Tested read ⌝ }
+        ensures { λ r. ⌜ r ≡ lineOf self read ⌝ }
+    {
+        let reader = read.reader;
+        let machine = read.machine;
+        let answer = read.answer;
+        match answer {
+            Read::Nothing => self.passed(reader, machine),
+            Read::Loaded(_) => self.block(reader, machine),
+            Read::Refused(number) => self.refused(machine, number),
+        }
+    }
+}
+
+// After so many ticks of a job that begins at this machine.
+pub fn seek(machine: Machine, text: &[u8], ticks: u64) -> Sought
+    ensures { λ r. ⌜ r ≡ seekOf machine (now (text .entry)) ticks ⌝ }
+{
+    let mut search = Search::start(machine, ticks);
+    if 65_536 < text.len() {
+        let long = search.refused(machine, 30);
+        return long.sought;
+    }
+    let mut at = 0;
+    while at < text.len() {
+        let known = search.reader;
+        let stood = search.sought;
+        let before = stood.machine;
+        let first = read_first(known, before, &text[at..]);
+        let read = first.read;
+        search = search.line(read);
+        if search.over {
+            return search.sought;
+        }
+        at = at + first.bytes + 1;
+    }
+    search.sought
+}
