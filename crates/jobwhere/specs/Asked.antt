@@ -1,0 +1,28 @@
+-- What the first line asks for: a number of ticks in decimal digits, from 0 to 2^64 - 1, and an LF. The job begins after it.
+use mathlib.Core.Bool.{cond, _&&_}
+use mathlib.Core.List.{List, [], _∷_}
+use Prim.Native.Nat.{ℕ, _+_, _-_, _*_, _^_}
+use lib.Dec.{leb, ltb, eqb}
+use Rattle.jobwhere.specs.declared.Asked.{Asked}
+use Rattle.jobwhere.specs.declared.Pushed.{Pushed}
+
+-- a digit, from '0', byte 48, to '9', after the digits that write n
+unfoldable pub pushedOf : (n b : ℕ) → Pushed
+pushedOf n b =
+    let more = n * 10 + (b - 48) in
+    cond (leb 48 b && (leb b 57 && ltb more (2 ^ 64))) (Pushed.Number more) Pushed.Nothing
+
+abbrev pub onward : Pushed → (rest : ℕ → Asked) → Asked
+onward (Pushed.Number n) rest = rest n
+onward Pushed.Nothing rest = Asked.Nothing
+
+-- after so many digits, which write n: at least one and at most 20, so that no zeros in front push the job out of the buffer
+unfoldable pub askedFrom : (n digits : ℕ) → List ℕ → Asked
+askedFrom n digits [] = Asked.Nothing
+askedFrom n digits (b ∷ s) =
+    cond (eqb b 10)
+    (cond (eqb digits 0) Asked.Nothing (Asked.Ticks n (digits + 1)))
+    (cond (eqb digits 20) Asked.Nothing (onward (pushedOf n b) (λ more. askedFrom more (digits + 1) s)))
+
+abbrev pub askedOf : (text : List ℕ) → Asked
+askedOf text = askedFrom 0 0 text

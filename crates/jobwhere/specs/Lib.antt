@@ -1,0 +1,3 @@
+-- To be believed: Asked. Proved of it: laws.
+pub mod Asked
+pub mod laws
