@@ -17,6 +17,7 @@ use Rattle.job.specs.Calls.{enough}
 use Rattle.seek.specs.declared.Found.{Found}
 use Rattle.seek.specs.declared.Sought.{Sought}
 
+-- the block and the text line, counted from 1, and the ticks done of it; with no block in work, how many of both, and the ticks left over
 abbrev pub answer : Found → (block line n : ℕ) → Machine → Sought
 answer found block line n m = record { found = found; block = block; line = line; ticks = n; machine = m }
 
