@@ -104,7 +104,7 @@ static int64_t spoil(const int64_t *words, int64_t at)
     }
 }
 
-/* ---- looks ahead */
+/* ---- look-aheads */
 
 /* By closed forms, on words that may be no record: answer, record ahead and sums; and neither side writes to the words. */
 static void agree_ahead(const int64_t *words, uint64_t ticks)

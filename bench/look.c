@@ -1,4 +1,4 @@
-/* The look ahead in plain C: tick by tick, and by closed forms as the core has it. */
+/* The look-ahead in plain C: tick by tick, and by closed forms as the core has it. */
 #include "arc.h"
 #include "cycle.h"
 

@@ -1,4 +1,4 @@
-/* The table of the look ahead. */
+/* The table of the look-ahead. */
 #include "works.h"
 
 #include "verdaizka.h"
@@ -71,7 +71,7 @@ const struct way look_ways[LOOK_WAYS] = {
     [LOOK_BY_TICK] = { "C tick loop", looks_by_tick },
     { "C closed form, words", looks_c },
 };
-static const struct goal look_goal = { "look ahead", TICK, 10 };
+static const struct goal look_goal = { "look-ahead", TICK, 10 };
 
 #define LOOK(NAME, ARC, PART, TICKS) { NAME, ARC, PART, TICKS, 0, 4000, 1, { &look_goal } }
 const struct work look_works[LOOK_WORKS] = {

@@ -1,4 +1,4 @@
-/* The machine in plain C: the test of the record (01, "sound"), tick, load, stop and look ahead. */
+/* The machine in plain C: the test of the record (01, "sound"), tick, load, stop and look-ahead. */
 #include "arc.h"
 #include "cycle.h"
 #include "root.h"

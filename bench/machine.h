@@ -75,7 +75,7 @@ int64_t c_stop_in(struct machine *m);
 /* So many ticks at once, of a record that has been tested. */
 void c_skip(struct machine *m, int64_t ticks);
 
-/* A look ahead: the machine goes so many ticks on. */
+/* A look-ahead: the machine goes so many ticks on. */
 int64_t c_ahead_in(struct machine *m, uint64_t ticks);
 
 #endif

@@ -1,6 +1,6 @@
 /* Plain programs of the core's semantics, as a firmware engineer would write them, for timing beside it: one in C (plain.c,
  * machine.c, look.c, words.c) and one in Rust (plain.rs, path.rs, machine.rs, words.rs). Both offer the same functions, c_.. and
- * rust_.., but the look ahead, which C alone has. */
+ * rust_.., but the look-ahead, which C alone has. */
 #ifndef PLAIN_H
 #define PLAIN_H
 
@@ -69,7 +69,7 @@ typedef uint64_t plain_loads(int64_t *words, const struct plain_block *block, ui
 PLAIN_SIDE(c)
 PLAIN_SIDE(rust)
 
-/* A look ahead. By closed forms on the record's words, which stay; the record ahead, or on a refusal the same, goes to other words.
+/* A look-ahead. By closed forms on the record's words, which stay; the record ahead, or on a refusal the same, goes to other words.
  * And tick by tick, from a block's registers, which are not tested. */
 struct plain_sums {
     int64_t x, y;

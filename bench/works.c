@@ -258,7 +258,7 @@ const struct table tables[] = {
     TABLE("run", "tick", 4, run, -1),
     TABLE("single tick", "call", 2000, tick, -1),
     TABLE("load", "pair of calls", 1000, load, -1),
-    TABLE("look ahead", "look", 1000, look, LOOK_BY_TICK),
+    TABLE("look-ahead", "look", 1000, look, LOOK_BY_TICK),
     TABLE("least root", "call", 1000, root, -1),
 };
 const int table_count = COUNT(tables);

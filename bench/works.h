@@ -20,7 +20,7 @@ struct work {
     const char *name;
     int arc;
     uint64_t part;   /* the feed is the capacity divided by this */
-    uint64_t given;  /* the number whose root is taken, or the ticks of a look ahead */
+    uint64_t given;  /* the number whose root is taken, or the ticks of a look-ahead */
     int waits;       /* each root waits for the one before it */
     uint64_t times;  /* how often the work is done between two looks at the clock */
     uint64_t units;  /* in one time: the bytes that a run fills, or 1 */
@@ -57,7 +57,7 @@ plain_call core_tick, core_stop;
 plain_load core_load;
 plain_ahead core_ahead;
 
-/* The look ahead: its table's ways and works. */
+/* The look-ahead: its table's ways and works. */
 enum { LOOK_WAYS = 4, LOOK_WORKS = 12, LOOK_BY_TICK = 2 };
 extern const struct way look_ways[LOOK_WAYS];
 extern const struct work look_works[LOOK_WORKS];

@@ -23,7 +23,7 @@ static vz_record fresh(void)
     return m;
 }
 
-/* A refused look ahead gives the record's own words and sums of 0. */
+/* A refused look-ahead gives the record's own words and sums of 0. */
 static void look_refused(const char *what, const vz_record *m, uint64_t ticks, int64_t number)
 {
     vz_record own = *m, then;

@@ -14,7 +14,7 @@ pub const KNOWN_WORDS: usize = 2;
 /// How far a check has come, in words of 64 bits.
 pub const PROGRESS_WORDS: usize = 8;
 
-/// As far as a look ahead goes, in ticks.
+/// As far as a look-ahead goes, in ticks.
 pub const AHEAD_TICKS: u64 = 1_000_000;
 
 /// Word 0 of every record: the layout that this file knows. Words with another number there are no record.
@@ -132,7 +132,7 @@ pub enum Why {
     Full,
 }
 
-/// What a look ahead gives: the machine so many ticks on, and the sum of the pulses of those ticks on each axis, plus ones less minus ones.
+/// What a look-ahead gives: the machine so many ticks on, and the sum of the pulses of those ticks on each axis, plus ones less minus ones.
 /// Of a refused look these are the machine as it stands, and 0.
 #[derive(Clone, PartialEq, Eq, Debug)]
 pub struct Ahead {

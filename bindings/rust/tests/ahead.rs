@@ -1,4 +1,4 @@
-//! A look ahead is what so many ticks give on a copy: the record in every word, and the pulses of their bytes. The machine stays as it is.
+//! A look-ahead is what so many ticks give on a copy: the record in every word, and the pulses of their bytes. The machine stays as it is.
 
 use verdaizka::{word, Ahead, Block, Machine, Refused, Settings, Turn, Work, AHEAD_TICKS, USUAL};
 

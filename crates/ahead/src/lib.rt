@@ -22,7 +22,7 @@ pub struct Sums {
     pub y: i64,
 }
 
-// What a look ahead answers: Done, or the number of a question.
+// What a look-ahead answers: Done, or the number of a question.
 pub struct Ahead {
     pub answer: Answer,
     // The record that the ticks would give, and their pulses; of a refusal the machine's own record, and 0.

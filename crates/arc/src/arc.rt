@@ -1,4 +1,4 @@
-// An arc in work: the points that it visits, its test, and one cycle onward.
+// An arc in work: the points that it visits, its test, and one cycle onward or many.
 ghost use mathlib.Core.Path.{_≡_};
 ghost use mathlib.Core.Bool.{true};
 ghost use Prim.Native.Nat.{_≤_};

@@ -88,7 +88,7 @@ pub record RunOnWords (before : List ℤ) (budget : ℕ) (out out′ : RefT (Lis
   pub others : NoRecord before → (n ≡ negsuc 8) × (ticks ≡ 0) × (after ≡ before) × (now out′ ≡ now out)
   pub refused : (k : ℕ) → n ≡ negsuc k → (ticks ≡ 0) × (after ≡ before) × (now out′ ≡ now out)
 
--- of a look ahead, the words of the record that it gives, and the sums; those of the machine itself are lent for reading
+-- of a look-ahead, the words of the record that it gives, and the sums; those of the machine itself are lent for reading
 pub record LookOnWords (before : List ℤ) (ticks : ℕ) (n : ℤ) (then sums : List ℤ) : Type 0 where
   pub own : (m : Machine) → Sound m → before ≡ encodeOf m
       → (r : Ahead) × Looks m ticks r × (n ≡ answerNumber (r .answer)) × Sound (r .then) × (then ≡ encodeOf (r .then))

@@ -1,5 +1,5 @@
--- 01, "Questions, and the number when the answer is no": what each call is asked, question by question. 1, 2, 3 and the list behind 9 are
--- in Sound; 30, which is asked of a whole text, is in Texts.
+-- 01, "Questions, and the number when the answer is no", and 02's 38: what each call is asked, question by question. 1, 2, 3 and the list
+-- behind 9 are in Sound; 30, which is asked of a whole text, is in Texts.
 use mathlib.Core.Path.{_≡_}
 use mathlib.Core.Bool.{Bool, true, false}
 use mathlib.Core.Logic.{_≢_}

@@ -61,7 +61,7 @@ pub fn every_list()
     ensures { λ _. ⌜ EveryList ⌝ }
 {}
 
-// Request 1: after any history, a look ahead tells what so many more ticks of it give.
+// Request 1: from any sound record, and so after any history, a look-ahead tells what so many more ticks give.
 pub fn every_look()
     ensures { λ _. ⌜ EveryLook ⌝ }
 {}

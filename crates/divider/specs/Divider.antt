@@ -23,7 +23,6 @@ unfoldable pub cyclesIn : (q0 f r t : ℕ) → ℕ
 cyclesIn q0 f r zero = 0
 cyclesIn q0 f r (suc t) = cond (fedOf q0 f (remainderAfter q0 f r t) .cycle) (suc (cyclesIn q0 f r t)) (cyclesIn q0 f r t)
 
--- both, after t working ticks
 abbrev pub goneOf : (q0 f r t : ℕ) → Gone
 goneOf q0 f r t = record { cycles = cyclesIn q0 f r t; remainder = remainderAfter q0 f r t }
 

@@ -1,5 +1,5 @@
--- What a look ahead tells a caller in C, for any words whatever: 02 §1, "It gives the record and the signed pulse sum per axis that the same
--- ticks would give on a copy. The machine itself comes back unchanged.", whose words are lent for reading alone.
+-- What a look-ahead tells a caller in C, for any words whatever: 02 §1, "It gives the record and the signed pulse sum per axis that the
+-- same ticks would give on a copy. The machine itself comes back unchanged.", whose words are lent for reading alone.
 use mathlib.Core.Bool.{cond}
 use mathlib.Core.List.{List, [], _∷_}
 use Prim.Native.Nat.{ℕ}

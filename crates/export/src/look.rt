@@ -1,4 +1,5 @@
-// The look ahead for C. The record is lent for reading alone; the one ahead and the sums go to words of the caller's, which are always written.
+// The look-ahead for C. The record is lent for reading alone; the one ahead and the sums go to words of the caller's, which are always
+// written.
 ghost use mathlib.Core.Path.{_≡_};
 ghost use Rattle.export.specs.Looks.{sumWords, tellsAhead, toldAheadOf};
 use crate::answer::answer_number;

@@ -1,6 +1,7 @@
 -- 02 §1, Where will it be?: "It gives the record and the signed pulse sum per axis that the same ticks would give on a copy. The machine
 -- itself comes back unchanged." What it refuses is in crate demands.
 use mathlib.Core.Path.{_≡_}
+use mathlib.Core.Bool.{true}
 use mathlib.Core.List.{List, [], _∷_, _++_}
 use Prim.Native.Nat.{ℕ, zero, suc, _+_, _≤_}
 use lib.IntN.{_+ℤ_, _-ℤ_}
@@ -9,6 +10,7 @@ use Rattle.settings.specs.declared.Settings.{Settings}
 use Rattle.machine.specs.declared.Machine.{Machine}
 use Rattle.machine.specs.declared.Answer.{Answer}
 use Rattle.machine.specs.declared.Answered.{Answered}
+use Rattle.machine.specs.Machine.{soundOf}
 use Rattle.book.specs.Book.{Call, Reply}
 use Rattle.book.specs.Sums.{pulsesSent}
 use Rattle.ahead.specs.declared.Ahead.{Ahead}
@@ -30,15 +32,18 @@ pub record Foretold (m : Machine) (r : Ahead) (rs : List Reply) (m′ : Machine)
   pub pulses-y : r .sums .y ≡ pulsesSent codeY rs
   pub unchanged : r .machine ≡ m
 
--- after any history, "a look-ahead of up to 1,000,000 ticks" tells what so many more ticks of it give; so all that demand 3 says of a
--- history's record, its bounds too, holds of the record ahead
-abbrev pub EveryLook : Type 0
-EveryLook =
-    (asked : Settings) (made : Answered) → Makes asked made →
-    (cs : List Call) (before : List Reply) (m : Machine) → History (made .machine) cs before m →
-    (n : ℕ) → n ≤ mostTicks → (r : Ahead) → Looks m n r →
-    (rs : List Reply) (m′ : Machine) → History m (onlyTicks n) rs m′ →
-    Foretold m r rs m′ × AsDemanded (made .machine .settings) (cs ++ onlyTicks n) (before ++ rs) (r .then)
+-- "a look-ahead of up to 1,000,000 ticks"
+pub record EveryLook : Type 0 where
+  -- from any sound record it tells what so many ticks give
+  pub ticks : (m : Machine) → soundOf m ≡ true → (n : ℕ) → n ≤ mostTicks → (r : Ahead) → Looks m n r
+      → (rs : List Reply) (m′ : Machine) → History m (onlyTicks n) rs m′ → Foretold m r rs m′
+  -- after any history these are so many more ticks of it; so all that demand 3 says of a history's record, its bounds too, holds of the
+  -- record ahead
+  pub history : (asked : Settings) (made : Answered) → Makes asked made
+      → (cs : List Call) (before : List Reply) (m : Machine) → History (made .machine) cs before m
+      → (n : ℕ) → n ≤ mostTicks → (r : Ahead) → Looks m n r
+      → (rs : List Reply) (m′ : Machine) → History m (onlyTicks n) rs m′
+      → Foretold m r rs m′ × AsDemanded (made .machine .settings) (cs ++ onlyTicks n) (before ++ rs) (r .then)
 
 -- for any record and number, refused ones included: the sums are the point ahead less the point, and the machine comes back unchanged
 abbrev pub EveryLookSum : Type 0
@@ -46,10 +51,10 @@ EveryLookSum =
     (m : Machine) (n : ℕ) (r : Ahead) → Looks m n r →
     (r .sums .x ≡ r .then .at .x -ℤ m .at .x) × (r .sums .y ≡ r .then .at .y -ℤ m .at .y) × (r .machine ≡ m)
 
--- for any record: ahead of s + t is ahead of t from the record ahead of s, and the sums of the two add up
+-- for any record: ahead of s + t is ahead of t from the record ahead of s, with the same answer, and the sums of the two add up
 abbrev pub EveryLookOn : Type 0
 EveryLookOn =
     (m : Machine) (s t : ℕ) → s + t ≤ mostTicks →
     (far near next : Ahead) → Looks m (s + t) far → Looks m s near → Looks (near .then) t next →
-    (far .then ≡ next .then)
+    (far .answer ≡ next .answer) × (far .then ≡ next .then)
     × (far .sums .x ≡ near .sums .x +ℤ next .sums .x) × (far .sums .y ≡ near .sums .y +ℤ next .sums .y)

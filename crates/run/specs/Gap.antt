@@ -20,8 +20,8 @@ nextGap q0 f g = later (g .ticks + 1) (gapOf q0 f (g .remainder))
 unfoldable pub remainderAt : (q0 f : ℕ) → Gap → (n : ℕ) → ℕ
 remainderAt q0 f g n = g .remainder + q0 - (g .ticks + 1 - n) * f
 
--- what its code asks
-pub record Ahead (q0 f : ℕ) (g : Gap) (n : ℕ) : Type 0 where
+-- what `remainder_at` asks: n ticks are no more than lead to the cycle, and the sums fit
+pub record Before (q0 f : ℕ) (g : Gap) (n : ℕ) : Type 0 where
   pub within : n ≤ g .ticks + 1
   pub early : g .ticks + 1 < 2 ^ 64
   pub small : g .remainder + q0 < 2 ^ 64

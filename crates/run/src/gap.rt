@@ -2,7 +2,7 @@
 ghost use mathlib.Core.Path.{_≡_};
 ghost use Prim.Native.Nat.{_+_, _/_, _^_, _≤_, _<_};
 ghost use Rattle.work.specs.laws.Sound.{Feed};
-ghost use Rattle.run.specs.Gap.{gapOf, nextGap, remainderAt, Ahead};
+ghost use Rattle.run.specs.Gap.{gapOf, nextGap, remainderAt, Before};
 
 // The ticks before the one that does the next cycle, counted from the run's first, and the remainder after it.
 pub struct Gap {
@@ -43,7 +43,7 @@ pub fn next_gap(capacity: u64, feed: u64, whole: u64, gap: Gap) -> Gap
 
 // The remainder after n ticks, none of which does the gap's cycle.
 pub fn remainder_at(capacity: u64, feed: u64, gap: Gap, n: u64) -> u64
-    requires { ⌜ Ahead capacity feed gap n ⌝ }
+    requires { ⌜ Before capacity feed gap n ⌝ }
     ensures { λ r. ⌜ r ≡ remainderAt capacity feed gap n ⌝ }
 {
     gap.remainder + capacity - (gap.ticks + 1 - n) * feed

@@ -1,4 +1,4 @@
--- The rest of the block in work at once, for the contracts of inner functions; no contract that a caller reads rests on it.
+-- The rest of the block in work at once, for the contracts of inner functions; no contract of a call for users rests on it.
 use mathlib.Core.Path.{_≡_}
 use mathlib.Core.Bool.{true}
 use Prim.Native.Nat.{ℕ, _+_, _≤_}
@@ -14,7 +14,7 @@ use Rattle.work.specs.Work.{feedOf, cyclesLeft, endOf}
 abbrev pub leftOf : (at : Point) → Work → Left
 leftOf at w = record { cycles = cyclesLeft at w; feed = feedOf w; end = endOf at w }
 
--- what its code asks: a line that has not gone past its cycles, or an arc at its point
+-- what `work_left` asks: a line that has not gone past its cycles, or an arc at its point
 abbrev pub Countable : (at : Point) → Work → Type 0
 Countable at Work.Nothing = Unit {0}
 Countable at (Work.Line l) = l .done ≤ l .cycles
@@ -29,7 +29,7 @@ reachedOf at Work.Nothing c = record { at = at; work = Work.Nothing }
 reachedOf at (Work.Line l) c = record { at = pointOf (l .start) (l .end) (l .done + c); work = Work.Line (lineOn l c) }
 reachedOf at (Work.Arc a) c = record { at = arcAfter a at c; work = Work.Arc a }
 
--- what its code asks
+-- what `work_after` asks
 abbrev pub Continues : (at : Point) → Work → (c : ℕ) → Type 0
 Continues at Work.Nothing c = Unit {0}
 Continues at (Work.Line l) c = drawnOf (lineOn l c) ≡ true

@@ -4,7 +4,7 @@ ghost use Rattle.work.specs.Rest.{Countable, Continues, leftOf, reachedO
 use crate::Work;
 use plane::point::Point;
 
-// What is in work, as far as its end asks.
+// What the end of the block in work depends on.
 pub struct Left {
     pub cycles: u64,
     pub feed: u64,

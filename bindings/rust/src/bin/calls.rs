@@ -31,7 +31,7 @@ enum Call<'a> {
     },
     Text(&'a [u8]),
     Ahead(u64),
-    /// A look ahead, after which the runner goes on with the machine ahead.
+    /// A look-ahead, after which the runner goes on with the machine ahead.
     Jump(u64),
 }
 

@@ -1,4 +1,4 @@
--- What a look ahead answers, and that looks add up.
+-- What a look-ahead answers, and that looks add up.
 use mathlib.Core.Path.{_≡_, refl, sym, ap, _∙_}
 use mathlib.Core.Bool.{Bool, true, false, cond}
 use Prim.Native.Nat.{ℕ, _+_, _≤_, _<_}
@@ -68,16 +68,22 @@ module _ (m : Machine) (n : ℕ) where
       nowhere : (p : Point) → record { x = pos 0; y = pos 0 } ≡ wayOf p p
       nowhere p = λ i. record { x = stays (p .x) i; y = stays (p .y) i }
 
--- ahead of s + t is ahead of t after ahead of s, for any record
-pub ahead-adds : (s t : ℕ) (m : Machine) → s + t ≤ mostTicks → aheadOf m (s + t) .then ≡ aheadOf (aheadOf m s .then) t .then
+-- ahead of s + t is ahead of t after ahead of s, with the same answer, for any record
+pub ahead-adds : (s t : ℕ) (m : Machine) → s + t ≤ mostTicks
+    → (let far = aheadOf m (s + t) in
+    let next = aheadOf (aheadOf m s .then) t in
+    (far .answer ≡ next .answer) × (far .then ≡ next .then))
 ahead-adds s t m most = by (soundOf m) refl
   where
-    by : (b : Bool) → soundOf m ≡ b → aheadOf m (s + t) .then ≡ aheadOf (aheadOf m s .then) t .then
+    by : (b : Bool) → soundOf m ≡ b
+        → (let far = aheadOf m (s + t) in
+        let next = aheadOf (aheadOf m s .then) t in
+        (far .answer ≡ next .answer) × (far .then ≡ next .then))
     by true e =
         let first = looks m s e (omega arith) in
         let mid = tickingOf s m .machine in
-        rw (looks m (s + t) e most, first, looks mid t (ticking-sound s m e) (omega arith)) (ticking-adds s t m)
-    by false e = rw (unsound m (s + t) e, unsound m s e, unsound m t e)
+        rw (looks m (s + t) e most, first, looks mid t (ticking-sound s m e) (omega arith)) (refl, ticking-adds s t m)
+    by false e = rw (unsound m (s + t) e, unsound m s e, unsound m t e) (refl, refl)
 
 -- and so do the sums
 abbrev pub both : Sums → Sums → Sums
@@ -88,7 +94,7 @@ pub sums-add : (s t : ℕ) (m : Machine) → s + t ≤ mostTicks
 sums-add s t m most =
     let mid = aheadOf m s .then in
     let far = aheadOf mid t .then in
-    sums-are m (s + t) ∙ ap (λ (k : Machine). wayOf (m .at) (k .at)) (ahead-adds s t m most)
+    sums-are m (s + t) ∙ ap (λ (k : Machine). wayOf (m .at) (k .at)) (ahead-adds s t m most .1)
     ∙ over (m .at) (mid .at) (far .at) ∙ sym (λ i. both (sums-are m s i) (sums-are mid t i))
   where
     axis : (u v w : ℤ) → w -ℤ u ≡ (v -ℤ u) +ℤ (w -ℤ v)

@@ -221,7 +221,7 @@ module _ (m : Machine) where
       by false true = refl
       by false false = ran (strip .ended) _ _ _
 
--- ---- a look ahead
+-- ---- a look-ahead
 
 module _ (m : Machine) (ticks : ℕ) where
   look-verdict : Verdict (lookQuestions m ticks) (ask (soundOf m) (ask (leb ticks 1000000) 0 38) 9)

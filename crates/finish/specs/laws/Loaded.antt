@@ -3,7 +3,6 @@ use mathlib.Core.Path.{_≡_, refl}
 use mathlib.Core.Bool.{false}
 use native.Mathlib.Omega.{arith}
 use Rattle.plane.specs.declared.point.Point.{Point}
-use Rattle.divider.specs.Divider.{endTick}
 use Rattle.block.specs.declared.Block.{Block}
 use Rattle.block.specs.declared.Path.{Path}
 use Rattle.block.specs.Block.{arcOf, cyclesAlong, blockCycles}
@@ -54,8 +53,7 @@ module _ (m : Machine) (rest : AtRest m) (b : Block)
       record { sound = load-keeps m (rest .sound) b; free = rw loads (rest .free); busy = rw loads (begun-busy (m .at) b (b .path)) }
 
   -- its cycles, its ticks and its end are the block's
-  pub finish-loaded : (let k = blockCycles (m .at) b in
-      finishOf (loadOf m b .machine) ≡ finishedOf m (b .end) k (endTick (capacityOf (m .settings)) (b .feed) (m .remainder) k) (b .feed))
+  pub finish-loaded : finishOf (loadOf m b .machine) ≡ finishedOf m (b .end) (blockCycles (m .at) b) (b .feed)
   unfolding movedOf blockCycles
   finish-loaded =
       rw (finishes (loadOf m b .machine) loaded-at-work, loads, begun-cycles (m .at) b (b .path), begun-feed (m .at) b (b .path), begun-end (m .at) b (b .path))

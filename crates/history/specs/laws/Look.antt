@@ -1,8 +1,8 @@
--- A look ahead on the record of any history tells what that many more ticks of it give.
+-- A look-ahead on a sound record, and so after any history, tells what that many more ticks give.
 use mathlib.Core.Path.{_≡_, refl, sym, ap, _∙_}
 use mathlib.Core.Bool.{true}
 use mathlib.Core.List.{List, _++_}
-use Prim.Native.Nat.{ℕ, zero, suc}
+use Prim.Native.Nat.{ℕ, zero, suc, _≤_}
 use lib.IntN.{_+ℤ_, +ℤ-idl, +ℤ-idr}
 use lib.ListN.{length}
 use denote.Ref.{now}
@@ -16,22 +16,23 @@ use Rattle.keeps.specs.laws.Calls.{load-keeps, tick-keeps, run-keeps, hold-keep
 use Rattle.book.specs.Book.{Call, Reply}
 use Rattle.book.specs.Sums.{tickBytes, pulsesIn, pulsesSent}
 use Rattle.ahead.specs.declared.Ahead.{Ahead}
-use Rattle.ahead.specs.Ahead.{Ticking, inFront, tickingOf, looked}
+use Rattle.ahead.specs.Ahead.{Ticking, inFront, tickingOf, looked, mostTicks}
 use Rattle.ahead.specs.laws.Ahead.{looks, unchanged, sums-are, ahead-adds, sums-add}
 use Rattle.history.specs.Reply.{tickReply}
 use Rattle.history.specs.History.{History}
-use Rattle.history.specs.Look.{onlyTicks, EveryLook, EveryLookSum, EveryLookOn}
+use Rattle.history.specs.Contracts.{Looks}
+use Rattle.history.specs.Look.{onlyTicks, Foretold, EveryLook, EveryLookSum, EveryLookOn}
 use Rattle.history.specs.laws.Claim.{claim}
 
 -- every record of a history is sound
-history-sound : {m m′ : Machine} {cs : List Call} {rs : List Reply} → History m cs rs m′ → soundOf m ≡ true → soundOf m′ ≡ true
-history-sound History.ends e = e
-history-sound {m} (History.loads b r h t) e = history-sound t (rw h (load-keeps m e b))
-history-sound {m} (History.ticks r h t) e = history-sound t (rw h (tick-keeps m e))
-history-sound {m} (History.runs κs budget out out′ r h t) e = history-sound t (rw (h .0) (run-keeps m e budget (length (now out))))
-history-sound {m} (History.holds r h t) e = history-sound t (rw h (hold-keeps m e))
-history-sound {m} (History.releases r h t) e = history-sound t (rw h (release-keeps m e))
-history-sound {m} (History.stops r h t) e = history-sound t (rw h (stop-keeps m e))
+stays-sound : {m m′ : Machine} {cs : List Call} {rs : List Reply} → History m cs rs m′ → soundOf m ≡ true → soundOf m′ ≡ true
+stays-sound History.ends e = e
+stays-sound {m} (History.loads b r h t) e = stays-sound t (rw h (load-keeps m e b))
+stays-sound {m} (History.ticks r h t) e = stays-sound t (rw h (tick-keeps m e))
+stays-sound {m} (History.runs κs budget out out′ r h t) e = stays-sound t (rw (h .0) (run-keeps m e budget (length (now out))))
+stays-sound {m} (History.holds r h t) e = stays-sound t (rw h (hold-keeps m e))
+stays-sound {m} (History.releases r h t) e = stays-sound t (rw h (release-keeps m e))
+stays-sound {m} (History.stops r h t) e = stays-sound t (rw h (stop-keeps m e))
 
 -- a history and then another are one
 joined : {m k m′ : Machine} {cs ds : List Call} {rs ss : List Reply} → History m cs rs k → History k ds ss m′
@@ -45,7 +46,7 @@ joined (History.releases r h t) u = History.releases r h (joined t u)
 joined (History.stops r h t) u = History.stops r h (joined t u)
 
 -- the ticks of a history are ticks one after the other
-record Same (t : Ticking) (rs : List Reply) (m′ : Machine) : Type 0 where
+record OneByOne (t : Ticking) (rs : List Reply) (m′ : Machine) : Type 0 where
   leads : t .machine ≡ m′
   x : pulsesIn codeX (t .bytes) ≡ pulsesSent codeX rs
   y : pulsesIn codeY (t .bytes) ≡ pulsesSent codeY rs
@@ -55,29 +56,35 @@ sent : (code : ℕ → ℕ) (k : Tick) (bytes : List ℕ) (rs : List Reply) → 
 sent code (Tick.Byte b) bytes rs e = rw (e, +ℤ-idr (pulseOf (code b)))
 sent code (Tick.Refused n) bytes rs e = e ∙ sym (+ℤ-idl (pulsesSent code rs))
 
-same : (n : ℕ) {m m′ : Machine} {rs : List Reply} → History m (onlyTicks n) rs m′ → Same (tickingOf n m) rs m′
+one-by-one : (n : ℕ) {m m′ : Machine} {rs : List Reply} → History m (onlyTicks n) rs m′ → OneByOne (tickingOf n m) rs m′
 unfolding tickingOf pulsesSent
-same zero History.ends = record { leads = refl; x = refl; y = refl }
-same (suc n) {m} {m′} (History.ticks {rs = rs} r h t) =
-    let s : Same (tickingOf n (r .machine)) rs m′ = same n t in
+one-by-one zero History.ends = record { leads = refl; x = refl; y = refl }
+one-by-one (suc n) {m} {m′} (History.ticks {rs = rs} r h t) =
+    let s : OneByOne (tickingOf n (r .machine)) rs m′ = one-by-one n t in
     let bytes = tickingOf n (r .machine) .bytes in
     rw (← h) (record { leads = s .leads; x = sent codeX (r .tick) bytes rs (s .x); y = sent codeY (r .tick) bytes rs (s .y) })
 
-pub every-look : EveryLook
-every-look asked made h cs before m t n most r look rs m′ more =
-    let sound : soundOf m ≡ true = history-sound t (rw h (make-keeps asked)) in
+foretold : (m : Machine) → soundOf m ≡ true → (n : ℕ) → n ≤ mostTicks → (r : Ahead) → Looks m n r
+    → (rs : List Reply) (m′ : Machine) → History m (onlyTicks n) rs m′ → Foretold m r rs m′
+foretold m sound n most r look rs m′ more =
     let e : r ≡ looked m (tickingOf n m) = look ∙ looks m n sound most in
-    let s = same n more in
-    let there = ap (λ (a : Ahead). a .then) e ∙ s .leads in (
-      record {
-        answer = ap (λ (a : Ahead). a .answer) e;
-        then = there;
-        pulses-x = ap (λ (a : Ahead). a .sums .x) e ∙ s .x;
-        pulses-y = ap (λ (a : Ahead). a .sums .y) e ∙ s .y;
-        unchanged = ap (λ (a : Ahead). a .machine) e;
-      },
-      rw there (claim asked made h (cs ++ onlyTicks n) (before ++ rs) m′ (joined t more)),
-    )
+    let s = one-by-one n more in
+    record {
+      answer = ap (λ (a : Ahead). a .answer) e;
+      then = ap (λ (a : Ahead). a .then) e ∙ s .leads;
+      pulses-x = ap (λ (a : Ahead). a .sums .x) e ∙ s .x;
+      pulses-y = ap (λ (a : Ahead). a .sums .y) e ∙ s .y;
+      unchanged = ap (λ (a : Ahead). a .machine) e;
+    }
+
+pub every-look : EveryLook
+every-look =
+    record {
+      ticks = foretold;
+      history = λ asked made h cs before m t n most r look rs m′ more.
+          let f = foretold m (stays-sound t (rw h (make-keeps asked))) n most r look rs m′ more in
+          (f, rw (f .then) (claim asked made h (cs ++ onlyTicks n) (before ++ rs) m′ (joined t more)));
+    }
 
 -- ---- of any record
 
@@ -85,4 +92,5 @@ pub every-look-sum : EveryLookSum
 every-look-sum m n r look = rw (look, sums-are m n) (refl, refl, unchanged m n)
 
 pub every-look-on : EveryLookOn
-every-look-on m s t most far near next f l g = rw (g, f, l, sums-add s t m most) (ahead-adds s t m most, refl, refl)
+every-look-on m s t most far near next f l g =
+    let on = ahead-adds s t m most in rw (g, f, l, sums-add s t m most) (on .0, on .1, refl, refl)

@@ -1,7 +1,6 @@
 -- A block that a machine at rest accepts, run to its end: by the closed forms and by the machine's own run.
 use mathlib.Core.Path.{_≡_, ap, subst, _∙_}
 use mathlib.Core.Bool.{true}
-use Rattle.divider.specs.Divider.{endTick}
 use Rattle.block.specs.declared.Block.{Block}
 use Rattle.block.specs.Block.{blockCycles}
 use Rattle.block.specs.Questions.{loadNo}
@@ -25,9 +24,7 @@ Accepted m b = loadNo (capacityOf (m .settings)) (m .settings .travel) true (m .
 
 -- what the block leaves
 abbrev pub endedOf : Machine → Block → Finished
-endedOf m b =
-    let k = blockCycles (m .at) b in
-    finishedOf m (b .end) k (endTick (capacityOf (m .settings)) (b .feed) (m .remainder) k) (b .feed)
+endedOf m b = finishedOf m (b .end) (blockCycles (m .at) b) (b .feed)
 
 module _ (m : Machine) (r : AtRest m) (b : Block) (ok : Accepted m b) where
   asked : loadNo (capacityOf (m .settings)) (m .settings .travel) (isNothing (m .work)) (m .at) b ≡ 0

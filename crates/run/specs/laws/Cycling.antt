@@ -15,7 +15,7 @@ use Rattle.work.specs.laws.Sound.{Feed}
 use Rattle.work.specs.Work.{isNothing, cycleOf, feedOf, cyclesLeft, endOf, advanceOf}
 use Rattle.run.specs.declared.gap.Gap.{Gap}
 use Rattle.run.specs.Run.{Strip, stripOf, SoundIn}
-use Rattle.run.specs.Gap.{gapOf, later, nextGap, remainderAt, Ahead, clearedOf}
+use Rattle.run.specs.Gap.{gapOf, later, nextGap, remainderAt, Before, clearedOf}
 use Rattle.run.specs.laws.Going.{Going, Answer, going-start, going-on, going-end, going-out}
 use Rattle.run.specs.laws.Sound.{waiting, still-sound}
 use Rattle.run.specs.laws.Gap.{Due, gap-due}
@@ -150,7 +150,7 @@ module _ {q0 f most : ℕ} {all : Strip} {out₀ out : List ℕ} {last n : ℕ} 
         let sum : g .ticks + 1 - n + (n - s .done) ≡ ahead .ticks + 1 = omega (arith, ticks-are, s .left .here, s .left .low) in
         omega (arith, ap (λ (x : ℕ). x * f) sum)
 
-    pub out-asks : Ahead q0 f g n
+    pub out-asks : Before q0 f g n
     out-asks = record {
       within = omega (arith, s .left .low);
       early = omega (arith, ticks-are, s .left .here, s .left .low, s .few, s .work .capacity, due .before, mul-le-mul-left (ahead .ticks) (feeds .0 .some));
