@@ -10,7 +10,7 @@
 
 _Static_assert(WORDS == VZ_RECORD_WORDS, "the plain programs know the record");
 
-enum { SIDES = 3, HISTORIES = 4000, TICKS = 60 };
+enum { SIDES = 3, HISTORIES = 4000, TICKS = 60, MORE_TICKS = 40000000 }; /* more than any timed block has */
 
 static void must(int right, const char *what)
 {
@@ -129,7 +129,7 @@ static uint64_t drawn_ticks(void)
     }
 }
 
-/* The timed looks, tick by tick. */
+/* The timed looks: tick by tick, to the block's end too, and what is kept of them. */
 static void agree_look(const struct work *w)
 {
     const struct plain_run plain = plain_begun(w);
@@ -137,8 +137,10 @@ static void agree_look(const struct work *w)
     struct plain_sums sums;
     loaded(words, w);
     must(core_ahead(words, w->given, then, &sums) == 0, w->name);
-    const struct plain_sums other = plain_look(&plain, w->given);
+    const struct plain_sums other = plain_look(&plain, w->given), end = plain_look(&plain, MORE_TICKS);
     must(sums.x == other.x && sums.y == other.y, w->name);
+    must(end.x == (w->arc ? 0 : words[WORD_NUMBERS + 2]) && end.y == (w->arc ? 0 : words[WORD_NUMBERS + 3]), "a look to the end");
+    must(looked(LOOK_CORE, w, 99) == looked(LOOK_CLOSED, w, 99), w->name);
 }
 
 /* Words that mostly are no sound record: one of them is changed. */

@@ -130,7 +130,7 @@ static void print_row(const struct table *t, int w, int rounds)
     const int digits = ns[0] < 10 ? 3 : 1;
     printf("| %s | %.*f", t->work[w].name, digits, ns[0]);
     for (int s = 1; s < t->ways; s++)
-        printf(" | %.*f (%.2f)", digits, ns[s], ratio[s]);
+        printf(ratio[s] < 0.005 ? " | %.*f (%.5f)" : " | %.*f (%.2f)", digits, ns[s], ratio[s]);
     print_goals(t, &t->work[w], ns, ratio);
 }
 

@@ -13,10 +13,14 @@ def per_unit(table, work, side, times, units):
     return (twice - once) / (int(times) * int(units))
 
 
+def part(ratio):
+    return f"{ratio:.5f}" if ratio < 0.005 else f"{ratio:.2f}"
+
+
 def row(name, sides):
     counts = [per_unit(*side[:5]) for side in sides]
     digits = 3 if counts[0] < 10 else 0
-    return f"| {name} | {counts[0]:.{digits}f} | " + " | ".join(f"{c:.{digits}f} ({counts[0] / c:.2f})" for c in counts[1:]) + " |"
+    return f"| {name} | {counts[0]:.{digits}f} | " + " | ".join(f"{c:.{digits}f} ({part(counts[0] / c)})" for c in counts[1:]) + " |"
 
 
 def main():

@@ -20,20 +20,21 @@ static void started(int64_t starts[STARTS][VZ_RECORD_WORDS], const struct work *
     struct plain_sums sums;
     loaded(starts[0], w);
     for (int i = 1; i < STARTS; i++)
-        if (core_ahead(starts[i - 1], APART, starts[i], &sums) != 0)
+        if (core_ahead(starts[i - 1], APART, starts[i], &sums) != 0 || memcmp(starts[i], starts[i - 1], sizeof starts[i]) == 0)
             abort();
 }
 
 static void looks(const struct work *w, uint64_t times, plain_ahead *ahead)
 {
-    int64_t starts[STARTS][VZ_RECORD_WORDS], then[VZ_RECORD_WORDS], sum = 0;
+    int64_t starts[STARTS][VZ_RECORD_WORDS], then[VZ_RECORD_WORDS];
+    uint64_t sum = 0;
     struct plain_sums sums;
     started(starts, w);
     for (uint64_t i = 0; i < times; i++) {
-        sum += ahead(starts[i % STARTS], w->given, then, &sums);
-        sum += sums.x + then[VZ_WORD_Y];
+        sum = plain_mix(sum, ahead(starts[i % STARTS], w->given, then, &sums));
+        sum = plain_mix(sum, sums.x + then[VZ_WORD_Y]);
     }
-    kept = sum;
+    kept = (int64_t)sum;
 }
 
 static void looks_core(const struct work *w, uint64_t times) { looks(w, times, core_ahead); }
@@ -66,14 +67,20 @@ static void looks_by_tick(const struct work *w, uint64_t times)
 enum { TICK = 1 }; /* the way that the goal names */
 
 const struct way look_ways[LOOK_WAYS] = {
-    { "core, words", looks_core },
+    [LOOK_CORE] = { "core, words", looks_core },
     [TICK] = { "core, one tick", looks_tick },
     [LOOK_BY_TICK] = { "C tick loop", looks_by_tick },
-    { "C closed form, words", looks_c },
+    [LOOK_CLOSED] = { "C closed form, words", looks_c },
 };
-static const struct goal look_goal = { "look-ahead", TICK, 10 };
+static const struct goal look_goal = { "look-ahead", TICK, 10 }, closed_goal = { "look-ahead", LOOK_CLOSED, 3 };
 
-#define LOOK(NAME, ARC, PART, TICKS) { NAME, ARC, PART, TICKS, 0, 4000, 1, { &look_goal } }
+int64_t looked(int way, const struct work *w, uint64_t times)
+{
+    look_ways[way].go(w, times);
+    return kept;
+}
+
+#define LOOK(NAME, ARC, PART, TICKS) { NAME, ARC, PART, TICKS, 0, 4000, 1, { &look_goal, &closed_goal } }
 const struct work look_works[LOOK_WORKS] = {
     LOOK("line, q0, 1 tick", 0, 1, 1),
     LOOK("line, q0, 1,000 ticks", 0, 1, 1000),

@@ -41,12 +41,13 @@ struct table {
     int by_tick; /* the way that does a look tick by tick, and so much less often; -1 where there is none */
 };
 
-/* How often a way does a work that others do so many times. */
+/* How often a way does a work that others do so many times. Ticks are counted at 256 to a look, so that what it takes to look at the clock
+ * counts for nothing there either. */
 static inline uint64_t times_of(const struct table *t, int way, const struct work *w, uint64_t times)
 {
     if (way != t->by_tick)
         return times;
-    return times < w->given ? 1 : times / w->given;
+    return 256 * times < w->given ? 1 : 256 * times / w->given;
 }
 
 extern const struct table tables[];
@@ -58,9 +59,12 @@ plain_load core_load;
 plain_ahead core_ahead;
 
 /* The look-ahead: its table's ways and works. */
-enum { LOOK_WAYS = 4, LOOK_WORKS = 12, LOOK_BY_TICK = 2 };
+enum { LOOK_WAYS = 4, LOOK_WORKS = 12, LOOK_CORE = 0, LOOK_BY_TICK = 2, LOOK_CLOSED = 3 };
 extern const struct way look_ways[LOOK_WAYS];
 extern const struct work look_works[LOOK_WORKS];
+
+/* What a way keeps of so many looks. */
+int64_t looked(int way, const struct work *w, uint64_t times);
 
 /* The core's own root, which the archive does not export: bench/run makes it visible. Null where the compiler has left no such function. */
 extern uint64_t core_root(uint64_t s) __attribute__((weak));

@@ -114,7 +114,7 @@ enum vz_refusal {
     VZ_REFUSED_CIRCLE = 15, /* the end is not on the circle. Seen from the centre, keep its shorter coordinate and round the
                                longer one to the pulse nearest to the circle. A full turn ends where it starts. */
     VZ_REFUSED_WAY = 16,    /* the arc leaves the travel on its way, though both ends are inside. */
-    VZ_REFUSED_FAR = 38     /* more than VZ_AHEAD_TICKS ticks ahead. Look again from the record ahead. */
+    VZ_REFUSED_FAR = 38     /* more than VZ_AHEAD_TICKS ticks ahead. Look so far, then the rest from the record ahead. */
 };
 
 /* Of a job text these too, before those of a load. vz_read_line answers them but the first; a listing has them all. */
@@ -186,11 +186,14 @@ VZ_ANSWERS int64_t vz_release(vz_record *record);
 VZ_ANSWERS int64_t vz_stop(vz_record *record);
 
 /* ---- ahead: where will it be? The record, and the sum of the pulses on each axis, plus ones less minus ones, that so many vz_tick
- * would give on a copy. No tick is done, so a look takes no longer for VZ_AHEAD_TICKS than for 1. Ticks while held or idle change
- * nothing, and so do those after the block's end.
- * Answers 0; or -9, or -38 for more than VZ_AHEAD_TICKS, and then *then is the record as it stands and both sums are 0.
- * *then and *sums are always written, record never is; they are three places in memory, none within another. Of a sound record
- * *then is one too: it may be looked ahead from again. */
+ * would give on a copy, if no other call comes between them. The sums are the X and Y of the record ahead less the record's own. No tick
+ * is done, so a look takes no longer for VZ_AHEAD_TICKS than for 1. Ticks while held or idle change nothing, and so do those after the
+ * block's end.
+ * Answers 0; or minus the first refusal, -9, then -38 for more than VZ_AHEAD_TICKS: *then is the record as it stands, and both sums are 0.
+ * *then and *sums are always written, record never is; the three don't overlap, so then is not the record itself. Of a sound record *then
+ * is one too: to look further than VZ_AHEAD_TICKS, look so far and from there on again.
+ * Where an interrupt ticks the record, copy it with that interrupt masked and look from the copy: words that change meanwhile are no
+ * record, and get -9. */
 
 #define VZ_AHEAD_TICKS 1000000
 

@@ -1,5 +1,6 @@
 /* Every number of include/verdaizka.h once, and that words which are no sound record stay as they are, with everything else that
  * a call could write. Ends with 1 where an answer is another. */
+#include <fenv.h>
 #include <inttypes.h>
 #include <stdio.h>
 #include <string.h>
@@ -23,17 +24,37 @@ static vz_record fresh(void)
     return m;
 }
 
-/* A refused look-ahead gives the record's own words and sums of 0. */
+/* What a look writes, with words around it that are not its own. */
+struct ahead {
+    int64_t before;
+    vz_record then;
+    int64_t between;
+    vz_sums sums;
+    int64_t after;
+};
+
+/* A look-ahead, which leaves the record and all words around its own. */
+static struct ahead look(const char *what, const vz_record *m, uint64_t ticks, int64_t answer)
+{
+    vz_record own = *m;
+    struct ahead a, all;
+    memset(&all, 7, sizeof all);
+    a = all;
+    is(what, vz_ahead(&own, ticks, &a.then, &a.sums), answer);
+    is("words after a look", memcmp(&own, m, sizeof own), 0);
+    is("a word before those of a look", a.before, all.before);
+    is("a word between those of a look", a.between, all.between);
+    is("a word after those of a look", a.after, all.after);
+    return a;
+}
+
+/* A refused one gives the record's own words and sums of 0. */
 static void look_refused(const char *what, const vz_record *m, uint64_t ticks, int64_t number)
 {
-    vz_record own = *m, then;
-    vz_sums sums = {7, 7};
-    memset(&then, 7, sizeof then);
-    is(what, vz_ahead(&own, ticks, &then, &sums), -number);
-    is("words after a refused look", memcmp(&own, m, sizeof own), 0);
-    is("words of a refused look", memcmp(&then, m, sizeof then), 0);
-    is("sum of a refused look", sums.x, 0);
-    is("sum of a refused look", sums.y, 0);
+    struct ahead a = look(what, m, ticks, -number);
+    is("words of a refused look", memcmp(&a.then, m, sizeof a.then), 0);
+    is("sum of a refused look", a.sums.x, 0);
+    is("sum of a refused look", a.sums.y, 0);
 }
 
 /* Every call on words that are no sound record. */
@@ -59,8 +80,11 @@ static void refused(const char *what, const vz_record *bad)
     is("what is known at a refused line", memcmp(&known, &before, sizeof known), 0);
     is("ticks of a refused run", (int64_t)ticks, 0);
     is("bytes of a refused run", memcmp(out, "\7\7\7\7", 4), 0);
-    look_refused(what, bad, 1, VZ_REFUSED_RECORD);
-    look_refused(what, bad, UINT64_MAX, VZ_REFUSED_RECORD);
+    for (uint64_t ahead = 0; ahead < 2; ahead++) {
+        look_refused(what, bad, ahead, VZ_REFUSED_RECORD);
+        look_refused(what, bad, VZ_AHEAD_TICKS + ahead, VZ_REFUSED_RECORD);
+        look_refused(what, bad, UINT64_MAX - ahead, VZ_REFUSED_RECORD);
+    }
 }
 
 static void make(void)
@@ -162,20 +186,18 @@ static void bytes(void)
 /* A look of so many ticks is what so many vz_tick give on a copy, their bytes added up, and leaves the record. */
 static void looks(const vz_record *m, uint64_t ticks)
 {
-    static const int64_t pulses[] = {0, 1, -1};
-    vz_record own = *m, ticked = *m, then;
-    vz_sums sums = {7, 7}, sent = {0, 0};
+    static const int64_t pulses[] = {0, 1, -1, INT32_MAX};
+    vz_record ticked = *m;
+    vz_sums sent = {0, 0};
     for (uint64_t i = 0; i < ticks; i++) {
         int64_t byte = vz_tick(&ticked);
         sent.x += pulses[VZ_X_CODE(byte)];
         sent.y += pulses[VZ_Y_CODE(byte)];
     }
-    memset(&then, 7, sizeof then);
-    is("a look", vz_ahead(&own, ticks, &then, &sums), 0);
-    is("words after a look", memcmp(&own, m, sizeof own), 0);
-    is("words of a look", memcmp(&then, &ticked, sizeof then), 0);
-    is("sum of a look", sums.x, sent.x);
-    is("sum of a look", sums.y, sent.y);
+    struct ahead a = look("a look", m, ticks, 0);
+    is("words of a look", memcmp(&a.then, &ticked, sizeof ticked), 0);
+    is("sum of a look", a.sums.x, sent.x);
+    is("sum of a look", a.sums.y, sent.y);
 }
 
 /* Ten ticks from here on, one by one: the last of them are after the block's end. */
@@ -189,7 +211,8 @@ static void ahead(vz_record m)
     }
     looks(&m, VZ_AHEAD_TICKS);
     look_refused("too far", &m, VZ_AHEAD_TICKS + 1, VZ_REFUSED_FAR);
-    look_refused("too far", &m, UINT64_MAX, VZ_REFUSED_FAR);
+    for (int bit = 20; bit < 64; bit++)
+        look_refused("too far", &m, (uint64_t)1 << bit, VZ_REFUSED_FAR);
     look_refused("too far, held", &held, VZ_AHEAD_TICKS + 1, VZ_REFUSED_FAR);
 }
 
@@ -230,6 +253,26 @@ static void everywhere(void)
     ahead(arc);
 }
 
+/* The largest circle there may be, N 2,000,000,000,000, both ways round: a million cycles, and a look for most of them. No setting of the
+ * floating-point unit makes an answer another, nor does a look change one. */
+static void largest(void)
+{
+    static const int modes[] = {FE_TONEAREST, FE_UPWARD, FE_DOWNWARD, FE_TOWARDZERO};
+    vz_record wide, cw, ccw;
+    is("make", vz_make(&wide, 50, 5000, -1000000, 1000000, -1000000, 1000000), 0);
+    cw = ccw = wide;
+    is("clockwise", vz_load_cw(&cw, -414214, 1000000, 300000, 1000000, 1000000), 21);
+    is("counterclockwise", vz_load_ccw(&ccw, 1000000, -414214, 300000, 1000000, 1000000), 21);
+    for (int i = 0; i < 4; i++) {
+        fesetround(modes[i]);
+        looks(&cw, 70001);
+        looks(&cw, VZ_AHEAD_TICKS - 1);
+        looks(&ccw, VZ_AHEAD_TICKS);
+        is("rounding after looks", fegetround(), modes[i]);
+    }
+    fesetround(FE_TONEAREST);
+}
+
 /* One word of a sound record changed. */
 static void changed(const char *what, vz_record m, int word, int64_t to)
 {
@@ -247,6 +290,7 @@ int main(void)
     bytes();
     ahead_of_line();
     everywhere();
+    largest();
     is("a line", vz_load_line(&line, 3, 4, 1), 3);
     is("an arc", vz_load_cw(&arc, 0, 0, 1, 5, 0), 3);
     is("ABI of a record", idle.word[VZ_WORD_ABI], VZ_ABI);

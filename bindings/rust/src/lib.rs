@@ -133,7 +133,6 @@ pub enum Why {
 }
 
 /// What a look-ahead gives: the machine so many ticks on, and the sum of the pulses of those ticks on each axis, plus ones less minus ones.
-/// Of a refused look these are the machine as it stands, and 0.
 #[derive(Clone, PartialEq, Eq, Debug)]
 pub struct Ahead {
     pub then: Machine,
@@ -256,25 +255,33 @@ impl Machine {
     }
 
     /// Where so many ticks would leave the machine, and what they would send; the machine itself stays as it is, and no tick is done. Ticks
-    /// while held or idle change nothing, and so do those after the block's end. More than `AHEAD_TICKS` are refused by 38, after 9.
+    /// while held or idle change nothing, and so do those after the block's end. More than `AHEAD_TICKS` are refused by 38, after 9: to look
+    /// further, look so far and from the machine ahead again.
     ///
     /// ```
     /// use verdaizka::{Block, Machine, Refused, AHEAD_TICKS, USUAL};
     ///
     /// let (mut machine, _) = Machine::make(USUAL);
     /// machine.load(Block::Line { x: 3, y: 4, feed: 300_000 }).expect("accepted");
-    /// let (ahead, answer) = machine.ahead(2);
-    /// assert_eq!((answer, ahead.sums, ahead.then.position()), (Ok(()), (1, 2), (1, 2)));
+    /// let ahead = machine.ahead(2).expect("not too far");
+    /// assert_eq!((ahead.sums, ahead.then.position()), ((1, 2), (1, 2)));
     /// assert_eq!(machine.position(), (0, 0));
     ///
-    /// let (end, answer) = ahead.then.ahead(AHEAD_TICKS);
-    /// assert_eq!((answer, end.sums, end.then.position(), end.then.is_busy()), (Ok(()), (2, 2), (3, 4), false));
+    /// let end = ahead.then.ahead(AHEAD_TICKS).expect("not too far");
+    /// assert_eq!((end.sums, end.then.position(), end.then.is_busy()), ((2, 2), (3, 4), false));
     ///
-    /// let (ahead, answer) = machine.ahead(AHEAD_TICKS + 1);
-    /// assert_eq!((answer, ahead.sums, ahead.then), (Err(Refused(38)), (0, 0), machine));
+    /// assert_eq!(machine.ahead(AHEAD_TICKS + 1), Err(Refused(38)));
     /// ```
-    pub fn ahead(&self, ticks: u64) -> (Ahead, Result<(), Refused>) {
-        let (mut then, mut sums) = ([0; WORDS], [0; 2]);
+    pub fn ahead(&self, ticks: u64) -> Result<Ahead, Refused> {
+        let (ahead, answer) = self.ahead_told(ticks);
+        answer.map(|()| ahead)
+    }
+
+    /// The same with what a refusal gives: the machine as it stands, and sums of 0.
+    #[must_use]
+    pub fn ahead_told(&self, ticks: u64) -> (Ahead, Result<(), Refused>) {
+        // All is written by the core, and none of it has these numbers.
+        let (mut then, mut sums) = ([i64::MIN; WORDS], [i64::MIN; 2]);
         // SAFETY: the core reads the words of the record, writes those of the record ahead and the two sums, and no others.
         let told = unsafe { vz_ahead(self.words.as_ptr(), ticks, then.as_mut_ptr(), sums.as_mut_ptr()) };
         (Ahead { then: Machine { words: then }, sums: (sums[0], sums[1]) }, answered(told).map(|_| ()))

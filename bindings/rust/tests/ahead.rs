@@ -27,8 +27,9 @@ fn held(mut machine: Machine) -> Machine {
 
 fn accepted(machine: &Machine, ticks: u64) -> Ahead {
     let before = machine.clone();
-    let (ahead, answer) = machine.ahead(ticks);
+    let (ahead, answer) = machine.ahead_told(ticks);
     assert_eq!((answer, machine), (Ok(()), &before));
+    assert_eq!(machine.ahead(ticks), Ok(ahead.clone()));
     ahead
 }
 
@@ -37,7 +38,7 @@ fn ticked(machine: &Machine, ticks: u64) -> Ahead {
     let (mut then, mut sums) = (machine.clone(), (0, 0));
     for _ in 0..ticks {
         let byte = then.tick().expect("sound");
-        let pulse = |code: u8| [0, 1, -1, 0][usize::from(code & 3)];
+        let pulse = |code: u8| [0, 1, -1][usize::from(code & 3)];
         sums = (sums.0 + pulse(byte), sums.1 + pulse(byte >> 2));
     }
     Ahead { then, sums }
@@ -87,7 +88,8 @@ fn too_many_ticks() {
         for ticks in [AHEAD_TICKS + 1, 1 << 32, 1 << 63, u64::MAX] {
             let before = machine.clone();
             let own = Ahead { then: before.clone(), sums: (0, 0) };
-            assert_eq!(machine.ahead(ticks), (own, Err(Refused(38))));
+            assert_eq!(machine.ahead_told(ticks), (own, Err(Refused(38))));
+            assert_eq!(machine.ahead(ticks), Err(Refused(38)));
             assert_eq!(machine, before);
         }
     }
@@ -100,7 +102,8 @@ fn an_unsound_record() {
     words[word::X] = 21;
     let machine = Machine::from_words(words);
     for ticks in [0, 1, AHEAD_TICKS, AHEAD_TICKS + 1, u64::MAX] {
-        assert_eq!(machine.ahead(ticks), (Ahead { then: Machine::from_words(words), sums: (0, 0) }, Err(Refused(9))));
+        assert_eq!(machine.ahead_told(ticks), (Ahead { then: Machine::from_words(words), sums: (0, 0) }, Err(Refused(9))));
+        assert_eq!(machine.ahead(ticks), Err(Refused(9)));
     }
     assert_eq!(machine.words(), &words);
 }

@@ -21,7 +21,7 @@ fn no_record(words: [i64; WORDS]) {
     assert_eq!((machine.hold(), machine.release(), machine.stop()), (Err(nine), Err(nine), Err(nine)));
     assert_eq!(machine.read_line(&mut known, b"X1"), Err(nine));
     for ticks in [1, AHEAD_TICKS + 1] {
-        assert_eq!(machine.ahead(ticks), (Ahead { then: Machine::from_words(words), sums: (0, 0) }, Err(nine)));
+        assert_eq!(machine.ahead_told(ticks), (Ahead { then: Machine::from_words(words), sums: (0, 0) }, Err(nine)));
     }
     assert_eq!((machine.words(), out, known.words()), (&words, [7; 20], &[1, 100]));
 }

@@ -27,7 +27,8 @@ pub extern "C" fn vz_ahead(
     let own = *words;
     *then = own;
     *sums = [0, 0];
-    if !is_sound(words) {
+    // What is tested is what is used: the words that were lent are read once.
+    if !is_sound(&own) {
         return -9;
     }
     let m = machine_in(own);

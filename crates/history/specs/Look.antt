@@ -51,7 +51,8 @@ EveryLookSum =
     (m : Machine) (n : ℕ) (r : Ahead) → Looks m n r →
     (r .sums .x ≡ r .then .at .x -ℤ m .at .x) × (r .sums .y ≡ r .then .at .y -ℤ m .at .y) × (r .machine ≡ m)
 
--- for any record: ahead of s + t is ahead of t from the record ahead of s, with the same answer, and the sums of the two add up
+-- for any record: ahead of s + t, no further than allowed, is ahead of t from the record ahead of s, with the same answer, and the sums of
+-- the two add up
 abbrev pub EveryLookOn : Type 0
 EveryLookOn =
     (m : Machine) (s t : ℕ) → s + t ≤ mostTicks →

@@ -134,7 +134,7 @@ impl Runner {
 
     /// What a look tells, a refused one with its record and sums too, and the machine ahead.
     fn look(&self, ticks: u64) -> Result<(String, Machine), Left> {
-        let (Ahead { then, sums: (x, y) }, answer) = self.machine.ahead(ticks);
+        let (Ahead { then, sums: (x, y) }, answer) = self.machine.ahead_told(ticks);
         let word = answer.map_or_else(refusal_told, |()| "ahead".to_string());
         let record = self.record_told(&then);
         compared(&record, &then)?;

@@ -14,7 +14,7 @@ use Rattle.export.proofs.look.vz_ahead.Statement.{statement}
 use Rattle.export.proofs.look.vz_ahead.Tie as tie
 
 -- what the test has shown
-sound : (c : tie.Else1) → soundWords (now (c .before .before .before .before .args .words)) ≡ true
+sound : (c : tie.Else1) → soundWords (now (c .before .before .before .before .before .args .words)) ≡ true
 sound c = sym (c .before .is-sound .ensures) ∙ not-false _ (c .if1 .left)
 
 is-sound-requires : tie.Need-is-sound-requires
