@@ -255,8 +255,8 @@ impl Machine {
     }
 
     /// Where so many ticks would leave the machine, and what they would send; the machine itself stays as it is, and no tick is done. Ticks
-    /// while held or idle change nothing, and so do those after the block's end. More than `AHEAD_TICKS` are refused by 38, after 9: to look
-    /// further, look so far and from the machine ahead again.
+    /// while held or idle change nothing, and so do those after the block's end. More than `AHEAD_TICKS` are refused by 38, after 9: to
+    /// look further, look so far and from the machine ahead again.
     ///
     /// ```
     /// use verdaizka::{Block, Machine, Refused, AHEAD_TICKS, USUAL};
