@@ -6,7 +6,6 @@
 // WORK is `none`, `line X Y X Y FEED DONE` (start and end) or `arc KIND X Y N X Y FEED` (centre and end).
 ghost use mathlib.Core.Path.{_≡_};
 ghost use Rattle.settings.specs.Settings.{standardSettings};
-ghost use Rattle.machine.specs.Machine.{freshOf};
 ghost use Rattle.seek.specs.Seek.{seekOf};
 ghost use Rattle.jobwhere.specs.Asked.{pushedOf, askedOf};
 use arc::arc::Arc;
@@ -15,7 +14,6 @@ use input::Input;
 use libc::STDIN_FILENO;
 use libc::STDOUT_FILENO;
 use line::line::Line;
-use machine::Machine;
 use plane::point::Point;
 use seek::Found;
 use seek::Sought;
@@ -87,13 +85,11 @@ fn ask(text: &[u8]) -> Asked
     Asked::Nothing
 }
 
-// At a fresh machine with the check program's settings.
+// With the check program's settings.
 fn find(job: &[u8], ticks: u64) -> Sought
-    ensures { λ r. ⌜ r ≡ seekOf (freshOf standardSettings) (now (job .entry)) ticks ⌝ }
+    ensures { λ r. ⌜ r ≡ seekOf standardSettings (now (job .entry)) ticks ⌝ }
 {
-    let made = Machine::make(standard());
-    let machine = made.machine;
-    seek(machine, job, ticks)
+    seek(standard(), job, ticks)
 }
 
 // ---- the row; each function answers whether all of its part was written

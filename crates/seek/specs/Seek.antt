@@ -5,7 +5,9 @@ use mathlib.Core.List.{List, [], _∷_}
 use Prim.Native.Nat.{ℕ, _+_, _-_}
 use lib.Dec.{leb, ltb}
 use lib.ListN.{length}
+use Rattle.settings.specs.declared.Settings.{Settings}
 use Rattle.machine.specs.declared.Machine.{Machine}
+use Rattle.machine.specs.Calls.{makeOf}
 use Rattle.machine.specs.Run.{runOf}
 use Rattle.ahead.specs.Ahead.{tickingOf}
 use Rattle.reader.specs.declared.Reader.{Reader}
@@ -42,6 +44,9 @@ seekFrom blocks lines n m k (l ∷ ls) =
     let r = readLineOf k m l in
     afterRead blocks (lines + 1) n (r .machine) (r .answer) (λ blocks′ n′ m′. seekFrom blocks′ (lines + 1) n′ m′ (r .reader) ls)
 
+-- The job begins at the machine that a make with these settings answers: a fresh one, also where it refuses them.
 -- "is the text at most 65,536 bytes (asked once, line 1)? 30."
-unfoldable pub seekOf : Machine → (text : List ℕ) (n : ℕ) → Sought
-seekOf m text n = cond (leb (length text) 65536) (seekFrom 0 0 n m unknown (linesOf text)) (answer (Found.Refused 30) 0 1 n m)
+unfoldable pub seekOf : Settings → (text : List ℕ) (n : ℕ) → Sought
+seekOf s text n =
+    let m = makeOf s .machine in
+    cond (leb (length text) 65536) (seekFrom 0 0 n m unknown (linesOf text)) (answer (Found.Refused 30) 0 1 n m)

@@ -12,6 +12,7 @@ use reader::Reader;
 use reader::text_line::Read;
 use reader::text_line::ReadLine;
 use reader::text_line::read_first;
+use settings::Settings;
 
 // What the ticks come to: a block is in work, or all blocks have ended, or a line before that is refused, with the number of the question.
 pub enum Found {
@@ -39,9 +40,11 @@ struct Search {
 }
 
 impl Search {
-    fn start(machine: Machine, ticks: u64) -> Search
-        ensures { λ r. ⌜ r ≡ startOf machine ticks ⌝ }
+    fn start(settings: Settings, ticks: u64) -> Search
+        ensures { λ r. ⌜ r ≡ startOf settings ticks ⌝ }
     {
+        let made = Machine::make(settings);
+        let machine = made.machine;
         let reader = Reader::start();
         let sought = Sought {
             found: Found::Over,
@@ -147,12 +150,14 @@ impl Search {
     }
 }
 
-// After so many ticks of a job that begins at this machine.
-pub fn seek(machine: Machine, text: &[u8], ticks: u64) -> Sought
-    ensures { λ r. ⌜ r ≡ seekOf machine (now (text .entry)) ticks ⌝ }
+// After so many ticks of a job that begins at the machine that a make with these settings answers.
+pub fn seek(settings: Settings, text: &[u8], ticks: u64) -> Sought
+    ensures { λ r. ⌜ r ≡ seekOf settings (now (text .entry)) ticks ⌝ }
 {
-    let mut search = Search::start(machine, ticks);
+    let mut search = Search::start(settings, ticks);
     if 65_536 < text.len() {
+        let begun = search.sought;
+        let machine = begun.machine;
         let long = search.refused(machine, 30);
         return long.sought;
     }

@@ -32,14 +32,15 @@ start-requires : tie.Need-start-requires Inv-loop μ-loop
 start-requires c κs = tt
 
 refused-requires : tie.Need-refused-requires Inv-loop μ-loop
-refused-requires c κs = start-counted _ _ (c .before .start .ensures)
+refused-requires c κs = start-counted _ _ (c .before .before .before .start .ensures)
 
 returns : tie.Need-returns Inv-loop μ-loop
 returns c =
     let r = c .before in
-    let b = r .before .before in
+    let t = r .before .before .before in
+    let b = t .before in
     let s = b .before .before .args in
-    rw (r .refused .ensures, b .start .ensures) (seek-long (s .machine) (s .text .now) (s .ticks) (r .before .if1 .taken))
+    rw (r .refused .ensures, b .start .ensures) (seek-long (s .settings) (s .ticks) (s .text .now) (t .if1 .taken))
 
 loop-holds : tie.Need-loop-holds Inv-loop μ-loop
 loop-holds c = seeking-start _ _ _ (c .before .start .ensures) (c .if1 .left)
@@ -48,10 +49,10 @@ loop-holds c = seeking-start _ _ _ (c .before .start .ensures) (c .if1 .left)
 begun :
     (c : tie.Else1 Inv-loop μ-loop)
     → (let s = c .before .before .before .args in
-    sought (c .before .start .result) (linesOf (s .text .now)) ≡ seekOf (s .machine) (s .text .now) (s .ticks))
+    sought (c .before .start .result) (linesOf (s .text .now)) ≡ seekOf (s .settings) (s .text .now) (s .ticks))
 begun c =
     let s = c .before .before .before .args in
-    rw (c .before .start .ensures) (seek-short (s .machine) (s .text .now) (s .ticks) (c .if1 .left))
+    rw (c .before .start .ensures) (seek-short (s .settings) (s .ticks) (s .text .now) (c .if1 .left))
 
 sub-read-first : tie.Need-sub-read-first Inv-loop μ-loop
 sub-read-first c = search needs

@@ -13,7 +13,7 @@ use Rattle.settings.specs.Settings.{settingsNo}
 use Rattle.machine.specs.declared.Machine.{Machine}
 use Rattle.machine.specs.declared.Ran.{Ran}
 use Rattle.machine.specs.Machine.{movedOf, freshOf}
-use Rattle.machine.specs.Calls.{loadOf}
+use Rattle.machine.specs.Calls.{makeOf, loadOf}
 use Rattle.machine.specs.Run.{runOf}
 use Rattle.finish.specs.laws.Record.{AtRest}
 use Rattle.ahead.specs.Ahead.{tickingOf}
@@ -104,11 +104,11 @@ unfolding seekFrom jobFrom
 lines-listed [] blocks lines n m k i = tt
 lines-listed (l ∷ ls) blocks lines n m k i = by-line blocks lines n m k ls i (lines-listed ls) (line-asks m k (i .sound) (i .idle) l)
 
--- of a whole text, from a machine made fresh
+-- of a whole text
 pub seek-listed : (s : Settings) → settingsNo s ≡ 0 → (text : List ℕ) (n : ℕ)
-    → (let a = seekOf (freshOf s) text n in Among (a .found) 0 (a .block) (a .line) (jobOf s text .blocks))
-unfolding seekOf jobOf freshOf
-seek-listed s passed text n = by (leb (length text) 65536)
+    → (let a = seekOf s text n in Among (a .found) 0 (a .block) (a .line) (jobOf s text .blocks))
+unfolding seekOf jobOf makeOf freshOf
+seek-listed s passed text n = rw passed (by (leb (length text) 65536))
   where
     by : (short : Bool)
         → Listed (cond short (seekFrom 0 0 n (freshOf s) unknown (linesOf text)) (answer (Found.Refused 30) 0 1 n (freshOf s))) 0

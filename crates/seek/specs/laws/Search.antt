@@ -5,8 +5,10 @@ use mathlib.Core.List.{List, _∷_}
 use Prim.Native.Nat.{ℕ, _+_, _-_, _≤_}
 use native.Mathlib.Omega.{arith}
 use lib.Dec.{ltb}
+use Rattle.settings.specs.declared.Settings.{Settings}
 use Rattle.machine.specs.declared.Machine.{Machine}
 use Rattle.machine.specs.Machine.{soundOf}
+use Rattle.machine.specs.Calls.{makeOf}
 use Rattle.machine.specs.Run.{runOf}
 use Rattle.ahead.specs.Ahead.{tickingOf}
 use Rattle.reader.specs.declared.Reader.{Reader}
@@ -30,8 +32,8 @@ Counted s = (s .sought .block ≤ s .sought .line) × (s .sought .line ≤ 65536
 abbrev pub Tested : ReadLine → Type 0
 Tested r = (bits : ℕ) → r .answer ≡ Read.Loaded bits → soundOf (r .machine) ≡ true
 
-unfoldable pub startOf : Machine → (n : ℕ) → Search
-startOf m n = record { over = false; reader = unknown; sought = answer Found.Over 0 0 n m }
+unfoldable pub startOf : Settings → (n : ℕ) → Search
+startOf s n = record { over = false; reader = unknown; sought = answer Found.Over 0 0 n (makeOf s .machine) }
 
 abbrev pub passedOf : Search → Reader → Machine → Search
 passedOf s k m =

@@ -8,7 +8,7 @@ use lib.ListN.{length, drop, length-drop, drop-of-length-le}
 use lib.Seq.{drop-drop}
 use borrow.Author.Tests.{le-leb, lt-leb}
 use Rattle.words.specs.laws.Scan.{firstLine}
-use Rattle.machine.specs.declared.Machine.{Machine}
+use Rattle.settings.specs.declared.Settings.{Settings}
 use Rattle.reader.specs.declared.«text_line».ReadLine.{ReadLine}
 use Rattle.reader.specs.TextLine.{readLineOf}
 use Rattle.job.specs.Text.{linesOf}
@@ -19,17 +19,19 @@ use Rattle.seek.specs.declared.Search.{Search}
 use Rattle.seek.specs.Seek.{seekFrom, seekOf}
 use Rattle.seek.specs.laws.Search.{startOf, refusedOf, lineOf, sought, found, Counted, line-found, line-onward}
 
-pub start-counted : (m : Machine) (n : ℕ) {s : Search} → s ≡ startOf m n → Counted s
-unfolding startOf
-start-counted m n is = rw is (omega arith, omega arith)
+module _ (c : Settings) (n : ℕ) where
+  pub start-counted : {s : Search} → s ≡ startOf c n → Counted s
+  unfolding startOf
+  start-counted is = rw is (omega arith, omega arith)
 
-pub seek-long : (m : Machine) (text : List ℕ) (n : ℕ) → 65536 < length text → refusedOf (startOf m n) m 30 .sought ≡ seekOf m text n
-unfolding seekOf startOf
-seek-long m text n long = rw (lt-leb (length text) 65536 long)
+  pub seek-long : (text : List ℕ) → 65536 < length text
+      → refusedOf (startOf c n) (startOf c n .sought .machine) 30 .sought ≡ seekOf c text n
+  unfolding seekOf startOf
+  seek-long text long = rw (lt-leb (length text) 65536 long)
 
-pub seek-short : (m : Machine) (text : List ℕ) (n : ℕ) → length text ≤ 65536 → sought (startOf m n) (linesOf text) ≡ seekOf m text n
-unfolding seekOf startOf
-seek-short m text n short = rw (le-leb (length text) 65536 short)
+  pub seek-short : (text : List ℕ) → length text ≤ 65536 → sought (startOf c n) (linesOf text) ≡ seekOf c text n
+  unfolding seekOf startOf
+  seek-short text short = rw (le-leb (length text) 65536 short)
 
 -- the lines before `at` are read, and what is left of the text holds the answer
 pub record Seeking (text : List ℕ) (answer : Sought) (s : Search) (at : ℕ) : Type 0 where
@@ -39,10 +41,10 @@ pub record Seeking (text : List ℕ) (answer : Sought) (s : Search) (at : ℕ) :
   pub lines : s .sought .line ≤ at
   pub short : length text ≤ 65536
 
-pub seeking-start : (m : Machine) (text : List ℕ) (n : ℕ) {s : Search} → s ≡ startOf m n → length text ≤ 65536
+pub seeking-start : (c : Settings) (n : ℕ) (text : List ℕ) {s : Search} → s ≡ startOf c n → length text ≤ 65536
     → Seeking text (sought s (linesOf text)) s 0
 unfolding startOf
-seeking-start m text n is short = rw is (record { rest = refl; going = refl; blocks = omega arith; lines = omega arith; short = short })
+seeking-start c n text is short = rw is (record { rest = refl; going = refl; blocks = omega arith; lines = omega arith; short = short })
 
 module _ {text : List ℕ} {answer : Sought} {s : Search} {at : ℕ} (g : Seeking text answer s at) where
   -- no line is left

@@ -19,7 +19,7 @@ use Rattle.machine.specs.declared.Machine.{Machine}
 use Rattle.machine.specs.declared.Answered.{Answered}
 use Rattle.machine.specs.declared.Ran.{Ran}
 use Rattle.machine.specs.Machine.{movedOf, freshOf}
-use Rattle.machine.specs.Calls.{loadOf}
+use Rattle.machine.specs.Calls.{makeOf, loadOf}
 use Rattle.machine.specs.Run.{Run, runOf}
 use Rattle.machine.specs.laws.Run.{ticks-are}
 use Rattle.book.specs.Sums.{pulsesIn}
@@ -150,15 +150,15 @@ unfolding bytesFrom seekFrom
 lines-stand [] blocks lines n m k i = record { leads = no-bytes (m .at) n; counts = omega arith }
 lines-stand (l ∷ ls) blocks lines n m k i = by-line blocks (lines + 1) n m k ls i (lines-stand ls) (line-asks m k (i .sound) (i .idle) l)
 
--- ---- of a whole text, from a machine made fresh
+-- ---- of a whole text
 
 module _ (s : Settings) (passed : settingsNo s ≡ 0) (text : List ℕ) (n : ℕ) where
   abbrev sought : Sought
-  sought = seekOf (freshOf s) text n
+  sought = seekOf s text n
 
   text-stands : Stands (record { x = pos 0; y = pos 0 }) n (tickBytesOf s text) sought
-  unfolding seekOf tickBytesOf freshOf
-  text-stands = by (leb (length text) 65536)
+  unfolding seekOf tickBytesOf makeOf freshOf
+  text-stands = rw passed (by (leb (length text) 65536))
     where
       by : (short : Bool)
           → Stands (record { x = pos 0; y = pos 0 }) n (cond short (bytesFrom (freshOf s) unknown (linesOf (drop 0 text))) [])

@@ -4,12 +4,15 @@ use Rattle.seek.specs.laws.Search.{startOf}
 use Rattle.seek.proofs.Search.start.Statement.{statement}
 use Rattle.seek.proofs.Search.start.Tie as tie
 
+make-requires : tie.Need-make-requires
+make-requires c κs = search needs
+
 start-requires : tie.Need-start-requires
 start-requires c κs = search needs
 
 returns : tie.Need-returns
 unfolding startOf
-returns c = rw (c .start .ensures)
+returns c = rw (c .start .ensures, c .before .before .make .ensures)
 
 pub start-spec : {M : Type 1} → statement M
-start-spec = tie.close (tie.spec start-requires returns)
+start-spec = tie.close (tie.spec make-requires start-requires returns)
