@@ -5,6 +5,7 @@ use mathlib.Core.List.{List, [], _∷_}
 use Prim.Native.Nat.{ℕ, _+_, _-_}
 use lib.Dec.{leb, ltb}
 use lib.ListN.{length}
+use Rattle.work.specs.Work.{cyclesLeft}
 use Rattle.settings.specs.declared.Settings.{Settings}
 use Rattle.machine.specs.declared.Machine.{Machine}
 use Rattle.machine.specs.Calls.{makeOf}
@@ -19,9 +20,15 @@ use Rattle.job.specs.Calls.{enough}
 use Rattle.seek.specs.declared.Found.{Found}
 use Rattle.seek.specs.declared.Sought.{Sought}
 
+-- the cycles that a block in work has left to its end
+abbrev pub leftIn : Found → Machine → ℕ
+leftIn Found.InWork m = cyclesLeft (m .at) (m .work)
+leftIn Found.Over m = 0
+leftIn (Found.Refused number) m = 0
+
 -- the block and the text line, counted from 1, and the ticks done of it; with no block in work, how many of both, and the ticks left over
 abbrev pub answer : Found → (block line n : ℕ) → Machine → Sought
-answer found block line n m = record { found = found; block = block; line = line; ticks = n; machine = m }
+answer found block line n m = record { found = found; block = block; line = line; ticks = n; left = leftIn found m; machine = m }
 
 -- A block newly in work, with n ticks to go. Where its run to the end does more, it is still in work after n tick calls: 02 §1, "the record
 -- .. that the same ticks would give on a copy". Else the job goes on where that run leaves the machine, also where it does just n.

@@ -13,6 +13,7 @@ use reader::text_line::Read;
 use reader::text_line::ReadLine;
 use reader::text_line::read_first;
 use settings::Settings;
+use work::rest::work_left;
 
 // What the ticks come to: a block is in work, or all blocks have ended, or a line before that is refused, with the number of the question.
 pub enum Found {
@@ -29,6 +30,8 @@ pub struct Sought {
     pub line: u64,
     // Those done of the block in work; else those that are left over.
     pub ticks: u64,
+    // The cycles that the block in work has left to its end; else 0.
+    pub left: u64,
     pub machine: Machine,
 }
 
@@ -51,6 +54,7 @@ impl Search {
             block: 0,
             line: 0,
             ticks: ticks,
+            left: 0,
             machine: machine,
         };
         Search {
@@ -71,6 +75,7 @@ impl Search {
             block: s.block,
             line: s.line + 1,
             ticks: s.ticks,
+            left: 0,
             machine: machine,
         };
         Search {
@@ -89,12 +94,17 @@ impl Search {
         let done = finish(loaded);
         let over = s.ticks < done.ticks;
         let next = if over {
+            let then = after_ticks(loaded, s.ticks);
+            let at = then.at;
+            let work = then.work;
+            let left = work_left(at, work);
             Sought {
                 found: Found::InWork,
                 block: s.block + 1,
                 line: s.line + 1,
                 ticks: s.ticks,
-                machine: after_ticks(loaded, s.ticks),
+                left: left.cycles,
+                machine: then,
             }
         } else {
             let ended = done.machine;
@@ -103,6 +113,7 @@ impl Search {
                 block: s.block + 1,
                 line: s.line + 1,
                 ticks: s.ticks - done.ticks,
+                left: 0,
                 machine: ended,
             }
         };
@@ -125,6 +136,7 @@ impl Search {
             block: s.block,
             line: s.line + 1,
             ticks: s.ticks,
+            left: 0,
             machine: machine,
         };
         Search {

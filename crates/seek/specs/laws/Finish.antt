@@ -1,12 +1,20 @@
 -- A run to the end of any sound record is what finishing it gives, in ticks and in the record left.
-use mathlib.Core.Path.{_≡_, refl, ap, _∙_}
+use mathlib.Core.Path.{_≡_, refl, sym, ap, subst, _∙_}
 use mathlib.Core.Bool.{Bool, true, false}
 use Prim.Native.Nat.{ℕ, _+_, _-_}
 use lib.Dec.{ltb}
+use Rattle.work.specs.declared.Work.{Work}
+use Rattle.work.specs.declared.rest.Left.{Left}
+use Rattle.work.specs.Work.{isNothing}
+use Rattle.work.specs.Rest.{Countable, leftOf}
+use Rattle.run.specs.laws.Skip.{skip-counts}
 use Rattle.ahead.specs.Ahead.{tickingOf}
+use Rattle.ahead.specs.laws.Ticks.{ticking-sound}
 use Rattle.machine.specs.declared.Machine.{Machine}
 use Rattle.machine.specs.declared.Ran.{Ran}
+use Rattle.machine.specs.Machine.{soundOf}
 use Rattle.machine.specs.Run.{runOf}
+use Rattle.machine.specs.laws.Sound.{sound, running}
 use Rattle.machine.specs.laws.Run.{ticks-are}
 use Rattle.finish.specs.declared.Finished.{Finished}
 use Rattle.finish.specs.Finish.{worksOf, finishOf}
@@ -40,6 +48,14 @@ run-ends m = by (worksOf m) refl
         record { ticks = ap (λ (r : Ran). r .ticks) is; machine = ap (λ (r : Ran). r .machine) is }
     by false e = resting m e
 
+sound-counts : (m : Machine) → soundOf m ≡ true → Countable (m .at) (m .work)
+sound-counts m e = by (m .work) (λ busy. skip-counts (running (sound e) busy))
+  where
+    by : (w : Work) → (isNothing w ≡ false → Countable (m .at) w) → Countable (m .at) w
+    by Work.Nothing busy = tt
+    by (Work.Line l) busy = busy refl
+    by (Work.Arc a) busy = busy refl
+
 -- a block of a search, finished
 module _ (s : Search) (k : Reader) (m : Machine) {f : Finished} (is : f ≡ finishOf m) where
   block-ends : blockOf s k m ≡ blockWith s k m (f .ticks) (f .machine)
@@ -49,13 +65,27 @@ module _ (s : Search) (k : Reader) (m : Machine) {f : Finished} (is : f ≡ fini
   abbrev n : ℕ
   n = s .sought .ticks
 
+  -- the record after n ticks tells the cycles left
+  pub then-counts : soundOf m ≡ true → {then : Machine} → then ≡ tickingOf n m .machine → Countable (then .at) (then .work)
+  then-counts e {then} here =
+      sound-counts then (subst (λ (k : Machine). soundOf k ≡ true) (sym here) (ticking-sound n m e))
+
   pub block-here : ltb n (f .ticks) ≡ true → {then : Machine} → then ≡ tickingOf n m .machine
+      → {left : Left} → left ≡ leftOf (then .at) (then .work)
       → record {
         over = ltb n (f .ticks);
         reader = k;
-        sought = answer Found.InWork (s .sought .block + 1) (s .sought .line + 1) n then;
+        sought =
+            record {
+              found = Found.InWork;
+              block = s .sought .block + 1;
+              line = s .sought .line + 1;
+              ticks = n;
+              left = left .cycles;
+              machine = then;
+            };
       } ≡ blockOf s k m
-  block-here more here = rw (block-ends, more, here)
+  block-here more here left = rw (block-ends, more, left, here)
 
   pub block-on : ltb n (f .ticks) ≡ false
       → record {

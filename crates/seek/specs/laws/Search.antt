@@ -114,7 +114,7 @@ line-found s l ls {r} read = rw (← read) (by (r .answer))
 pub record Onward (s t : Search) : Type 0 where
   pub blocks : t .sought .block ≤ s .sought .block + 1
   pub lines : t .sought .line ≡ s .sought .line + 1
-  pub going : t .over ≡ false → t .sought .found ≡ Found.Over
+  pub going : t .over ≡ false → (t .sought .found ≡ Found.Over) × (t .sought .left ≡ 0)
 
 pub line-onward : (s : Search) (r : ReadLine) → Onward s (lineOf s r)
 unfolding blockOf
@@ -129,10 +129,10 @@ line-onward s r = by (r .answer)
           sought = cond over (answer Found.InWork b l (s .sought .ticks) m) (answer Found.Over b l k n);
         }))
     block true m n k = record { blocks = omega arith; lines = refl; going = λ e. absurd (true≢false e) }
-    block false m n k = record { blocks = omega arith; lines = refl; going = λ e. refl }
+    block false m n k = record { blocks = omega arith; lines = refl; going = λ e. (refl, refl) }
 
     by : (a : Read) → Onward s (lineWith s (r .reader) (r .machine) a)
-    by Read.Nothing = record { blocks = omega arith; lines = refl; going = λ e. refl }
+    by Read.Nothing = record { blocks = omega arith; lines = refl; going = λ e. (refl, refl) }
     by (Read.Loaded bits) =
         let x = runOf (r .machine) enough enough .ran in
         let n = s .sought .ticks in

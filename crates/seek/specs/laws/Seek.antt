@@ -37,6 +37,7 @@ module _ (c : Settings) (n : ℕ) where
 pub record Seeking (text : List ℕ) (answer : Sought) (s : Search) (at : ℕ) : Type 0 where
   pub rest : sought s (linesOf (drop at text)) ≡ answer
   pub going : s .sought .found ≡ Found.Over
+  pub none : s .sought .left ≡ 0
   pub blocks : s .sought .block ≤ s .sought .line
   pub lines : s .sought .line ≤ at
   pub short : length text ≤ 65536
@@ -44,7 +45,7 @@ pub record Seeking (text : List ℕ) (answer : Sought) (s : Search) (at : ℕ) :
 pub seeking-start : (c : Settings) (n : ℕ) (text : List ℕ) {s : Search} → s ≡ startOf c n → length text ≤ 65536
     → Seeking text (sought s (linesOf text)) s 0
 unfolding startOf
-seeking-start c n text is short = rw is (record { rest = refl; going = refl; blocks = omega arith; lines = omega arith; short = short })
+seeking-start c n text is short = rw is (record { rest = refl; going = refl; none = refl; blocks = omega arith; lines = omega arith; short = short })
 
 module _ {text : List ℕ} {answer : Sought} {s : Search} {at : ℕ} (g : Seeking text answer s at) where
   -- no line is left
@@ -52,7 +53,7 @@ module _ {text : List ℕ} {answer : Sought} {s : Search} {at : ℕ} (g : Seekin
   unfolding seekFrom linesOf
   seeking-end end =
       let t = s .sought in
-      (λ i. record { found = g .going i; block = t .block; line = t .line; ticks = t .ticks; machine = t .machine })
+      (λ i. record { found = g .going i; block = t .block; line = t .line; ticks = t .ticks; left = g .none i; machine = t .machine })
       ∙ rw (drop-of-length-le text end) at (g .rest)
 
   module _ (more : at < length text) where
@@ -76,7 +77,8 @@ module _ {text : List ℕ} {answer : Sought} {s : Search} {at : ℕ} (g : Seekin
             let after = drop-drop _ at text ∙ ap (λ (k : ℕ). drop k text) same in
             record {
               rest = rw (on, after) at cut;
-              going = o .going on;
+              going = o .going on .0;
+              none = o .going on .1;
               blocks = omega (arith, o .blocks, o .lines, g .blocks);
               lines = omega (arith, o .lines, g .lines);
               short = g .short;
