@@ -1,5 +1,6 @@
--- To be believed: Decimal, Lines, Buffer. Proved of them: laws.
+-- To be believed: Decimal, Lines, Buffer, Numbers. Proved of them: laws.
 pub mod Decimal
 pub mod Lines
 pub mod Buffer
+pub mod Numbers
 pub mod laws

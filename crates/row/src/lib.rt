@@ -1,4 +1,5 @@
-// The lines of the check program's listing, in bytes, written straight into a lent buffer.
-// Every public function answers for every argument. `specs/Lines.antt` says what the lines have to be.
+// The lines of the check program's listing and lines of plain numbers, in bytes, written straight into a lent buffer.
+// Every public function answers for every argument. `specs/Lines.antt` and `specs/Numbers.antt` say what the lines have to be.
 pub mod lines;
+pub mod numbers;
 mod push;

@@ -7,6 +7,7 @@ use Rattle.row.specs.declared.lines.Kind.the-variants.{Line, Arc}
 use Rattle.row.specs.Decimal.{decimal, signedDecimal}
 use Rattle.row.specs.laws.Decimal.{decimal-large}
 use Rattle.row.specs.Lines.{headerLine, blockLine, totalLine, refusedLine}
+use Rattle.row.specs.Numbers.{numbersLine}
 
 -- "block line kind cycles x y bits"
 pub header : headerLine ≡ 98 ∷ 108 ∷ 111 ∷ 99 ∷ 107 ∷ 32 ∷ 108 ∷ 105 ∷ 110 ∷ 101 ∷ 32 ∷ 107 ∷ 105 ∷ 110 ∷ 100 ∷ 32 ∷ 99 ∷ 121 ∷ 99 ∷ 108 ∷ 101 ∷ 115 ∷ 32 ∷ 120 ∷ 32 ∷ 121 ∷ 32 ∷ 98 ∷ 105 ∷ 116 ∷ 115 ∷ 10 ∷ []
@@ -56,3 +57,11 @@ refusal = refl
 pub arc-to-the-left : blockLine 1 1 Arc 7 (negsuc 4) (pos 0) 3 ≡ 49 ∷ 32 ∷ 49 ∷ 32 ∷ 65 ∷ 32 ∷ 55 ∷ 32 ∷ 45 ∷ 53 ∷ 32 ∷ 48 ∷ 32 ∷ 51 ∷ 10 ∷ []
 unfolding decimal signedDecimal
 arc-to-the-left = refl
+
+-- "-15 0 7", and no number
+pub plain-numbers : numbersLine (negsuc 14 ∷ pos 0 ∷ pos 7 ∷ []) ≡ 45 ∷ 49 ∷ 53 ∷ 32 ∷ 48 ∷ 32 ∷ 55 ∷ 10 ∷ []
+unfolding decimal signedDecimal
+plain-numbers = refl
+
+pub no-number : numbersLine [] ≡ 10 ∷ []
+no-number = refl
