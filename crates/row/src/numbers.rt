@@ -4,8 +4,8 @@ use crate::push;
 ghost use mathlib.Core.Path.{_≡_};
 ghost use Prim.Native.Nat.{_+_, _*_, _≤_, _<_};
 ghost use lib.ListN.{length};
-ghost use Rattle.row.specs.Numbers.{numbersLine, bufferWith, placeWith};
-ghost use Rattle.row.specs.laws.Puts.{Puts};
+ghost use Rattle.row.specs.Numbers.{bufferWith, placeWith};
+ghost use Rattle.row.specs.laws.Numbers.{PutsNumbers};
 
 const BLANK: u8 = 32;
 
@@ -16,7 +16,7 @@ const NUMBER: usize = 22;
 
 fn fields(out: &mut [u8], at: usize, numbers: &[i64]) -> usize
     requires { ⌜ (0 < length (now numbers)) × (at + 22 * length (now numbers) ≤ length (now out)) ⌝ }
-    ensures { λ r. ⌜ Puts (numbersLine (now (numbers .entry))) (22 * length (now (numbers .entry))) (now (out .entry)) at (now (out .exit)) r ⌝ }
+    ensures { λ r. ⌜ PutsNumbers (now (numbers .entry)) (now (out .entry)) at (now (out .exit)) r ⌝ }
 {
     let last = numbers.len() - 1;
     let mut next = at;

@@ -26,7 +26,8 @@ leftIn Found.InWork m = cyclesLeft (m .at) (m .work)
 leftIn Found.Over m = 0
 leftIn (Found.Refused number) m = 0
 
--- the block and the text line, counted from 1, and the ticks done of it; with no block in work, how many of both, and the ticks left over
+-- The block in work and its text line, counted from 1, and the ticks done of it. Else how many blocks have ended, how many lines there are
+-- or which is refused, and the ticks left over.
 abbrev pub answer : Found → (block line n : ℕ) → Machine → Sought
 answer found block line n m = record { found = found; block = block; line = line; ticks = n; left = leftIn found m; machine = m }
 
@@ -38,10 +39,10 @@ afterBlock block line n m rest =
     cond (ltb n (x .ticks)) (answer Found.InWork block line n (tickingOf n m .machine)) (rest (n - x .ticks) (x .machine))
 
 -- what a line's reading answers, with so many blocks before it
-abbrev pub afterRead : (blocks line n : ℕ) → Machine → Read → (rest : (blocks n : ℕ) → Machine → Sought) → Sought
-afterRead blocks line n m Read.Nothing rest = rest blocks n m
-afterRead blocks line n m (Read.Loaded bits) rest = afterBlock (blocks + 1) line n m (rest (blocks + 1))
-afterRead blocks line n m (Read.Refused number) rest = answer (Found.Refused number) blocks line n m
+abbrev pub afterLine : (blocks line n : ℕ) → Machine → Read → (rest : (blocks n : ℕ) → Machine → Sought) → Sought
+afterLine blocks line n m Read.Nothing rest = rest blocks n m
+afterLine blocks line n m (Read.Loaded bits) rest = afterBlock (blocks + 1) line n m (rest (blocks + 1))
+afterLine blocks line n m (Read.Refused number) rest = answer (Found.Refused number) blocks line n m
 
 -- 01, The check program: "Each block is loaded once the one before has ended, remainder kept." After the last line the job is over, with
 -- n ticks left. So many blocks and lines stand before these.
@@ -49,7 +50,7 @@ unfoldable pub seekFrom : (blocks lines n : ℕ) → Machine → Reader → (res
 seekFrom blocks lines n m k [] = answer Found.Over blocks lines n m
 seekFrom blocks lines n m k (l ∷ ls) =
     let r = readLineOf k m l in
-    afterRead blocks (lines + 1) n (r .machine) (r .answer) (λ blocks′ n′ m′. seekFrom blocks′ (lines + 1) n′ m′ (r .reader) ls)
+    afterLine blocks (lines + 1) n (r .machine) (r .answer) (λ blocks′ n′ m′. seekFrom blocks′ (lines + 1) n′ m′ (r .reader) ls)
 
 -- The job begins at the machine that a make with these settings answers: a fresh one, also where it refuses them.
 -- "is the text at most 65,536 bytes (asked once, line 1)? 30."

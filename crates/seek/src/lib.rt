@@ -35,9 +35,9 @@ pub struct Sought {
     pub machine: Machine,
 }
 
-// A search between two lines. `sought` is the answer where the text ends there, or where the search is over before.
+// A search between two lines. `sought` is the answer where the text ends there, or whatever follows once it is decided.
 struct Search {
-    over: bool,
+    decided: bool,
     reader: Reader,
     sought: Sought,
 }
@@ -58,7 +58,7 @@ impl Search {
             machine: machine,
         };
         Search {
-            over: false,
+            decided: false,
             reader: reader,
             sought: sought,
         }
@@ -79,7 +79,7 @@ impl Search {
             machine: machine,
         };
         Search {
-            over: false,
+            decided: false,
             reader: reader,
             sought: next,
         }
@@ -92,8 +92,8 @@ impl Search {
     {
         let s = self.sought;
         let done = finish(loaded);
-        let over = s.ticks < done.ticks;
-        let next = if over {
+        let decided = s.ticks < done.ticks;
+        let next = if decided {
             let then = after_ticks(loaded, s.ticks);
             let at = then.at;
             let work = then.work;
@@ -118,7 +118,7 @@ impl Search {
             }
         };
         Search {
-            over: over,
+            decided: decided,
             reader: reader,
             sought: next,
         }
@@ -140,7 +140,7 @@ impl Search {
             machine: machine,
         };
         Search {
-            over: true,
+            decided: true,
             reader: reader,
             sought: next,
         }
@@ -181,7 +181,7 @@ pub fn seek(settings: Settings, text: &[u8], ticks: u64) -> Sought
         let first = read_first(known, before, &text[at..]);
         let read = first.read;
         search = search.line(read);
-        if search.over {
+        if search.decided {
             return search.sought;
         }
         at = at + first.bytes + 1;

@@ -1,12 +1,12 @@
 -- The pulses of ticks lead from point to point, so their sum is the way.
 use mathlib.Core.Path.{_≡_, sym, ap, _∙_}
 use mathlib.Core.Bool.{Bool, true, false, cond, _||_}
-use mathlib.Core.List.{List, [], _∷_}
+use mathlib.Core.List.{List, [], _∷_, _++_}
 use Prim.Native.Nat.{ℕ, zero, suc, _+_}
 use native.Mathlib.Omega.{arith}
 use lib.Dec.{eqb}
 use lib.IntN.{ℤ, pos, _+ℤ_, _-ℤ_, +ℤ-idr}
-use Rattle.whole.specs.laws.Difference.{ring, var, _⊕_, _⊖_}
+use Rattle.whole.specs.laws.Difference.{ring, var, num, _⊕_, _⊖_}
 use Rattle.plane.specs.declared.point.Point.{Point}
 use Rattle.plane.specs.declared.travel.Travel.{Travel}
 use Rattle.plane.specs.Point.{equalPoint}
@@ -42,6 +42,21 @@ pub record Leads (from : Point) (bytes : List ℕ) (to : Point) : Type 0 where
 
 pub leads-none : (at : Point) → Leads at [] at
 leads-none at = record { x = sym (+ℤ-idr (at .x)); y = sym (+ℤ-idr (at .y)) }
+
+pulses-both : (code : ℕ → ℕ) (a b : List ℕ) → pulsesIn code (a ++ b) ≡ pulsesIn code a +ℤ pulsesIn code b
+pulses-both code [] b = let z = pulsesIn code b in ring (var z) (num 0 ⊕ var z) (omega arith)
+pulses-both code (x ∷ a) b =
+    let p = pulseOf (code x) in
+    let u = pulsesIn code a in
+    let v = pulsesIn code b in
+    ap (λ (z : ℤ). p +ℤ z) (pulses-both code a b) ∙ ring (var p ⊕ (var u ⊕ var v)) (var p ⊕ var u ⊕ var v) (omega arith)
+
+pub leads-both : {from mid to : Point} {a b : List ℕ} → Leads from a mid → Leads mid b to → Leads from (a ++ b) to
+leads-both {from} {a = a} {b = b} h g =
+    record {
+      x = rw (pulses-both codeX a b) (onward (from .x) (pulsesIn codeX a) (pulsesIn codeX b) (h .x) (g .x));
+      y = rw (pulses-both codeY a b) (onward (from .y) (pulsesIn codeY a) (pulsesIn codeY b) (h .y) (g .y));
+    }
 
 leads-zero : (at : Point) → Leads at (0 ∷ []) at
 leads-zero at = record { x = sym (+ℤ-idr (at .x)); y = sym (+ℤ-idr (at .y)) }

@@ -1,8 +1,10 @@
--- The record after ticks: as it was where they are no working ones, else what a run without its bytes leaves.
+-- The record after ticks: as it was where they are no working ones, else what a run leaves; and the bytes of a run's first ticks.
 use mathlib.Core.Path.{_≡_, refl, sym, ap, subst, _∙_}
 use mathlib.Core.Bool.{Bool, true, false, _&&_, _||_, not}
-use Prim.Native.Nat.{ℕ, zero, suc, _+_}
+use mathlib.Core.List.{List, [], _∷_}
+use Prim.Native.Nat.{ℕ, zero, suc, _+_, _≤_}
 use native.Mathlib.Omega.{arith}
+use lib.ListN.{length, take}
 use Rattle.work.specs.declared.Advance.{Advance}
 use Rattle.work.specs.Work.{isNothing, advanceOf}
 use Rattle.run.specs.Run.{Strip, inFront, stripOf}
@@ -17,6 +19,7 @@ use Rattle.keeps.specs.laws.Calls.{tick-keeps}
 use Rattle.finish.specs.Finish.{worksOf}
 use Rattle.finish.specs.laws.Record.{AtWork}
 use Rattle.ahead.specs.Ahead.{tickingOf}
+use Rattle.ahead.specs.Ahead.{inFront as tickInFront}
 
 -- ---- any sound record
 
@@ -58,36 +61,68 @@ ticking-rests n m e rests = ticking-still m e (by (m .held) (isNothing (m .work)
 abbrev pub leftBy : Machine → Strip → Machine
 leftBy m s = movedOf m (s .at) (s .remainder) (s .work)
 
-pub ticking-works : (n : ℕ) (m : Machine) → AtWork m
-    → tickingOf n m .machine ≡ leftBy m (stripOf (capacityOf (m .settings)) n (m .at) (m .remainder) (m .work))
-unfolding tickingOf stripOf movedOf
-ticking-works zero m a = refl
-ticking-works (suc n) m a =
-    ap (λ (t : Ticked). tickingOf n (t .machine) .machine) (sym tick)
-    ∙ by (isNothing (next .work)) refl (λ busy. ticking-works n moved (record { sound = kept; free = a .free; busy = busy }))
-  where
-    next : Advance
-    next = advanceOf (capacityOf (m .settings)) (m .at) (m .remainder) (m .work)
+-- the bytes and the record of so many working ticks, or fewer where the block ends
+abbrev pub ticksOf : Machine → (most : ℕ) → Strip
+ticksOf m most = stripOf (capacityOf (m .settings)) most (m .at) (m .remainder) (m .work)
 
-    moved : Machine
-    moved = movedOf m (next .at) (next .remainder) (next .work)
+-- one working tick
+module _ (m : Machine) where
+  abbrev next : Advance
+  next = advanceOf (capacityOf (m .settings)) (m .at) (m .remainder) (m .work)
 
+  abbrev moved : Machine
+  moved = movedOf m (next .at) (next .remainder) (next .work)
+
+  module _ (a : AtWork m) where
     tick : working m next ≡ tickOf m
     tick = tick-works m (a .sound) (a .free) (a .busy) refl
 
-    kept : soundOf (movedOf m (next .at) (next .remainder) (next .work)) ≡ true
+    kept : soundOf moved ≡ true
     kept = subst (λ (t : Ticked). soundOf (t .machine) ≡ true) (sym tick) (tick-keeps m (a .sound))
 
+    working-on : isNothing (next .work) ≡ false → AtWork moved
+    unfolding movedOf
+    working-on busy = record { sound = kept; free = a .free; busy = busy }
+
+pub ticking-works : (n : ℕ) (m : Machine) → AtWork m → tickingOf n m .machine ≡ leftBy m (ticksOf m n)
+unfolding tickingOf stripOf movedOf
+ticking-works zero m a = refl
+ticking-works (suc n) m a =
+    ap (λ (t : Ticked). tickingOf n (t .machine) .machine) (sym (tick m a))
+    ∙ by (isNothing (next m .work)) refl (λ busy. ticking-works n (moved m) (working-on m a busy))
+  where
     -- the ticks after a block's end are idle ones
     idle : (held none : Bool) → none ≡ true → held || none ≡ true
     idle true none e = refl
     idle false none e = e
 
     rest : Strip
-    rest = stripOf (capacityOf (m .settings)) n (next .at) (next .remainder) (next .work)
+    rest = ticksOf (moved m) n
 
-    by : (ended : Bool) → isNothing (next .work) ≡ ended
-        → (isNothing (next .work) ≡ false → tickingOf n moved .machine ≡ leftBy m rest)
-        → tickingOf n moved .machine ≡ leftBy m (inFront ended next rest)
-    by true none later = ticking-still moved kept (idle (m .held) (isNothing (next .work)) none) n
+    by : (ended : Bool) → isNothing (next m .work) ≡ ended
+        → (isNothing (next m .work) ≡ false → tickingOf n (moved m) .machine ≡ leftBy m rest)
+        → tickingOf n (moved m) .machine ≡ leftBy m (inFront ended (next m) rest)
+    by true none later = ticking-still (moved m) (kept m a) (idle (m .held) (isNothing (next m .work)) none) n
     by false more later = later more
+
+-- the bytes of the first ticks are the first of the run's
+pub ticking-bytes : (n most : ℕ) (m : Machine) → AtWork m → n ≤ length (ticksOf m most .bytes)
+    → tickingOf n m .bytes ≡ take n (ticksOf m most .bytes)
+unfolding tickingOf stripOf movedOf
+ticking-bytes zero most m a few = refl
+ticking-bytes (suc n) zero m a few = absurd (omega arith)
+ticking-bytes (suc n) (suc most) m a few =
+    ap (λ (t : Ticked). tickInFront (t .tick) (tickingOf n (t .machine) .bytes)) (sym (tick m a))
+    ∙ by (isNothing (next m .work)) refl few (λ busy. ticking-bytes n most (moved m) (working-on m a busy))
+  where
+    rest : Strip
+    rest = ticksOf (moved m) most
+
+    by : (ended : Bool) → isNothing (next m .work) ≡ ended → suc n ≤ length (inFront ended (next m) rest .bytes)
+        → (isNothing (next m .work) ≡ false → n ≤ length (rest .bytes) → tickingOf n (moved m) .bytes ≡ take n (rest .bytes))
+        → next m .byte ∷ tickingOf n (moved m) .bytes ≡ take (suc n) (inFront ended (next m) rest .bytes)
+    by true none few later =
+        let last : n ≡ 0 = omega arith in
+        ap (λ (k : ℕ). next m .byte ∷ tickingOf k (moved m) .bytes) last
+        ∙ sym (ap (λ (k : ℕ). take (suc k) (next m .byte ∷ [])) last)
+    by false more few later = ap (λ (bytes : List ℕ). next m .byte ∷ bytes) (later more (omega arith))

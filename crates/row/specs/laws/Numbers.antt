@@ -12,6 +12,9 @@ use Rattle.row.specs.Decimal.{signedDecimal}
 use Rattle.row.specs.Numbers.{numbersLine, bufferWith, placeWith}
 use Rattle.row.specs.laws.Puts.{Puts, _then_, at-most, puts-none}
 
+abbrev pub PutsNumbers : List ℤ → (old : List ℕ) (at : ℕ) (new : List ℕ) (next : ℕ) → Type 0
+PutsNumbers vs old at new next = Puts (numbersLine vs) (22 * length vs) old at new next
+
 -- the first i numbers are written, each with its blank, and those from i on make the rest of the line
 pub record Written (vs : List ℤ) (old : List ℕ) (at i : ℕ) (new : List ℕ) (next : ℕ) : Type 0 where
   pub front : List ℕ
@@ -43,7 +46,7 @@ module _ {vs : List ℤ} {old new : List ℕ} {at i next : ℕ} (w : Written vs 
       }
 
   pub written-last : i + 1 ≡ length vs → Puts (signedDecimal (numberAt vs i) ++ (10 ∷ [])) 22 new next out after
-      → Puts (numbersLine vs) (22 * length vs) old at out after
+      → PutsNumbers vs old at out after
   written-last last p =
       let none : drop (suc i) vs ≡ [] = drop-of-length-le vs {i = suc i} (omega arith) in
       let cut : numbersLine (drop i vs) ≡ signedDecimal (numberAt vs i) ++ (10 ∷ []) =

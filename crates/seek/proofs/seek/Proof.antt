@@ -16,14 +16,14 @@ use Rattle.job.specs.Text.{linesOf}
 use Rattle.job.specs.laws.Text.{slice-rest}
 use Rattle.seek.specs.declared.Search.{Search}
 use Rattle.seek.specs.Seek.{seekOf}
-use Rattle.seek.specs.laws.Search.{sought}
+use Rattle.seek.specs.laws.Search.{toFind}
 use Rattle.seek.specs.laws.Seek.{Seeking, seek-long, seek-short, start-counted, seeking-start, counted}
 use Rattle.seek.specs.laws.Seek.{seeking-end, seeking-found, seeking-on}
 use Rattle.seek.proofs.seek.Statement.{statement}
 use Rattle.seek.proofs.seek.Tie as tie
 
 abbrev Inv-loop : tie.InvT-loop
-Inv-loop text ticks search₀ at₀ search at = Seeking text (sought search₀ (linesOf text)) search at
+Inv-loop text ticks search₀ at₀ search at = Seeking text (toFind search₀ (linesOf text)) search at
 
 abbrev μ-loop : tie.MeasureT-loop
 μ-loop text ticks search₀ at₀ search at = length text - at
@@ -49,7 +49,7 @@ loop-holds c = seeking-start _ _ _ (c .before .start .ensures) (c .if1 .left)
 begun :
     (c : tie.Else1 Inv-loop μ-loop)
     → (let s = c .before .before .before .args in
-    sought (c .before .start .result) (linesOf (s .text .now)) ≡ seekOf (s .settings) (s .text .now) (s .ticks))
+    toFind (c .before .start .result) (linesOf (s .text .now)) ≡ seekOf (s .settings) (s .text .now) (s .ticks))
 begun c =
     let s = c .before .before .before .args in
     rw (c .before .start .ensures) (seek-short (s .settings) (s .ticks) (s .text .now) (c .if1 .left))
@@ -108,9 +108,9 @@ returns-2 c =
     let e = c .before .before in
     let f = e .before .before in
     let i = f .before .before .before .before .before in
-    let over = ap (λ (s : Search). s .over) (sym (e .line .ensures)) ∙ c .before .if2 .taken in
+    let decided = ap (λ (s : Search). s .decided) (sym (e .line .ensures)) ∙ c .before .if2 .taken in
     rw (e .line .ensures)
-    (seeking-found (i .before .loop .inv) (i .loop-test .taken) (given f .0) over ∙ begun (i .before .before))
+    (seeking-found (i .before .loop .inv) (i .loop-test .taken) (given f .0) decided ∙ begun (i .before .before))
 
 add-at : tie.Need-add-at Inv-loop μ-loop
 add-at c =
@@ -132,7 +132,7 @@ loop-again c =
     let e = c .before .before in
     let f = e .before .before in
     let i = f .before .before .before .before .before in
-    let on = ap (λ (s : Search). s .over) (sym (e .line .ensures)) ∙ c .before .if2 .left in
+    let on = ap (λ (s : Search). s .decided) (sym (e .line .ensures)) ∙ c .before .if2 .left in
     rw (e .line .ensures) (seeking-on (i .before .loop .inv) (i .loop-test .taken) (given f .0) (given f .1) on)
 
 returns-3 : tie.Need-returns-3 Inv-loop μ-loop

@@ -73,7 +73,7 @@ module _ (s : Search) (k : Reader) (m : Machine) {f : Finished} (is : f ≡ fini
   pub block-here : ltb n (f .ticks) ≡ true → {then : Machine} → then ≡ tickingOf n m .machine
       → {left : Left} → left ≡ leftOf (then .at) (then .work)
       → record {
-        over = ltb n (f .ticks);
+        decided = ltb n (f .ticks);
         reader = k;
         sought =
             record {
@@ -89,7 +89,7 @@ module _ (s : Search) (k : Reader) (m : Machine) {f : Finished} (is : f ≡ fini
 
   pub block-on : ltb n (f .ticks) ≡ false
       → record {
-        over = ltb n (f .ticks);
+        decided = ltb n (f .ticks);
         reader = k;
         sought = answer Found.Over (s .sought .block + 1) (s .sought .line + 1) (n - f .ticks) (f .machine);
       } ≡ blockOf s k m

@@ -28,7 +28,7 @@ use Rattle.job.specs.laws.Listing.{fresh-rests}
 use Rattle.job.specs.laws.Asks.{Read-as, line-asks}
 use Rattle.seek.specs.declared.Found.{Found}
 use Rattle.seek.specs.declared.Sought.{Sought}
-use Rattle.seek.specs.Seek.{answer, afterBlock, afterRead, seekFrom, seekOf}
+use Rattle.seek.specs.Seek.{answer, afterBlock, afterLine, seekFrom, seekOf}
 
 -- the text lines of the blocks, in their order
 abbrev pub textLines : List Made → List ℕ
@@ -89,7 +89,7 @@ Listing ls =
 by-line : (blocks lines n : ℕ) (m : Machine) (k : Reader) (ls : List (List ℕ)) → AtRest m → Listing ls
     → {a : Asks} {r : ReadLine} → Read-as m k a r
     → Listed
-    (afterRead blocks (lines + 1) n (r .machine) (r .answer) (λ blocks′ n′ m′. seekFrom blocks′ (lines + 1) n′ m′ (r .reader) ls))
+    (afterLine blocks (lines + 1) n (r .machine) (r .answer) (λ blocks′ n′ m′. seekFrom blocks′ (lines + 1) n′ m′ (r .reader) ls))
     blocks (onward (lines + 1) (m .at) a (λ at k′. jobFrom (m .settings) (lines + 1 + 1) at k′ ls) .blocks)
 unfolding movedOf
 by-line blocks lines n m k ls i rest (Read-as.nothing known) = rest blocks (lines + 1) n m known i

@@ -20,7 +20,7 @@ use Rattle.job.specs.Calls.{enough}
 use Rattle.seek.specs.declared.Found.{Found}
 use Rattle.seek.specs.declared.Sought.{Sought}
 use Rattle.seek.specs.declared.Search.{Search}
-use Rattle.seek.specs.Seek.{answer, afterBlock, afterRead, seekFrom}
+use Rattle.seek.specs.Seek.{answer, afterBlock, afterLine, seekFrom}
 
 -- ---- what the code's functions compute
 
@@ -33,11 +33,11 @@ abbrev pub Tested : ReadLine → Type 0
 Tested r = (bits : ℕ) → r .answer ≡ Read.Loaded bits → soundOf (r .machine) ≡ true
 
 unfoldable pub startOf : Settings → (n : ℕ) → Search
-startOf s n = record { over = false; reader = unknown; sought = answer Found.Over 0 0 n (makeOf s .machine) }
+startOf s n = record { decided = false; reader = unknown; sought = answer Found.Over 0 0 n (makeOf s .machine) }
 
 abbrev pub passedOf : Search → Reader → Machine → Search
 passedOf s k m =
-    record { over = false; reader = k; sought = answer Found.Over (s .sought .block) (s .sought .line + 1) (s .sought .ticks) m }
+    record { decided = false; reader = k; sought = answer Found.Over (s .sought .block) (s .sought .line + 1) (s .sought .ticks) m }
 
 -- a block, whose run to the end does so many ticks
 abbrev pub blockWith : Search → Reader → (loaded : Machine) (ticks : ℕ) (ended : Machine) → Search
@@ -45,11 +45,11 @@ blockWith s k m t ended =
     let block = s .sought .block + 1 in
     let line = s .sought .line + 1 in
     let n = s .sought .ticks in
-    let over = ltb n t in
+    let decided = ltb n t in
     record {
-      over = over;
+      decided = decided;
       reader = k;
-      sought = cond over (answer Found.InWork block line n (tickingOf n m .machine)) (answer Found.Over block line (n - t) ended);
+      sought = cond decided (answer Found.InWork block line n (tickingOf n m .machine)) (answer Found.Over block line (n - t) ended);
     }
 
 unfoldable pub blockOf : Search → Reader → (loaded : Machine) → Search
@@ -58,7 +58,7 @@ blockOf s k m = let x = runOf m enough enough .ran in blockWith s k m (x .ticks)
 abbrev pub refusedOf : Search → Machine → (number : ℕ) → Search
 refusedOf s m number =
     let t = s .sought in
-    record { over = true; reader = s .reader; sought = answer (Found.Refused number) (t .block) (t .line + 1) (t .ticks) m }
+    record { decided = true; reader = s .reader; sought = answer (Found.Refused number) (t .block) (t .line + 1) (t .ticks) m }
 
 abbrev pub lineWith : Search → Reader → Machine → Read → Search
 lineWith s k m Read.Nothing = passedOf s k m
@@ -71,67 +71,67 @@ lineOf s r = lineWith s (r .reader) (r .machine) (r .answer)
 -- ---- what is sought is found
 
 -- what a search that goes on is still to find in these lines
-abbrev pub sought : Search → (lines : List (List ℕ)) → Sought
-sought s ls = let t = s .sought in seekFrom (t .block) (t .line) (t .ticks) (t .machine) (s .reader) ls
+abbrev pub toFind : Search → (lines : List (List ℕ)) → Sought
+toFind s ls = let t = s .sought in seekFrom (t .block) (t .line) (t .ticks) (t .machine) (s .reader) ls
 
-abbrev pub found : Search → (lines : List (List ℕ)) → Sought
-found s ls = cond (s .over) (s .sought) (sought s ls)
+abbrev pub outcome : Search → (lines : List (List ℕ)) → Sought
+outcome s ls = cond (s .decided) (s .sought) (toFind s ls)
 
 block-found : (s : Search) (k : Reader) (m : Machine) (ls : List (List ℕ))
     → (let b = s .sought .block + 1 in
     let l = s .sought .line + 1 in
-    afterBlock b l (s .sought .ticks) m (λ n m′. seekFrom b l n m′ k ls) ≡ found (blockOf s k m) ls)
+    afterBlock b l (s .sought .ticks) m (λ n m′. seekFrom b l n m′ k ls) ≡ outcome (blockOf s k m) ls)
 unfolding blockOf
 block-found s k m ls = by (ltb (s .sought .ticks) (runOf m enough enough .ran .ticks))
   where
-    by : (over : Bool)
+    by : (decided : Bool)
         → (let b = s .sought .block + 1 in
         let l = s .sought .line + 1 in
         let n = s .sought .ticks in
         let x = runOf m enough enough .ran in
         let here = answer Found.InWork b l n (tickingOf n m .machine) in
         let on = answer Found.Over b l (n - x .ticks) (x .machine) in
-        cond over here (seekFrom b l (n - x .ticks) (x .machine) k ls)
-        ≡ found (record { over = over; reader = k; sought = cond over here on }) ls)
+        cond decided here (seekFrom b l (n - x .ticks) (x .machine) k ls)
+        ≡ outcome (record { decided = decided; reader = k; sought = cond decided here on }) ls)
     by true = refl
     by false = refl
 
 -- a line takes the first of the lines that are left
 pub line-found : (s : Search) (l : List ℕ) (ls : List (List ℕ)) {r : ReadLine} → r ≡ readLineOf (s .reader) (s .sought .machine) l
-    → sought s (l ∷ ls) ≡ found (lineOf s r) ls
+    → toFind s (l ∷ ls) ≡ outcome (lineOf s r) ls
 unfolding seekFrom
 line-found s l ls {r} read = rw (← read) (by (r .answer))
   where
     by : (a : Read)
         → (let t = s .sought in
-        afterRead (t .block) (t .line + 1) (t .ticks) (r .machine) a (λ b n m. seekFrom b (t .line + 1) n m (r .reader) ls)
-        ≡ found (lineWith s (r .reader) (r .machine) a) ls)
+        afterLine (t .block) (t .line + 1) (t .ticks) (r .machine) a (λ b n m. seekFrom b (t .line + 1) n m (r .reader) ls)
+        ≡ outcome (lineWith s (r .reader) (r .machine) a) ls)
     by Read.Nothing = refl
     by (Read.Loaded bits) = block-found s (r .reader) (r .machine) ls
     by (Read.Refused number) = refl
 
 -- a line that is counted, with its block
-pub record Onward (s t : Search) : Type 0 where
+pub record OneLineMore (s t : Search) : Type 0 where
   pub blocks : t .sought .block ≤ s .sought .block + 1
   pub lines : t .sought .line ≡ s .sought .line + 1
-  pub going : t .over ≡ false → (t .sought .found ≡ Found.Over) × (t .sought .left ≡ 0)
+  pub going : t .decided ≡ false → (t .sought .found ≡ Found.Over) × (t .sought .left ≡ 0)
 
-pub line-onward : (s : Search) (r : ReadLine) → Onward s (lineOf s r)
+pub one-line-more : (s : Search) (r : ReadLine) → OneLineMore s (lineOf s r)
 unfolding blockOf
-line-onward s r = by (r .answer)
+one-line-more s r = by (r .answer)
   where
-    block : (over : Bool) (m n : Machine) (k : ℕ)
+    block : (decided : Bool) (m n : Machine) (k : ℕ)
         → (let b = s .sought .block + 1 in
         let l = s .sought .line + 1 in
-        Onward s (record {
-          over = over;
+        OneLineMore s (record {
+          decided = decided;
           reader = r .reader;
-          sought = cond over (answer Found.InWork b l (s .sought .ticks) m) (answer Found.Over b l k n);
+          sought = cond decided (answer Found.InWork b l (s .sought .ticks) m) (answer Found.Over b l k n);
         }))
     block true m n k = record { blocks = omega arith; lines = refl; going = λ e. absurd (true≢false e) }
     block false m n k = record { blocks = omega arith; lines = refl; going = λ e. (refl, refl) }
 
-    by : (a : Read) → Onward s (lineWith s (r .reader) (r .machine) a)
+    by : (a : Read) → OneLineMore s (lineWith s (r .reader) (r .machine) a)
     by Read.Nothing = record { blocks = omega arith; lines = refl; going = λ e. (refl, refl) }
     by (Read.Loaded bits) =
         let x = runOf (r .machine) enough enough .ran in

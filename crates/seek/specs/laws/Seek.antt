@@ -17,7 +17,7 @@ use Rattle.seek.specs.declared.Found.{Found}
 use Rattle.seek.specs.declared.Sought.{Sought}
 use Rattle.seek.specs.declared.Search.{Search}
 use Rattle.seek.specs.Seek.{seekFrom, seekOf}
-use Rattle.seek.specs.laws.Search.{startOf, refusedOf, lineOf, sought, found, Counted, line-found, line-onward}
+use Rattle.seek.specs.laws.Search.{startOf, refusedOf, lineOf, toFind, outcome, Counted, line-found, one-line-more}
 
 module _ (c : Settings) (n : ℕ) where
   pub start-counted : {s : Search} → s ≡ startOf c n → Counted s
@@ -29,13 +29,13 @@ module _ (c : Settings) (n : ℕ) where
   unfolding seekOf startOf
   seek-long text long = rw (lt-leb (length text) 65536 long)
 
-  pub seek-short : (text : List ℕ) → length text ≤ 65536 → sought (startOf c n) (linesOf text) ≡ seekOf c text n
+  pub seek-short : (text : List ℕ) → length text ≤ 65536 → toFind (startOf c n) (linesOf text) ≡ seekOf c text n
   unfolding seekOf startOf
   seek-short text short = rw (le-leb (length text) 65536 short)
 
 -- the lines before `at` are read, and what is left of the text holds the answer
 pub record Seeking (text : List ℕ) (answer : Sought) (s : Search) (at : ℕ) : Type 0 where
-  pub rest : sought s (linesOf (drop at text)) ≡ answer
+  pub rest : toFind s (linesOf (drop at text)) ≡ answer
   pub going : s .sought .found ≡ Found.Over
   pub none : s .sought .left ≡ 0
   pub blocks : s .sought .block ≤ s .sought .line
@@ -43,7 +43,7 @@ pub record Seeking (text : List ℕ) (answer : Sought) (s : Search) (at : ℕ) :
   pub short : length text ≤ 65536
 
 pub seeking-start : (c : Settings) (n : ℕ) (text : List ℕ) {s : Search} → s ≡ startOf c n → length text ≤ 65536
-    → Seeking text (sought s (linesOf text)) s 0
+    → Seeking text (toFind s (linesOf text)) s 0
 unfolding startOf
 seeking-start c n text is short = rw is (record { rest = refl; going = refl; none = refl; blocks = omega arith; lines = omega arith; short = short })
 
@@ -61,18 +61,18 @@ module _ {text : List ℕ} {answer : Sought} {s : Search} {at : ℕ} (g : Seekin
     counted = (g .blocks, omega (arith, g .lines, g .short))
 
     module _ {r : ReadLine} (read : r ≡ readLineOf (s .reader) (s .sought .machine) (firstLine (drop at text))) where
-      cut : found (lineOf s r) (linesOf (drop (suc (length (firstLine (drop at text)))) (drop at text))) ≡ answer
+      cut : outcome (lineOf s r) (linesOf (drop (suc (length (firstLine (drop at text)))) (drop at text))) ≡ answer
       cut =
           let some : 1 ≤ length (drop at text) = rw (length-drop at text) (omega arith) in
-          sym (line-found s (firstLine (drop at text)) _ read) ∙ ap (sought s) (sym (lines-next (drop at text) some)) ∙ g .rest
+          sym (line-found s (firstLine (drop at text)) _ read) ∙ ap (toFind s) (sym (lines-next (drop at text) some)) ∙ g .rest
 
-      pub seeking-found : lineOf s r .over ≡ true → lineOf s r .sought ≡ answer
-      seeking-found over = rw over at cut
+      pub seeking-found : lineOf s r .decided ≡ true → lineOf s r .sought ≡ answer
+      seeking-found decided = rw decided at cut
 
       module _ {bytes : ℕ} (first : bytes ≡ length (firstLine (drop at text))) where
-        pub seeking-on : lineOf s r .over ≡ false → Seeking text answer (lineOf s r) (at + bytes + 1)
+        pub seeking-on : lineOf s r .decided ≡ false → Seeking text answer (lineOf s r) (at + bytes + 1)
         seeking-on on =
-            let o = line-onward s r in
+            let o = one-line-more s r in
             let same : at + suc (length (firstLine (drop at text))) ≡ at + bytes + 1 = omega (arith, first) in
             let after = drop-drop _ at text ∙ ap (λ (k : ℕ). drop k text) same in
             record {

@@ -26,7 +26,7 @@ use Rattle.book.specs.Sums.{pulsesIn}
 use Rattle.finish.specs.laws.Record.{AtRest, AtWork}
 use Rattle.finish.specs.laws.Loaded.{loaded-at-work}
 use Rattle.ahead.specs.Ahead.{tickingOf}
-use Rattle.ahead.specs.laws.Sums.{Leads, leads-none}
+use Rattle.ahead.specs.laws.Sums.{Leads, leads-none, leads-both}
 use Rattle.reader.specs.declared.Reader.{Reader}
 use Rattle.reader.specs.declared.«text_line».ReadLine.{ReadLine}
 use Rattle.reader.specs.Reader.{unknown}
@@ -43,8 +43,8 @@ use Rattle.tape.specs.laws.Pieces.{still-idle, nothing-left}
 use Rattle.tape.specs.laws.Told.{bytes-told}
 use Rattle.seek.specs.declared.Found.{Found}
 use Rattle.seek.specs.declared.Sought.{Sought}
-use Rattle.seek.specs.Seek.{answer, afterBlock, afterRead, seekFrom, seekOf}
-use Rattle.seek.specs.laws.Bytes.{leads-both, first-lead, all-lead}
+use Rattle.seek.specs.Seek.{answer, afterBlock, afterLine, seekFrom, seekOf}
+use Rattle.seek.specs.laws.Bytes.{first-lead, all-lead}
 
 -- after n of so many ticks: fewer than all, or all, and so many more
 abbrev pub Counts : Found → (n all ticks : ℕ) → Type 0
@@ -137,7 +137,7 @@ Standing ls =
 by-line : (blocks line n : ℕ) (m : Machine) (k : Reader) (ls : List (List ℕ)) → AtRest m → Standing ls
     → {a : Asks} {r : ReadLine} → Read-as m k a r
     → Stands (m .at) n (unless (isRefused (r .answer)) (runThen (r .machine) (λ m′. bytesFrom m′ (r .reader) ls)))
-    (afterRead blocks line n (r .machine) (r .answer) (λ blocks′ n′ m′. seekFrom blocks′ line n′ m′ (r .reader) ls))
+    (afterLine blocks line n (r .machine) (r .answer) (λ blocks′ n′ m′. seekFrom blocks′ line n′ m′ (r .reader) ls))
 by-line blocks line n m k ls i rest (Read-as.nothing known) =
     rw (nothing-left m (λ (m′ : Machine). bytesFrom m′ known ls) (still-idle m (i .idle))) (rest blocks line n m known i)
 by-line blocks line n m k ls i rest (Read-as.makes known b ok) =
@@ -153,10 +153,10 @@ lines-stand (l ∷ ls) blocks lines n m k i = by-line blocks (lines + 1) n m k l
 -- ---- of a whole text
 
 module _ (s : Settings) (passed : settingsNo s ≡ 0) (text : List ℕ) (n : ℕ) where
-  abbrev sought : Sought
-  sought = seekOf s text n
+  abbrev result : Sought
+  result = seekOf s text n
 
-  text-stands : Stands (record { x = pos 0; y = pos 0 }) n (tickBytesOf s text) sought
+  text-stands : Stands (record { x = pos 0; y = pos 0 }) n (tickBytesOf s text) result
   unfolding seekOf tickBytesOf makeOf freshOf
   text-stands = rw passed (by (leb (length text) 65536))
     where
@@ -169,12 +169,12 @@ module _ (s : Settings) (passed : settingsNo s ≡ 0) (text : List ℕ) (n : ℕ
   -- "Pulses sent are their codes, 1 as plus one and 2 as minus one": those of the first n tick bytes sum to the point, also where the job
   -- is over or a line is refused
   pub seek-adds-up : (let bytes = take n (tickBytesOf s text) in
-      (sought .machine .at .x ≡ pulsesIn codeX bytes) × (sought .machine .at .y ≡ pulsesIn codeY bytes))
+      (result .machine .at .x ≡ pulsesIn codeX bytes) × (result .machine .at .y ≡ pulsesIn codeY bytes))
   seek-adds-up = (text-stands .leads .x ∙ origin _, text-stands .leads .y ∙ origin _)
     where
       origin : (z : ℤ) → pos 0 +ℤ z ≡ z
       origin z = ring (num 0 ⊕ var z) (var z) (omega arith)
 
   -- a block is in work while tick bytes are left, of which there are as many as the listing's last line says
-  pub seek-counts : Counts (sought .found) n (allTicks (capacityOf s) 0 (jobOf s text .blocks)) (sought .ticks)
+  pub seek-counts : Counts (result .found) n (allTicks (capacityOf s) 0 (jobOf s text .blocks)) (result .ticks)
   seek-counts = rw (← bytes-told s passed text .ticks) (text-stands .counts)
