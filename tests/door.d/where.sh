@@ -25,8 +25,8 @@ at 284219 'tick 284219 of 284220' "$second" 'tick 149999 of the block, 2499 of 2
 end='X 2500 Y 4000 pulses, X 50.00 Y 80.00 mm'
 at 284220 'tick 284220 of 284220' 'job over: blocks 2, text lines 2, ticks past its end 0' "$end"
 at 284221 'tick 284221 of 284220' 'job over: blocks 2, text lines 2, ticks past its end 1' "$end"
-at 18446744073709551615 'tick 18446744073709551615 of 284220' \
-    'job over: blocks 2, text lines 2, ticks past its end 18446744073709267395' "$end"
+at 9223372036854775807 'tick 9223372036854775807 of 284220' \
+    'job over: blocks 2, text lines 2, ticks past its end 9223372036854491587' "$end"
 
 # A cycle each tick, past lines without a block; numbers below 0, and between 0 and -1.
 printf '\nG1 F6000\n\nX-0.02\n\nY-0.1\n' >"$job"
@@ -46,9 +46,11 @@ at 5 'tick 5 of 5' 'job over: blocks 2, text lines 2, ticks past its end 0' 'X 2
 # 01's arc of 14 cycles, N 25, and back: (1, 0), (2, 0), (3, 1), ..
 printf 'G3 X0 Y0.2 J0.1 F6000\nG2 X0 Y0 J-0.1\n' >"$job"
 at 3 'tick 3 of 28' 'block 1, text line 1: arc counterclockwise about X 0.00 Y 0.10 to X 0.00 Y 0.20 mm, feed 6000 mm/min' \
-    'tick 3 of the block' 'X 3 Y 1 pulses, X 0.06 Y 0.02 mm'
+    'tick 3 of the block, 3 of 14 cycles done' 'X 3 Y 1 pulses, X 0.06 Y 0.02 mm'
 at 17 'tick 17 of 28' 'block 2, text line 2: arc clockwise about X 0.00 Y 0.10 to X 0.00 Y 0.00 mm, feed 6000 mm/min' \
-    'tick 3 of the block' 'X 3 Y 9 pulses, X 0.06 Y 0.18 mm'
+    'tick 3 of the block, 3 of 14 cycles done' 'X 3 Y 9 pulses, X 0.06 Y 0.18 mm'
+at 27 'tick 27 of 28' 'block 2, text line 2: arc clockwise about X 0.00 Y 0.10 to X 0.00 Y 0.00 mm, feed 6000 mm/min' \
+    'tick 13 of the block, 13 of 14 cycles done' 'X 1 Y 0 pulses, X 0.02 Y 0.00 mm'
 
 : >"$job"
 at 7 'tick 7 of 0' 'job over: blocks 0, text lines 0, ticks past its end 7' 'X 0 Y 0 pulses, X 0.00 Y 0.00 mm'
@@ -119,7 +121,7 @@ ok "where a text of 65,537 bytes stands is told" long_text
 
 # silent_end N WORDS..: it ends so, with nothing on standard output
 silent_end() { status "$@" && [[ ! -s $work/out ]]; }
-for tick in '' x 1x -1 +1 1.5 1e3 0x10 ' 1' '1 ' 18446744073709551616 99999999999999999999 100000000000000000000; do
+for tick in '' x 1x -1 +1 1.5 1e3 0x10 ' 1' '1 ' 9223372036854775808 9999999999999999999 10000000000000000000; do
     ok "where takes '$tick' for a number of ticks" silent_end 2 where "$job" "$tick"
 done
 for words in where "where $job" "where $job 1 2" "where 1 $job"; do
@@ -138,13 +140,35 @@ nobody_reads() {
 } 2>/dev/null
 ok "where, nobody reads: the exit status is neither 0 nor 2" nobody_reads
 
+# The program's row: what is found, block, line, ticks, cycles left, x, y, remainder; then kind and numbers of what is in work.
+# row TICKS JOB ROW: it answers so
+row() { [[ $(printf '%s\n%b' "$1" "$2" | target/bin/jobwhere) == "$3" ]]; }
+# rows TICKS JOB ROW: counts it
+rows() { ok "jobwhere does not say '$3' after $1 ticks of '$2'" row "$@"; }
+# f 149,950 of 300,000: 299,900 are left over after 2 ticks, and 149,850 once a cycle is done.
+slow='G1 X0.02 F2999\nX0.04\n'
+rows 0 "$slow" '1 1 1 0 1 0 0 0 1 0 0 1 0 149950 1 0'
+rows 2 "$slow" '1 1 1 2 1 0 0 299900 1 0 0 1 0 149950 1 0'
+rows 3 "$slow" '1 2 2 0 1 1 0 149850 1 1 0 2 0 149950 1 0'
+rows 5 "$slow" '0 2 2 0 0 2 0 149750 0 0 0 0 0 0 0 0'
+rows 0000000000000000005 "$slow" '0 2 2 0 0 2 0 149750 0 0 0 0 0 0 0 0'
+rows 9223372036854775807 "$slow" '0 2 2 9223372036854775802 0 2 0 149750 0 0 0 0 0 0 0 0'
+# An arc: its kind, centre, N, end and f.
+arcs='G3 X0 Y0.2 J0.1 F6000\nG2 X-0.06 Y0.02 J-0.1\n'
+rows 3 "$arcs" '1 1 1 3 11 3 1 0 3 0 5 25 0 10 300000 0'
+rows 16 "$arcs" '1 2 2 2 15 2 10 0 2 0 5 25 -3 1 300000 0'
+# A refused line: minus its number, the blocks before it, its own line and the ticks that are left.
+rows 7 'G1 X0.02 F6000\n\nG3 X1 Y0.5 I1\n' '-15 1 3 6 0 1 0 0 0 0 0 0 0 0 0 0'
+rows 0 'X1\n' '-36 0 1 0 0 0 0 0 0 0 0 0 0 0 0 0'
+rows 5 '' '0 0 0 5 0 0 0 0 0 0 0 0 0 0 0 0'
+
 # The program: a first line that is no number of ticks, a read that fails, a row that cannot be written.
 # unasked INPUT: nothing on standard output, and why on standard error
 unasked() {
     printf '%b' "$1" | target/bin/jobwhere >"$work/out" 2>"$work/err"
     says_only 1 && grep -q '^jobwhere: the first line is no number of ticks' "$work/err"
 }
-for input in '' '\n' 5 'x\n' '-5\n' ' 5\n' '5 \n' '5x\n' '5\r\n' '18446744073709551616\n' '000000000000000000000\n'; do
+for input in '' '\n' 5 'x\n' '-5\n' ' 5\n' '5 \n' '5x\n' '5\r\n' '9223372036854775808\n' '9999999999999999999\n' '00000000000000000000\n'; do
     ok "jobwhere takes '$input' for a number of ticks" unasked "$input"
 done
 ok "jobwhere reads a folder" unread jobwhere
@@ -170,7 +194,15 @@ printf '$1'"
     "$work/where/door/verdaizka" where "$job" 1 >"$work/out" 2>"$work/err"
     [[ $? -eq 2 && ! -s $work/out ]]
 }
-for row in '' 'over 1 1 0 1 0 0' 'over 1 1 0 1 0\n' 'work 1 1 0 0 0 0\n' 'work 1 1 0 0 0 0 none\n' 'line 1 refused 15\n' \
-    'work 1 1 0 0 0 0 line 0 0 1 0 300000\n' 'work 1 1 0 0 0 0 arc 2 0 0 1 0 1 300000 4\n'; do
+over='0 1 1 0 0 1 0 0 0 0 0 0 0 0 0 0' in_work='1 1 1 0 1 0 0 0 1 0 0 1 0 300000 1 0'
+whole_row() {
+    program "$work/where/door/target/bin/jobwhere" <<<"#!/usr/bin/env bash
+printf '$1\\n'"
+    "$work/where/door/verdaizka" where "$job" 1 >"$work/out" 2>"$work/err"
+    [[ $? -eq 0 && -s $work/out ]]
+}
+for row in "$over" "$in_work"; do ok "'$row' passes for no row" whole_row "$row"; done
+for row in '' '\n' "$over" "${over% 0}\\n" "$over 0\\n" "0$in_work\\n" "0${in_work#1}\\n" "1${over#0}\\n" "-15${over#0}\\n" "2${in_work#1}\\n" \
+    "${in_work/300000/x}\\n" "${in_work/1 1 1 0/1 1 -1 0}\\n" "${in_work/ 0 0 0 1 / 0 0 0 4 }\\n"; do
     ok "'$row' passes for a row" broken_row "$row"
 done

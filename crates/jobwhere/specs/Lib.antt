@@ -1,3 +1,4 @@
--- To be believed: Asked. Proved of it: laws.
+-- To be believed: Asked, Row. Proved of them: laws.
 pub mod Asked
+pub mod Row
 pub mod laws

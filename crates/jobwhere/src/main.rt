@@ -1,33 +1,35 @@
-// Reads a number of ticks, in the first line of standard input, and a job after it, and writes where the job stands after them: a row of
-// words and numbers, one of
-//     work BLOCK LINE TICKS X Y REMAINDER WORK  a block is in work, after so many of its ticks
-//     over BLOCKS LINES TICKS X Y REMAINDER     all blocks have ended, with so many ticks left
-//     line LINE refused NUMBER
-// WORK is `none`, `line X Y X Y FEED DONE` (start and end) or `arc KIND X Y N X Y FEED` (centre and end).
+// Reads a number of ticks, in the first line of standard input, and a job after it, and writes where the job stands after them, at the check
+// program's settings (50 pulses per millimetre, 5,000 ticks per second, the widest travel): one line of 16 numbers, which `specs/Row.antt`
+// names. `1 1 1 720 2225 5 11 0 1 0 0 1000 2000 5000 2237 12`: block 1, of line 1, is in work after 720 of its ticks, with 2,225 cycles left,
+// at X 5 Y 11, remainder 0: a line from (0, 0) to (1000, 2000), f 5,000, of whose 2,237 cycles 12 are done.
 ghost use mathlib.Core.Path.{_≡_};
 ghost use Rattle.settings.specs.Settings.{standardSettings};
 ghost use Rattle.seek.specs.Seek.{seekOf};
+ghost use Rattle.row.specs.Numbers.{bufferWith, placeWith};
+ghost use Rattle.row.specs.laws.Numbers.{EndsIn};
 ghost use Rattle.jobwhere.specs.Asked.{pushedOf, askedOf};
-use arc::arc::Arc;
-use circle::plane::Turn;
+ghost use Rattle.jobwhere.specs.Row.{foundWord, rowOf};
+ghost use Rattle.jobwhere.specs.laws.Row.{standingOf, rowWith};
 use input::Input;
+use layout::encode::WorkWords;
+use layout::encode::work_words;
+use layout::number::word;
 use libc::STDIN_FILENO;
 use libc::STDOUT_FILENO;
-use line::line::Line;
-use plane::point::Point;
+use row::lines::Place;
+use row::numbers;
 use seek::Found;
 use seek::Sought;
 use seek::seek;
 use settings::standard;
-use whole::sign;
-use work::Work;
 
 const LF: u8 = 10;
 
-// A u64 has no more digits. The text's buffer has room for them, their LF, and a byte more than a job may have.
-const MOST_DIGITS: usize = 20;
+// The largest i64.
+const MOST_ASKED: u64 = 9_223_372_036_854_775_807;
 
-const MOST_TICKS: u64 = 18_446_744_073_709_551_615;
+// It has no more digits.
+const MOST_DIGITS: usize = 19;
 
 // The ticks asked for and where the job begins, or that the first line is no such number.
 enum Asked {
@@ -51,7 +53,7 @@ fn push(n: u64, b: u8) -> Pushed
         return Pushed::Nothing;
     }
     let digit = (b - b'0') as u64;
-    if (MOST_TICKS - digit) / 10 < n {
+    if (MOST_ASKED - digit) / 10 < n {
         return Pushed::Nothing;
     }
     Pushed::Number(n * 10 + digit)
@@ -92,88 +94,96 @@ fn find(job: &[u8], ticks: u64) -> Sought
     seek(standard(), job, ticks)
 }
 
-// ---- the row; each function answers whether all of its part was written
-
-fn write(text: &[u8]) -> bool {
-    io::write_all(STDOUT_FILENO, text)
-}
-
-// A number, after a blank.
-fn write_number(n: u64) -> bool {
-    write(b" ") && io::print_decimal(STDOUT_FILENO, n)
-}
-
-fn write_signed(n: i64) -> bool {
-    let p = sign::part(n);
-    if p.negative {
-        return write(b" -") && io::print_decimal(STDOUT_FILENO, p.magnitude);
-    }
-    write_number(p.magnitude)
-}
-
-fn write_point(p: Point) -> bool {
-    write_signed(p.x) && write_signed(p.y)
-}
-
-fn write_line(l: Line) -> bool {
-    let start = l.start;
-    let end = l.end;
-    write(b" line")
-        && write_point(start)
-        && write_point(end)
-        && write_number(l.feed)
-        && write_number(l.done)
-}
-
-fn write_arc(a: Arc) -> bool {
-    let turn = a.turn;
-    let kind = match turn {
-        Turn::Clockwise => 2,
-        Turn::Counterclockwise => 3,
-    };
-    let centre = a.centre;
-    let end = a.end;
-    write(b" arc")
-        && write_number(kind)
-        && write_point(centre)
-        && write_number(a.square)
-        && write_point(end)
-        && write_number(a.feed)
-}
-
-fn write_work(work: Work) -> bool {
-    match work {
-        Work::Nothing => write(b" none"),
-        Work::Line(l) => write_line(l),
-        Work::Arc(a) => write_arc(a),
+fn found_word(found: Found) -> i64
+    ensures { λ r. ⌜ r ≡ foundWord found ⌝ }
+{
+    match found {
+        Found::InWork => 1,
+        Found::Over => 0,
+        Found::Refused(number) => -word(number),
     }
 }
 
-// Three counts, the point and the remainder.
-fn write_numbers(s: Sought) -> bool {
-    let machine = s.machine;
-    let at = machine.at;
-    write_number(s.block)
-        && write_number(s.line)
-        && write_number(s.ticks)
-        && write_point(at)
-        && write_number(machine.remainder)
+// The row but for what is in work.
+struct Standing {
+    found: i64,
+    block: i64,
+    line: i64,
+    ticks: i64,
+    left: i64,
+    x: i64,
+    y: i64,
+    remainder: i64,
 }
 
-fn write_row(s: Sought) -> bool {
+fn stands(s: Sought) -> Standing
+    ensures { λ r. ⌜ r ≡ standingOf s ⌝ }
+{
     let found = s.found;
     let machine = s.machine;
+    let at = machine.at;
+    Standing {
+        found: found_word(found),
+        block: word(s.block),
+        line: word(s.line),
+        ticks: word(s.ticks),
+        left: word(s.left),
+        x: at.x,
+        y: at.y,
+        remainder: word(machine.remainder),
+    }
+}
+
+fn join(s: Standing, w: WorkWords) -> [i64; 16]
+    ensures { λ r. ⌜ r ≡ rowWith s w ⌝ }
+{
+    [
+        s.found,
+        s.block,
+        s.line,
+        s.ticks,
+        s.left,
+        s.x,
+        s.y,
+        s.remainder,
+        w.kind,
+        w.a,
+        w.b,
+        w.c,
+        w.d,
+        w.e,
+        w.f,
+        w.g,
+    ]
+}
+
+fn row(s: Sought) -> [i64; 16]
+    ensures { λ r. ⌜ r ≡ rowOf s ⌝ }
+{
+    let machine = s.machine;
     let work = machine.work;
-    match found {
-        Found::InWork => write(b"work") && write_numbers(s) && write_work(work) && write(b"\n"),
-        Found::Over => write(b"over") && write_numbers(s) && write(b"\n"),
-        Found::Refused(number) => {
-            write(b"line")
-                && write_number(s.line)
-                && write(b" refused")
-                && write_number(number)
-                && write(b"\n")
-        }
+    let standing = stands(s);
+    join(standing, work_words(work))
+}
+
+// The row in bytes.
+fn lay(out: &mut [u8], s: Sought) -> Place
+    ensures buffer { λ r. ⌜ now (out .exit) ≡ bufferWith (rowOf s) (now (out .entry)) 0 ⌝ }
+    ensures place { λ r. ⌜ r ≡ placeWith (rowOf s) (now (out .entry)) 0 ⌝ }
+    ensures within { λ r. ⌜ EndsIn (now (out .entry)) r ⌝ }
+{
+    let numbers = row(s);
+    numbers::line(out, 0, &numbers)
+}
+
+// Answers whether all of it was written.
+fn write_row(s: Sought) -> bool {
+    // 22 bytes for each of 16 numbers, and once more.
+    let mut out = [0u8; 374];
+    let place = lay(&mut out, s);
+    match place {
+        Place::Next(len) => io::write_all(STDOUT_FILENO, &out[..len]),
+        Place::NoRoom => false,
     }
 }
 
@@ -191,7 +201,8 @@ fn answer(text: &[u8]) {
 
 // A job that cannot be read to its end is another job.
 fn main() {
-    let mut text = [0u8; 65558];
+    // 19 digits, their LF, and the 65,537 bytes in which a text that is too long is seen to be so.
+    let mut text = [0u8; 65557];
     let input = input::read(STDIN_FILENO, &mut text);
     match input {
         Input::Bytes(len) => answer(&text[..len]),

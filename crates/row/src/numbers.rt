@@ -5,7 +5,7 @@ ghost use mathlib.Core.Path.{_≡_};
 ghost use Prim.Native.Nat.{_+_, _*_, _≤_, _<_};
 ghost use lib.ListN.{length};
 ghost use Rattle.row.specs.Numbers.{bufferWith, placeWith};
-ghost use Rattle.row.specs.laws.Numbers.{PutsNumbers};
+ghost use Rattle.row.specs.laws.Numbers.{PutsNumbers, EndsIn};
 
 const BLANK: u8 = 32;
 
@@ -32,6 +32,7 @@ fn fields(out: &mut [u8], at: usize, numbers: &[i64]) -> usize
 pub fn line(out: &mut [u8], at: usize, numbers: &[i64]) -> Place
     ensures buffer { λ r. ⌜ now (out .exit) ≡ bufferWith (now (numbers .entry)) (now (out .entry)) at ⌝ }
     ensures place { λ r. ⌜ r ≡ placeWith (now (numbers .entry)) (now (out .entry)) at ⌝ }
+    ensures within { λ r. ⌜ EndsIn (now (out .entry)) r ⌝ }
 {
     if out.len() < at {
         return Place::NoRoom;

@@ -1,4 +1,4 @@
--- Invariant of `ask`: the bytes read so far are digits, at most 20, and what the others ask after them is what the text asks.
+-- Invariant of `ask`: the bytes read so far are digits, at most 19, and what the others ask after them is what the text asks.
 use borrow.Author.Needs.{needs}
 use mathlib.Core.Path.{refl}
 use Prim.Native.Nat.{_-_}

@@ -10,7 +10,7 @@ use lib.Seq.{drop-cons}
 use borrow.Author.Tests.{lt-leb, le-leb, lt-ltb, le-ltb, eq-eqb, ne-eqb}
 use Rattle.jobwhere.specs.declared.Asked.{Asked}
 use Rattle.jobwhere.specs.declared.Pushed.{Pushed}
-use Rattle.jobwhere.specs.Asked.{pushedOf, onward, askedFrom, askedOf}
+use Rattle.jobwhere.specs.Asked.{pushedOf, ifPushed, askedFrom, askedOf}
 
 module _ (n b : ℕ) where
   pub push-low : b < 48 → Pushed.Nothing ≡ pushedOf n b
@@ -22,18 +22,18 @@ module _ (n b : ℕ) where
   push-high high = rw (le-leb 48 b (omega arith), lt-leb b 57 high)
 
   module _ (low : 48 ≤ b) (high : b ≤ 57) where
-    pub push-large : (18446744073709551615 - (b - 48)) / 10 < n → Pushed.Nothing ≡ pushedOf n b
+    pub push-large : (9223372036854775807 - (b - 48)) / 10 < n → Pushed.Nothing ≡ pushedOf n b
     unfolding pushedOf
-    push-large large = rw (le-leb 48 b low, le-leb b 57 high, le-ltb (n * 10 + (b - 48)) (2 ^ 64) (omega arith))
+    push-large large = rw (le-leb 48 b low, le-leb b 57 high, le-ltb (n * 10 + (b - 48)) (2 ^ 63) (omega arith))
 
-    pub push-digit : n ≤ (18446744073709551615 - (b - 48)) / 10 → Pushed.Number (n * 10 + (b - 48)) ≡ pushedOf n b
+    pub push-digit : n ≤ (9223372036854775807 - (b - 48)) / 10 → Pushed.Number (n * 10 + (b - 48)) ≡ pushedOf n b
     unfolding pushedOf
-    push-digit small = rw (le-leb 48 b low, le-leb b 57 high, lt-ltb (n * 10 + (b - 48)) (2 ^ 64) (omega arith))
+    push-digit small = rw (le-leb 48 b low, le-leb b 57 high, lt-ltb (n * 10 + (b - 48)) (2 ^ 63) (omega arith))
 
 -- the bytes before `at` are digits, which write n
 pub record Asking (text : List ℕ) (n at : ℕ) : Type 0 where
   pub rest : askedFrom n at (drop at text) ≡ askedOf text
-  pub few : at ≤ 20
+  pub few : at ≤ 19
 
 module _ {text : List ℕ} {n at : ℕ} (g : Asking text n at) where
   pub ask-end : length text ≤ at → Asked.Nothing ≡ askedOf text
@@ -56,17 +56,17 @@ module _ {text : List ℕ} {n at : ℕ} (g : Asking text n at) where
     ask-ticks lf some = rw (eq-eqb b 10 lf, ne-eqb at 0 some) at cut
 
     module _ (other : b ≡ 10 → ⊥) where
-      pub ask-many : at ≡ 20 → Asked.Nothing ≡ askedOf text
+      pub ask-many : at ≡ 19 → Asked.Nothing ≡ askedOf text
       unfolding askedFrom
-      ask-many most = rw (ne-eqb b 10 other, eq-eqb at 20 most) at cut
+      ask-many most = rw (ne-eqb b 10 other, eq-eqb at 19 most) at cut
 
-      module _ (few : at ≡ 20 → ⊥) {p : Pushed} (pushed : p ≡ pushedOf n b) where
+      module _ (few : at ≡ 19 → ⊥) {p : Pushed} (pushed : p ≡ pushedOf n b) where
         abbrev after : Pushed → Asked
-        after q = onward q (λ k. askedFrom k (at + 1) (drop (suc at) text))
+        after q = ifPushed q (λ k. askedFrom k (at + 1) (drop (suc at) text))
 
         digit : after p ≡ askedOf text
         unfolding askedFrom
-        digit = ap after pushed ∙ rw (ne-eqb b 10 other, ne-eqb at 20 few) at cut
+        digit = ap after pushed ∙ rw (ne-eqb b 10 other, ne-eqb at 19 few) at cut
 
         pub ask-other : p ≡ Pushed.Nothing → Asked.Nothing ≡ askedOf text
         ask-other is = sym (ap after is) ∙ digit
@@ -88,12 +88,12 @@ Within size (Asked.Ticks n at) = at ≤ size
 pub asked-within : (s : List ℕ) (n digits : ℕ) → Within (digits + length s) (askedFrom n digits s)
 unfolding askedFrom
 asked-within [] n digits = tt
-asked-within (b ∷ s) n digits = by (eqb b 10) (eqb digits 0) (eqb digits 20) (pushedOf n b) (λ k. asked-within s k (digits + 1))
+asked-within (b ∷ s) n digits = by (eqb b 10) (eqb digits 0) (eqb digits 19) (pushedOf n b) (λ k. asked-within s k (digits + 1))
   where
     by : (lf none most : Bool) (p : Pushed) → ((k : ℕ) → Within (digits + 1 + length s) (askedFrom k (digits + 1) s))
         → Within (digits + length (b ∷ s))
         (cond lf (cond none Asked.Nothing (Asked.Ticks n (digits + 1)))
-        (cond most Asked.Nothing (onward p (λ k. askedFrom k (digits + 1) s))))
+        (cond most Asked.Nothing (ifPushed p (λ k. askedFrom k (digits + 1) s))))
     by true true most p later = tt
     by true false most p later = omega arith
     by false none true p later = tt

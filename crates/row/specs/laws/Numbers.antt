@@ -7,6 +7,7 @@ use lib.IntN.{ℤ, pos}
 use lib.ListN.{length, drop, getD, drop-of-length-le}
 use lib.Seq.{drop-cons}
 use borrow.Author.Tests.{le-leb, lt-leb}
+use Rattle.row.specs.declared.lines.Place.{Place}
 use Rattle.row.specs.declared.lines.Place.the-variants.{Next, NoRoom}
 use Rattle.row.specs.Decimal.{signedDecimal}
 use Rattle.row.specs.Numbers.{numbersLine, bufferWith, placeWith}
@@ -55,13 +56,19 @@ module _ {vs : List ℤ} {old new : List ℕ} {at i next : ℕ} (w : Written vs 
 
 -- ---- a whole line
 
+-- the place after a line lies in the buffer, or is its end
+abbrev pub EndsIn : (buffer : List ℕ) → Place → Type 0
+EndsIn buffer (Next at) = at ≤ length buffer
+EndsIn buffer NoRoom = Unit {0}
+
 module _ (vs : List ℤ) (old : List ℕ) (at : ℕ) where
   pub with-room-for : {new : List ℕ} {next k : ℕ} → at + 22 * (length vs + 1) ≤ length old → Puts (numbersLine vs) k old at new next
-      → (new ≡ bufferWith vs old at) × (Next next ≡ placeWith vs old at)
-  with-room-for h p = rw (le-leb (at + 22 * (length vs + 1)) (length old) h) (p .buffer, ap Next (p .place))
+      → (new ≡ bufferWith vs old at) × ((Next next ≡ placeWith vs old at) × (next ≤ length old))
+  with-room-for h p = rw (le-leb (at + 22 * (length vs + 1)) (length old) h) (p .buffer, (ap Next (p .place), p .within))
 
-  pub without-room-for : length old < at + 22 * (length vs + 1) → (old ≡ bufferWith vs old at) × (NoRoom ≡ placeWith vs old at)
-  without-room-for h = rw (lt-leb (at + 22 * (length vs + 1)) (length old) h) (refl, refl)
+  pub without-room-for : length old < at + 22 * (length vs + 1)
+      → (old ≡ bufferWith vs old at) × ((NoRoom ≡ placeWith vs old at) × Unit {0})
+  without-room-for h = rw (lt-leb (at + 22 * (length vs + 1)) (length old) h) (refl, (refl, tt))
 
   -- the LF of no numbers
   pub no-numbers : {new : List ℕ} {next : ℕ} → length vs ≡ 0 → Puts (10 ∷ []) 1 old at new next → Puts (numbersLine vs) 1 old at new next
