@@ -16,7 +16,7 @@ pub enum Pace {
 }
 
 /// "is the text at most 65,536 bytes (asked once, line 1)? 30."
-const LONGEST_TEXT: usize = 65_536;
+pub const LONGEST_TEXT: usize = 65_536;
 
 /// A check on its way or over: the machine where the last block ended, the G and F known, and "blocks, cycles and ticks" so far.
 pub struct Check {
@@ -108,7 +108,7 @@ pub fn ticks(text: &[u8], settings: &Settings, most: u64, out: &mut impl Write) 
 }
 
 /// "A last line may lack its LF." After a last LF there is no further line.
-fn lines(text: &[u8]) -> impl Iterator<Item = &[u8]> {
+pub fn lines(text: &[u8]) -> impl Iterator<Item = &[u8]> {
     let without_last_lf = text.strip_suffix(b"\n").unwrap_or(text);
     let none = text.is_empty();
     without_last_lf.split(|&byte| byte == 10).filter(move |_| !none)

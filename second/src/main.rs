@@ -15,6 +15,7 @@ mod job;
 mod line;
 mod listing;
 mod machine;
+mod place;
 mod point;
 mod rng;
 mod root;
@@ -37,6 +38,7 @@ const USAGE: &str = "\
 second check [AT] [FILE]             job text to its listing
 second check-slow [AT] [FILE]        the same, every tick ticked
 second ticks MOST [AT] [FILE]        the tick bytes of a job text, at most so many
+second where TICKS [AT] [FILE]       where a job stands after so many ticks, as the row of jobwhere
 second checks [FILE]                 a stream of jobs to their `%job` lines, listings and what they leave
 second calls [--records] [FILE]      call file to call file with answers, and with the whole record after each
 second gen calls SEED COUNT          so many histories
@@ -88,6 +90,10 @@ fn run(arguments: &[&str], out: &mut impl Write) -> Result<(), Failure> {
         ["ticks", most, ref rest @ ..] => {
             let (settings, file) = at(rest)?;
             Ok(listing::ticks(&all_of(file)?, &settings, number(most)?, out)?)
+        }
+        ["where", ticks, ref rest @ ..] => {
+            let (settings, file) = at(rest)?;
+            Ok(writeln!(out, "{}", place::after(&all_of(file)?, &settings, number(ticks)?))?)
         }
         ["checks", ref file @ ..] => Ok(stream::check_all(&all_of(file)?, out)?),
         ["calls", "--records", ref file @ ..] => Ok(calls::answer_file(&mut opened(file)?, Told::Records, out)?),
