@@ -168,7 +168,8 @@ unasked() {
     printf '%b' "$1" | target/bin/jobwhere >"$work/out" 2>"$work/err"
     says_only 1 && grep -q '^jobwhere: the first line is no number of ticks' "$work/err"
 }
-for input in '' '\n' 5 'x\n' '-5\n' ' 5\n' '5 \n' '5x\n' '5\r\n' '9223372036854775808\n' '9999999999999999999\n' '00000000000000000000\n'; do
+for input in '' '\n' 5 'x\n' '-5\n' ' 5\n' '5 \n' '5x\n' '5\r\n' '9223372036854775808\n' '9999999999999999999\n' \
+    '00000000000000000000\n'; do
     ok "jobwhere takes '$input' for a number of ticks" unasked "$input"
 done
 ok "jobwhere reads a folder" unread jobwhere
@@ -202,7 +203,7 @@ printf '$1\\n'"
     [[ $? -eq 0 && -s $work/out ]]
 }
 for row in "$over" "$in_work"; do ok "'$row' passes for no row" whole_row "$row"; done
-for row in '' '\n' "$over" "${over% 0}\\n" "$over 0\\n" "0$in_work\\n" "0${in_work#1}\\n" "1${over#0}\\n" "-15${over#0}\\n" "2${in_work#1}\\n" \
-    "${in_work/300000/x}\\n" "${in_work/1 1 1 0/1 1 -1 0}\\n" "${in_work/ 0 0 0 1 / 0 0 0 4 }\\n"; do
+for row in '' '\n' "$over" "${over% 0}\\n" "$over 0\\n" "0$in_work\\n" "0${in_work#1}\\n" "1${over#0}\\n" "-15${over#0}\\n" \
+    "2${in_work#1}\\n" "${in_work/300000/x}\\n" "${in_work/1 1 1 0/1 1 -1 0}\\n" "${in_work/ 0 0 0 1 / 0 0 0 4 }\\n"; do
     ok "'$row' passes for a row" broken_row "$row"
 done

@@ -45,7 +45,8 @@ pub record Seeking (text : List ℕ) (answer : Sought) (s : Search) (at : ℕ) :
 pub seeking-start : (c : Settings) (n : ℕ) (text : List ℕ) {s : Search} → s ≡ startOf c n → length text ≤ 65536
     → Seeking text (toFind s (linesOf text)) s 0
 unfolding startOf
-seeking-start c n text is short = rw is (record { rest = refl; going = refl; none = refl; blocks = omega arith; lines = omega arith; short = short })
+seeking-start c n text is short =
+    rw is (record { rest = refl; going = refl; none = refl; blocks = omega arith; lines = omega arith; short = short })
 
 module _ {text : List ℕ} {answer : Sought} {s : Search} {at : ℕ} (g : Seeking text answer s at) where
   -- no line is left
