@@ -126,7 +126,8 @@ push-below n b = by (leb 48 b) (leb b 57) (ltb more (2 ^ 63)) refl
     more : ℕ
     more = n * 10 + (b - 48)
 
-    by : (low high small : Bool) → ltb more (2 ^ 63) ≡ small → PushedBelow (cond (low && (high && small)) (Pushed.Number more) Pushed.Nothing)
+    by : (low high small : Bool) → ltb more (2 ^ 63) ≡ small
+        → PushedBelow (cond (low && (high && small)) (Pushed.Number more) Pushed.Nothing)
     by false high small e = tt
     by true false small e = tt
     by true true false e = tt
