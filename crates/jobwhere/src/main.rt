@@ -59,7 +59,6 @@ fn push(n: u64, b: u8) -> Pushed
     Pushed::Number(n * 10 + digit)
 }
 
-// What the first line asks.
 fn ask(text: &[u8]) -> Asked
     ensures { λ r. ⌜ r ≡ askedOf (now (text .entry)) ⌝ }
 {

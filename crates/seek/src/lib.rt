@@ -1,4 +1,4 @@
-// Where a whole job stands after so many ticks: the block in work then, its text line, and the record. No tick is done: the blocks
+// Where a whole job stands after so many ticks: the block in work then, its line and cycles left, and the record. No tick is done: the blocks
 // before it are finished, and the record after some of its own ticks is found, by closed forms, so the cost grows with the text alone.
 ghost use mathlib.Core.Path.{_≡_};
 ghost use mathlib.Core.Bool.{true};
@@ -124,7 +124,6 @@ impl Search {
         }
     }
 
-    // The next line is refused.
     fn refused(self, machine: Machine, number: u64) -> Search
         requires { ⌜ Counted self ⌝ }
         ensures { λ r. ⌜ r ≡ refusedOf self machine number ⌝ }
@@ -146,7 +145,6 @@ impl Search {
         }
     }
 
-    // What the next line, read, makes of the search.
     fn line(self, read: ReadLine) -> Search
         requires { ⌜ Counted self × Tested read ⌝ }
         ensures { λ r. ⌜ r ≡ lineOf self read ⌝ }
