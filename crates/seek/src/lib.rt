@@ -1,5 +1,5 @@
-// Where a whole job stands after so many ticks: the block in work then, its line and cycles left, and the record. No tick is done: the blocks
-// before it are finished, and the record after some of its own ticks is found, by closed forms, so the cost grows with the text alone.
+// Where a whole job stands after so many ticks: the block in work then, its line and cycles left, and the record. No tick is done: the
+// blocks before it are finished, and the record after some of its own ticks is found, by closed forms. The cost grows with the text alone.
 ghost use mathlib.Core.Path.{_≡_};
 ghost use mathlib.Core.Bool.{true};
 ghost use Rattle.machine.specs.Machine.{soundOf};
