@@ -192,8 +192,8 @@ VZ_ANSWERS int64_t vz_stop(vz_record *record);
  * Answers 0; or minus the first refusal, -9, then -38 for more than VZ_AHEAD_TICKS: *then is the record as it stands, and both sums are 0.
  * *then and *sums are always written, record never is; the three don't overlap, so then is not the record itself. Of a sound record *then
  * is one too: to look further than VZ_AHEAD_TICKS, look so far and from there on again.
- * Where an interrupt ticks the record, copy it with that interrupt masked and look from the copy: words that change meanwhile are no
- * record, and get -9. */
+ * Where an interrupt ticks the record, copy it with that interrupt masked and look from the copy: words that change while they are read
+ * are those of no machine, and may get -9. */
 
 #define VZ_AHEAD_TICKS 1000000
 
