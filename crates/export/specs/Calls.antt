@@ -2,7 +2,7 @@
 use mathlib.Core.Bool.{cond}
 use mathlib.Core.List.{List}
 use Prim.Native.Nat.{ℕ}
-use lib.IntN.{ℤ, pos, negsuc, negℤ}
+use lib.IntN.{ℤ, pos, negsuc}
 use lib.ListN.{length}
 use Rattle.circle.specs.declared.plane.Turn.{Turn}
 use Rattle.block.specs.declared.Block.{Block}
@@ -17,13 +17,10 @@ use Rattle.machine.specs.declared.Ticked.{Ticked}
 use Rattle.machine.specs.declared.Report.{Report}
 use Rattle.machine.specs.Calls.{makeOf, loadOf, tickOf, holdOf, releaseOf, stopOf}
 use Rattle.machine.specs.Run.{Run, runOf}
-use Rattle.layout.specs.Words.{wordOf, countOf, encodeOf, machineIn}
+use Rattle.layout.specs.Words.{wordOf, refusalOf, countOf, encodeOf, machineIn}
 use Rattle.store.specs.Words.{soundWords}
 
--- ---- answers as numbers: a refusal is minus the number of the question
-
-unfoldable pub refusalOf : (question : ℕ) → ℤ
-refusalOf n = negℤ (wordOf n)
+-- ---- answers as numbers
 
 abbrev pub answerNumber : Answer → ℤ
 answerNumber Answer.Done = pos 0

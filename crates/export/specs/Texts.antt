@@ -11,11 +11,10 @@ use Rattle.reader.specs.declared.«text_line».ReadLine.{ReadLine}
 use Rattle.reader.specs.TextLine.{readLineOf}
 use Rattle.job.specs.declared.Check.{Check}
 use Rattle.job.specs.Check.{startOf, isOver, Fills}
-use Rattle.layout.specs.Words.{wordOf, markWord, encodeOf, machineIn}
+use Rattle.layout.specs.Words.{wordOf, refusalOf, markWord, encodeOf, machineIn}
 use Rattle.progress.specs.declared.progress.DecodedProgress.{DecodedProgress}
 use Rattle.progress.specs.Known.{encodeKnown, decodeKnown}
 use Rattle.progress.specs.Progress.{encodeProgress, decodeProgress}
-use Rattle.export.specs.Calls.{refusalOf}
 use Rattle.store.specs.Words.{soundWords}
 
 -- ---- one line

@@ -1,4 +1,3 @@
-pub mod Number
 pub mod Words
 pub mod Texts
 pub mod Told

@@ -1,18 +1,13 @@
 // The machine's answers as numbers: a refusal is minus the number of the question.
 ghost use mathlib.Core.Path.{_≡_};
-ghost use Rattle.export.specs.Calls.{refusalOf, answerNumber, tickNumber, reportNumber};
+ghost use Rattle.export.specs.Calls.{answerNumber, tickNumber, reportNumber};
 ghost use Rattle.export.specs.Texts.{readNumber};
+use layout::number::refusal;
 use layout::number::word;
 use machine::Answer;
 use machine::Report;
 use machine::Tick;
 use reader::text_line::Read;
-
-fn refusal(question: u64) -> i64
-    ensures { λ r. ⌜ r ≡ refusalOf question ⌝ }
-{
-    -word(question)
-}
 
 pub fn answer_number(answer: Answer) -> i64
     ensures { λ r. ⌜ r ≡ answerNumber answer ⌝ }

@@ -1,7 +1,7 @@
 -- Where a job stands, as a row of 16 signed numbers of 64 bits.
 use mathlib.Core.List.{List, [], _∷_}
-use lib.IntN.{ℤ, pos, negℤ}
-use Rattle.layout.specs.Words.{wordOf, workWordsOf}
+use lib.IntN.{ℤ, pos}
+use Rattle.layout.specs.Words.{wordOf, refusalOf, workWordsOf}
 use Rattle.seek.specs.declared.Found.{Found}
 use Rattle.seek.specs.declared.Sought.{Sought}
 
@@ -9,7 +9,7 @@ use Rattle.seek.specs.declared.Sought.{Sought}
 abbrev pub foundWord : Found → ℤ
 foundWord Found.InWork = pos 1
 foundWord Found.Over = pos 0
-foundWord (Found.Refused number) = negℤ (wordOf number)
+foundWord (Found.Refused number) = refusalOf number
 
 -- what is found; block, text line, ticks and cycles left; the point and the remainder; what is in work, in the eight words of a record
 abbrev pub rowOf : Sought → List ℤ

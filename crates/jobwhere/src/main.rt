@@ -13,6 +13,7 @@ ghost use Rattle.jobwhere.specs.laws.Row.{standingOf, rowWith};
 use input::Input;
 use layout::encode::WorkWords;
 use layout::encode::work_words;
+use layout::number::refusal;
 use layout::number::word;
 use libc::STDIN_FILENO;
 use libc::STDOUT_FILENO;
@@ -99,7 +100,7 @@ fn found_word(found: Found) -> i64
     match found {
         Found::InWork => 1,
         Found::Over => 0,
-        Found::Refused(number) => -word(number),
+        Found::Refused(number) => refusal(number),
     }
 }
 

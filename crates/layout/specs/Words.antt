@@ -5,7 +5,7 @@ use mathlib.Core.List.{List, [], _∷_}
 use Prim.Native.Nat.{ℕ, _^_}
 use lib.Dec.{eqb, ltb}
 use lib.ListN.{getD}
-use lib.IntN.{ℤ, pos, negsuc}
+use lib.IntN.{ℤ, pos, negsuc, negℤ}
 use Rattle.whole.specs.Equal.{equalZ}
 use Rattle.circle.specs.declared.plane.Turn.{Turn}
 use Rattle.line.specs.declared.line.Line.{Line}
@@ -23,6 +23,10 @@ abi = pos 1
 -- a count as a word; -1 where no word holds it, as in no sound record
 unfoldable pub wordOf : ℕ → ℤ
 wordOf n = cond (ltb n (2 ^ 63)) (pos n) (negsuc 0)
+
+-- a refusal is minus the number of the question
+unfoldable pub refusalOf : (question : ℕ) → ℤ
+refusalOf n = negℤ (wordOf n)
 
 -- ---- a machine as words
 

@@ -1,6 +1,6 @@
-// A count as a word of the record, and a word as a count.
+// A count as a word of the record, a word as a count, and a refusal as a word.
 ghost use mathlib.Core.Path.{_≡_};
-ghost use Rattle.layout.specs.Words.{countOf, wordOf};
+ghost use Rattle.layout.specs.Words.{countOf, wordOf, refusalOf};
 ghost use Rattle.layout.specs.Right.{isCount};
 
 // A negative word is no count: 0, which every place that takes a count refuses or writes back otherwise.
@@ -19,6 +19,12 @@ pub fn word(count: u64) -> i64
     } else {
         -1
     }
+}
+
+pub fn refusal(question: u64) -> i64
+    ensures { λ r. ⌜ r ≡ refusalOf question ⌝ }
+{
+    -word(question)
 }
 
 // Whether a word tells a count.

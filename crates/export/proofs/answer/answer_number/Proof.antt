@@ -1,9 +1,7 @@
 -- `answer_number` is right because each answer has its own number.
 use borrow.Author.Needs.{needs}
 use mathlib.Core.Path.{_∙_}
-use Rattle.export.specs.laws.Number.{refusal-fits}
-use Rattle.layout.specs.laws.Number.{word-fits, through}
-use Rattle.export.specs.laws.Number.{refusal-fits}
+use Rattle.layout.specs.laws.Number.{word-fits, refusal-fits, through}
 use Rattle.export.proofs.answer.answer_number.Statement.{statement}
 use Rattle.export.proofs.answer.answer_number.Tie as tie
 

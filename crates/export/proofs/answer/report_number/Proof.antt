@@ -1,9 +1,7 @@
 -- `report_number` is right because each report has its own number.
 use borrow.Author.Needs.{needs}
 use mathlib.Core.Path.{_∙_}
-use Rattle.export.specs.laws.Number.{refusal-fits}
-use Rattle.layout.specs.laws.Number.{through}
-use Rattle.export.specs.laws.Number.{refusal-fits}
+use Rattle.layout.specs.laws.Number.{refusal-fits, through}
 use Rattle.export.proofs.answer.report_number.Statement.{statement}
 use Rattle.export.proofs.answer.report_number.Tie as tie
 

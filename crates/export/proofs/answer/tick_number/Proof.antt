@@ -4,8 +4,7 @@ use mathlib.Core.Path.{_∙_}
 use Prim.Native.Nat.{_^_, _<_}
 use mir.Syntax.{w64}
 use mir.Facts.{toZ-pos}
-use Rattle.layout.specs.laws.Number.{through}
-use Rattle.export.specs.laws.Number.{refusal-fits}
+use Rattle.layout.specs.laws.Number.{refusal-fits, through}
 use Rattle.export.proofs.answer.tick_number.Statement.{statement}
 use Rattle.export.proofs.answer.tick_number.Tie as tie
 

@@ -1,11 +1,10 @@
 -- `refusal` is right because the least word is -1, so minus it is one too.
 use borrow.Author.Needs.{needs}
 use mir.Facts.{toZ-ofZ}
-use Rattle.export.specs.Calls.{refusalOf}
-use Rattle.layout.specs.laws.Number.{word-fits}
-use Rattle.export.specs.laws.Number.{refusal-fits, minus}
-use Rattle.export.proofs.answer.refusal.Statement.{statement}
-use Rattle.export.proofs.answer.refusal.Tie as tie
+use Rattle.layout.specs.Words.{refusalOf}
+use Rattle.layout.specs.laws.Number.{word-fits, refusal-fits, minus}
+use Rattle.layout.proofs.number.refusal.Statement.{statement}
+use Rattle.layout.proofs.number.refusal.Tie as tie
 
 word-requires : tie.Need-word-requires
 word-requires c κs = search needs
