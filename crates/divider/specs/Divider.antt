@@ -1,31 +1,43 @@
--- 01, "Feed divider". q0 is the capacity, f the block's feed number, r the remainder.
+-- 01, "Feed divider", as 02 §2, "Arcs cut too fast at 45 degrees", changes it: what a cycle takes off may differ from cycle to cycle. The
+-- due of a cycle is its charge times q0; a tick adds 1,000 × f; r is the remainder. `work` and `book` say which charge it is.
 use mathlib.Core.Bool.{true, false, cond}
-use Prim.Native.Nat.{ℕ, zero, suc, _+_, _-_, _*_, _/_}
+use Prim.Native.Nat.{ℕ, zero, suc, _+_, _-_, _*_, _/_, max}
 use lib.Dec.{leb}
 use Rattle.divider.specs.declared.Fed.{Fed}
 use Rattle.divider.specs.declared.Gone.{Gone}
 use Rattle.divider.specs.declared.End.{End}
 
--- "Each working tick (block in work, not held) adds f to the remainder. If it then reaches or passes q0, q0 is taken off and one cycle is done."
-abbrev pub fedOf : (q0 f r : ℕ) → Fed
-fedOf q0 f r = cond (leb q0 (r + f)) (record { remainder = r + f - q0; cycle = true }) (record { remainder = r + f; cycle = false })
+-- 01: "Each working tick (block in work, not held) adds f to the remainder. If it then reaches or passes q0, q0 is taken off and one cycle
+-- is done." 02 §2: "A tick adds 1,000 × f. A cycle is due when the remainder reaches its charge times q0, at most one a tick."
+abbrev pub fedOf : (due added r : ℕ) → Fed
+fedOf due a r = cond (leb due (r + a)) (record { remainder = r + a - due; cycle = true }) (record { remainder = r + a; cycle = false })
 
--- "A block of k cycles .., loaded at remainder r, ends on its working tick ⌈(k × q0 - r) / f⌉, its first being 1"
-unfoldable pub endTick : (q0 f r k : ℕ) → ℕ
-endTick q0 f r k = (k * q0 - r + (f - 1)) / f
+-- 02 §2: "A tick adds 1,000 × f."
+abbrev pub addedAt : (f : ℕ) → ℕ
+addedAt f = 1000 * f
 
--- the remainder after t working ticks, and the cycles done in them
-unfoldable pub remainderAfter : (q0 f r t : ℕ) → ℕ
-remainderAfter q0 f r zero = r
-remainderAfter q0 f r (suc t) = fedOf q0 f (remainderAfter q0 f r t) .remainder
+-- ---- so many working ticks of cycles with these dues, the first of them number 0
 
-unfoldable pub cyclesIn : (q0 f r t : ℕ) → ℕ
-cyclesIn q0 f r zero = 0
-cyclesIn q0 f r (suc t) = cond (fedOf q0 f (remainderAfter q0 f r t) .cycle) (suc (cyclesIn q0 f r t)) (cyclesIn q0 f r t)
+-- one tick more: a cycle done makes the next one due
+abbrev pub goneBy : (cycles : ℕ) → Fed → Gone
+goneBy c f = record { cycles = cond (f .cycle) (suc c) c; remainder = f .remainder }
 
-abbrev pub goneOf : (q0 f r t : ℕ) → Gone
-goneOf q0 f r t = record { cycles = cyclesIn q0 f r t; remainder = remainderAfter q0 f r t }
+unfoldable pub goneOf : (dues : ℕ → ℕ) (added r t : ℕ) → Gone
+goneOf d a r zero = record { cycles = 0; remainder = r }
+goneOf d a r (suc t) = let g = goneOf d a r t in goneBy (g .cycles) (fedOf (d (g .cycles)) a (g .remainder))
 
--- "The remainder goes over to the next block.": t working ticks add t × f, and k cycles take k × q0 off
-abbrev pub endingOf : (q0 f r k : ℕ) → End
-endingOf q0 f r k = let t = endTick q0 f r k in record { tick = t; remainder = r + t * f - k * q0 }
+-- ---- the end of a block, whose dues are together `due`
+
+-- 02 §2: "in a history that is its working tick ⌈(C × q0 - r) / (1,000 × f)⌉, C being the sum of its charges"
+unfoldable pub endTick : (due added r : ℕ) → ℕ
+endTick due a r = (due - r + (a - 1)) / a
+
+-- 02 §2: "A block ends on the tick that stepping by this rule gives", whatever the remainder; k are its cycles. Each cycle has a tick of
+-- its own, and the sum must reach their dues. `laws/Last.antt` proves that stepping gives this tick, and that from a remainder below the
+-- first due, as in a history, it is `endTick`.
+unfoldable pub lastTick : (due added r k : ℕ) → ℕ
+lastTick due a r k = max k (endTick due a r)
+
+-- 01: "The remainder goes over to the next block.": what the ticks have added, less the dues
+abbrev pub endingOf : (due added r k : ℕ) → End
+endingOf due a r k = let t = lastTick due a r k in record { tick = t; remainder = r + t * a - due }

@@ -1,7 +1,12 @@
-// The feed divider (document 01, "Feed divider"; source 000): a DDA integrator of capacity q0 whose overflows are the cycles of the block in work.
+// The feed divider (document 01, "Feed divider"; source 000): a DDA integrator whose overflows are the cycles of the block in work.
+// Document 02 §2 charges cycles, so the capacity at which it overflows is the due of the next cycle, its charge times q0; a tick adds 1,000
+// times the feed number.
 ghost use mathlib.Core.Path.{_≡_};
 ghost use Prim.Native.Nat.{_+_, _*_, _^_, _≤_, _<_};
-ghost use Rattle.divider.specs.Divider.{fedOf, goneOf, endTick, endingOf};
+ghost use Rattle.divider.specs.Divider.{fedOf, goneOf, lastTick, endingOf};
+
+// A tick adds this times the feed number: charges are thousandths of what a straight step costs.
+pub const FEED_SCALE: u64 = 1_000;
 
 // What a working tick gives.
 pub struct Fed {
@@ -9,15 +14,15 @@ pub struct Fed {
     pub cycle: bool,
 }
 
-// One working tick: the feed number is added; on reaching the capacity the capacity is taken off, and a cycle is done.
-pub fn add_feed(capacity: u64, feed: u64, remainder: u64) -> Fed
-    requires { ⌜ remainder + feed < 2 ^ 64 ⌝ }
-    ensures { λ r. ⌜ r ≡ fedOf capacity feed remainder ⌝ }
+// One working tick: on reaching the due of the next cycle the due is taken off, and the cycle is done.
+pub fn add_feed(due: u64, added: u64, remainder: u64) -> Fed
+    requires { ⌜ remainder + added < 2 ^ 64 ⌝ }
+    ensures { λ r. ⌜ r ≡ fedOf due added remainder ⌝ }
 {
-    let sum = remainder + feed;
-    if capacity <= sum {
+    let sum = remainder + added;
+    if due <= sum {
         Fed {
-            remainder: sum - capacity,
+            remainder: sum - due,
             cycle: true,
         }
     } else {
@@ -34,24 +39,36 @@ pub struct Gone {
     pub remainder: u64,
 }
 
-// So many working ticks at once, whatever their number; callers ask first whether the block lasts so long.
-pub fn add_feeds(capacity: u64, feed: u64, remainder: u64, ticks: u64) -> Gone
-    requires { ⌜ (feed ≤ capacity) × (remainder < capacity) × (remainder + ticks * feed < 2 ^ 64) ⌝ }
-    ensures { λ r. ⌜ r ≡ goneOf capacity feed remainder ticks ⌝ }
+// So many working ticks at once, whatever their number, where every cycle has this due. Callers ask first whether the block lasts so long.
+pub fn add_feeds(due: u64, added: u64, remainder: u64, ticks: u64) -> Gone
+    requires { ⌜ (1 ≤ added) × (added ≤ due) × (remainder + ticks * added < 2 ^ 64) ⌝ }
+    ensures { λ r. ⌜ r ≡ goneOf (λ c. due) added remainder ticks ⌝ }
 {
-    let sum = remainder + ticks * feed;
+    let sum = remainder + ticks * added;
+    let paid = sum / due;
+    if ticks < paid {
+        return Gone {
+            cycles: ticks,
+            remainder: sum - ticks * due,
+        };
+    }
     Gone {
-        cycles: sum / capacity,
-        remainder: sum % capacity,
+        cycles: paid,
+        remainder: sum % due,
     }
 }
 
-// The working tick, counted from 1, on which a block with so many cycles left ends.
-pub fn end_tick(capacity: u64, feed: u64, remainder: u64, cycles: u64) -> u64
-    requires { ⌜ (1 ≤ feed) × (remainder ≤ cycles * capacity) × (cycles * capacity + feed < 2 ^ 64) ⌝ }
-    ensures { λ r. ⌜ r ≡ endTick capacity feed remainder cycles ⌝ }
+// The working tick, counted from 1, on which a block with so many cycles left ends, whose dues are together `due`. In a history the sum
+// decides; after a remainder that no history leaves there may be more cycles than ticks that the sum takes, and each has a tick of its own.
+pub fn last_tick(due: u64, added: u64, remainder: u64, cycles: u64) -> u64
+    requires { ⌜ (1 ≤ added) × (due + added < 2 ^ 64) ⌝ }
+    ensures { λ r. ⌜ r ≡ lastTick due added remainder cycles ⌝ }
 {
-    (cycles * capacity - remainder + (feed - 1)) / feed
+    if due <= remainder {
+        return cycles;
+    }
+    let ticks = (due - remainder + (added - 1)) / added;
+    if ticks < cycles { cycles } else { ticks }
 }
 
 // How a block ends: the working tick on which it does, counted from 1, and the remainder that goes over to the next.
@@ -60,13 +77,13 @@ pub struct End {
     pub remainder: u64,
 }
 
-pub fn ending(capacity: u64, feed: u64, remainder: u64, cycles: u64) -> End
-    requires { ⌜ (1 ≤ feed) × (remainder < cycles * capacity) × (cycles * capacity + feed < 2 ^ 64) ⌝ }
-    ensures { λ r. ⌜ r ≡ endingOf capacity feed remainder cycles ⌝ }
+pub fn ending(due: u64, added: u64, remainder: u64, cycles: u64) -> End
+    requires { ⌜ (1 ≤ added) × (cycles * added ≤ due) × (due + added + remainder < 2 ^ 64) ⌝ }
+    ensures { λ r. ⌜ r ≡ endingOf due added remainder cycles ⌝ }
 {
-    let tick = end_tick(capacity, feed, remainder, cycles);
+    let tick = last_tick(due, added, remainder, cycles);
     End {
         tick: tick,
-        remainder: remainder + tick * feed - cycles * capacity,
+        remainder: remainder + tick * added - due,
     }
 }

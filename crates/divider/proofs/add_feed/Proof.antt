@@ -12,13 +12,13 @@ add-sum c = search needs
 returns : tie.Need-returns
 returns c =
     let s = c .before .args in
-    let reached : s .capacity ≤ s .remainder + s .feed = omega (arith, c .if1 .taken) in
+    let reached : s .due ≤ s .remainder + s .added = omega (arith, c .if1 .taken) in
     simp (le-leb _ _ reached)
 
 returns-2 : tie.Need-returns-2
 returns-2 c =
     let s = c .before .args in
-    let short : s .remainder + s .feed < s .capacity = omega (arith, c .if1 .left) in
+    let short : s .remainder + s .added < s .due = omega (arith, c .if1 .left) in
     simp (lt-leb _ _ short)
 
 pub add-feed-spec : {M : Type 1} → statement M

@@ -1,35 +1,33 @@
--- `ending` is right because the feeds reach the last cycle on the end tick, by less than one feed.
+-- `ending` is right because the sum has reached the dues on that tick; its numbers fit.
 use borrow.Author.Needs.{needs}
+use Prim.Native.Nat.{_+_, _*_, _≤_}
 use native.Mathlib.Omega.{arith}
-use Rattle.divider.specs.laws.End.{Over, over, end-tick}
+use Rattle.divider.specs.laws.Last.{last-tick, last-most}
 use Rattle.divider.proofs.ending.Statement.{statement}
 use Rattle.divider.proofs.ending.Tie as tie
 
-left-over : (c : tie.After-end-tick) → (let s = c .before .args in
-    Over (s .capacity) (s .feed) (s .remainder) (s .cycles) (c .end-tick .result))
-left-over c =
+most : (c : tie.After-last-tick) → (let s = c .before .args in
+    s .remainder + c .last-tick .result * s .added ≤ s .due + s .added + s .remainder)
+most c =
     let s = c .before .args in
-    let due = c .before .pre .1 in
-    let ends = end-tick (s .capacity) (s .feed) (s .remainder) (s .cycles) (c .before .pre .0) due in
-    rw (c .end-tick .ensures) (over (s .capacity) (s .feed) (s .remainder) (s .cycles) _ due ends)
+    rw (c .last-tick .ensures) (last-most (s .due) (s .added) (s .remainder) (s .cycles) (c .before .pre .0) (c .before .pre .1))
 
-end-tick-requires : tie.Need-end-tick-requires
-end-tick-requires c κs = search needs
+last-tick-requires : tie.Need-last-tick-requires
+last-tick-requires c κs = search needs
 
 mul-t6 : tie.Need-mul-t6
-mul-t6 c = omega (arith, left-over c .early, c .before .pre .2)
+mul-t6 c = omega (arith, most c, c .before .pre .2)
 
 add-t7 : tie.Need-add-t7
-add-t7 c = omega (arith, left-over c .early, c .before .pre .2)
+add-t7 c = omega (arith, most c, c .before .pre .2)
 
-mul-t8 : tie.Need-mul-t8
-mul-t8 c = search needs
-
-sub-t9 : tie.Need-sub-t9
-sub-t9 c = left-over c .reached
+sub-t8 : tie.Need-sub-t8
+sub-t8 c =
+    let s = c .before .args in
+    rw (c .last-tick .ensures) (last-tick (s .due) (s .added) (s .remainder) (s .cycles) (c .before .pre .0) .reached)
 
 returns : tie.Need-returns
-returns c = rw (c .end-tick .ensures)
+returns c = rw (c .last-tick .ensures)
 
 pub ending-spec : {M : Type 1} → statement M
-ending-spec = tie.close (tie.spec end-tick-requires mul-t6 add-t7 mul-t8 sub-t9 returns)
+ending-spec = tie.close (tie.spec last-tick-requires mul-t6 add-t7 sub-t8 returns)
