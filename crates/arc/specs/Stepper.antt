@@ -11,7 +11,7 @@ use Rattle.circle.specs.declared.step.Move.{Move}
 use Rattle.circle.specs.declared.step.Move.the-variants.{Rise, Slant, Fall}
 use Rattle.circle.specs.declared.step.Stepper.{Stepper}
 use Rattle.circle.specs.Step.{offset, seen, turned}
-use Rattle.circle.specs.Stepper.{enterOf, leaveOf, advanceOf, quadrantPulse, pulseOf, Entered}
+use Rattle.circle.specs.Stepper.{enterOf, leaveOf, moveOf, advanceOf, quadrantPulse, pulseOf, Entered}
 use Rattle.arc.specs.declared.arc.Arc.{Arc}
 use Rattle.arc.specs.declared.stepper.Tracer.{Tracer}
 use Rattle.arc.specs.declared.stepper.Traced.{Traced}
@@ -38,7 +38,8 @@ pickCode rise fall Slant = rise + fall
 pickCode rise fall Fall = fall
 
 abbrev pub tracerOf : Stepper → Tracer
-tracerOf s = record { circle = s; rise = moveCode (s .turn) (s .quadrant) Rise; fall = moveCode (s .turn) (s .quadrant) Fall }
+tracerOf s =
+    record { circle = s; rise = moveCode (s .turn) (s .quadrant) Rise; fall = moveCode (s .turn) (s .quadrant) Fall; next = moveOf s }
 
 -- the stepper of an arc at a point
 unfoldable pub arcTracer : Arc → (at : Point) → Tracer

@@ -4,3 +4,4 @@ pub mod Step
 pub mod Work
 pub mod Stepper
 pub mod Way
+pub mod Charge

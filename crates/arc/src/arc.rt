@@ -1,14 +1,16 @@
-// An arc in work: the points that it visits, its test, and one cycle onward or many.
+// An arc in work: the points that it visits, its test, one cycle onward or many, and what they are charged.
 ghost use mathlib.Core.Path.{_≡_};
 ghost use mathlib.Core.Bool.{true};
-ghost use Prim.Native.Nat.{_≤_};
+ghost use Prim.Native.Nat.{_<_};
 ghost use Rattle.plane.specs.Travel.{insideOf, visitsInside};
 ghost use Rattle.circle.specs.Circle.{onCircle};
 ghost use Rattle.arc.specs.Centre.{Near, Wide, seenFrom};
+ghost use Rattle.arc.specs.Charge.{arcCharge, arcSpanOf, arcPaidOf};
 ghost use Rattle.arc.specs.Arc.{OnArc, arcAfter, arcCycles, arcWidth, arcAt, arcStepped, centres};
 use crate::centre::back;
 use crate::centre::room;
 use crate::centre::seen;
+use circle::charge::Span;
 use circle::plane::Turn;
 use circle::plane::on_circle;
 use plane::point::Point;
@@ -32,6 +34,13 @@ pub struct Arc {
 pub struct Stepped {
     pub at: Point,
     pub pulses: Pulses,
+}
+
+// What a sum of charges pays for: so many cycles, their charges, and the point after them.
+pub struct ArcPaid {
+    pub cycles: u64,
+    pub charges: u64,
+    pub at: Point,
 }
 
 // Whether the centre is one that an arc in work can have.
@@ -112,28 +121,41 @@ impl Arc {
         }
     }
 
-    // The point so many cycles on, without walking there.
-    pub fn after(self, at: Point, cycles: u64) -> Point
-        requires { ⌜ OnArc self at × (cycles ≤ 1000000000) ⌝ }
-        ensures { λ r. ⌜ r ≡ arcAfter self at cycles ⌝ }
-    {
-        let centre = self.centre;
-        let turn = self.turn;
-        back(
-            centre,
-            circle::jump::after(self.square, turn, seen(centre, at), cycles),
-        )
-    }
-
-    // The cycles from here to the end, by the closed count.
-    pub fn cycles(self, at: Point) -> u64
+    // The span from here to the end, without walking it: its cycles, and what they are charged.
+    pub fn span(self, at: Point) -> Span
         requires { ⌜ OnArc self at ⌝ }
-        ensures { λ r. ⌜ r ≡ arcCycles self at ⌝ }
+        ensures { λ r. ⌜ r ≡ arcSpanOf self at ⌝ }
     {
         let centre = self.centre;
         let end = self.end;
         let turn = self.turn;
-        circle::count::cycles(self.square, turn, seen(centre, at), seen(centre, end))
+        circle::count::span(self.square, turn, seen(centre, at), seen(centre, end))
+    }
+
+    // What the next cycle is charged.
+    pub fn charge(self, at: Point) -> u64
+        requires { ⌜ OnArc self at ⌝ }
+        ensures { λ r. ⌜ r ≡ arcCharge self at ⌝ }
+    {
+        let centre = self.centre;
+        let turn = self.turn;
+        circle::step::charge(self.square, turn, seen(centre, at))
+    }
+
+    // The most cycles from here on, at most so many, whose charges the sum holds, without walking them.
+    pub fn paid(self, at: Point, most: u64, sum: u64) -> ArcPaid
+        requires { ⌜ OnArc self at × (most < arcCycles self at) ⌝ }
+        ensures { λ r. ⌜ r ≡ arcPaidOf self at most sum ⌝ }
+    {
+        let centre = self.centre;
+        let turn = self.turn;
+        let r = circle::paid::paid(self.square, turn, seen(centre, at), most, sum);
+        let there = r.at;
+        ArcPaid {
+            cycles: r.cycles,
+            charges: r.charges,
+            at: back(centre, there),
+        }
     }
 
     // The register width that a load answers.

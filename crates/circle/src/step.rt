@@ -10,10 +10,16 @@ ghost use mathlib.Core.Bool.{true};
 ghost use Prim.Native.Nat.{_<_};
 ghost use Rattle.circle.specs.Circle.{onCircle};
 ghost use Rattle.circle.specs.Step.{nextQuadrant, stepOf};
-ghost use Rattle.circle.specs.Stepper.{Entered, enterOf, moveOf, moved, settled, cycledOf, leaveOf};
+ghost use Rattle.circle.specs.Stepper.{Entered, enterOf, moveOf, moved, settled, advanceOf, cycledOf, leaveOf};
+ghost use Rattle.circle.specs.Charge.{moveCharge, stepCharge};
 ghost use Rattle.circle.specs.Asked.{Movable};
 
 const BIAS: u64 = 2_000_000;
+
+// What a step is charged.
+pub const STRAIGHT: u64 = 1_000;
+
+pub const DIAGONAL: u64 = 1_414;
 
 // What a step does in its quadrant: across grows, or along falls and across grows, or along falls.
 pub enum Move {
@@ -41,6 +47,17 @@ pub struct Cycled {
     pub made: Move,
 }
 
+// A move that takes both axes is diagonal.
+pub fn move_charge(m: Move) -> u64
+    ensures { λ r. ⌜ r ≡ moveCharge m ⌝ }
+{
+    match m {
+        Move::Rise => STRAIGHT,
+        Move::Slant => DIAGONAL,
+        Move::Fall => STRAIGHT,
+    }
+}
+
 pub fn next_quadrant(k: u64) -> u64
     requires { ⌜ k < 4 ⌝ }
     ensures { λ r. ⌜ r ≡ nextQuadrant k ⌝ }
@@ -66,7 +83,7 @@ impl Stepper {
     }
 
     // What the next cycle does.
-    fn next_move(self) -> Move
+    pub fn next_move(self) -> Move
         requires { ⌜ Entered self ⌝ }
         ensures { λ r. ⌜ r ≡ moveOf self ⌝ }
     {
@@ -131,6 +148,15 @@ impl Stepper {
         self
     }
 
+    // The stepper after its next move, for callers that know it.
+    pub fn advance(self, m: Move) -> Stepper
+        requires { ⌜ Entered self × (m ≡ moveOf self) ⌝ }
+        ensures { λ r. ⌜ r ≡ advanceOf self ⌝ }
+    {
+        let s = self.moved_by(m);
+        s.settle()
+    }
+
     // One cycle onward. The move gives its pulses, without leaving quadrant form.
     pub fn cycle(self) -> Cycled
         requires { ⌜ Entered self ⌝ }
@@ -167,4 +193,13 @@ pub fn step(n: u64, turn: Turn, p: Offset) -> Offset
     let c = s.cycle();
     let t = c.stepper;
     t.leave()
+}
+
+// What the step to the next point is charged.
+pub fn charge(n: u64, turn: Turn, p: Offset) -> u64
+    requires { ⌜ onCircle n p ≡ true ⌝ }
+    ensures { λ r. ⌜ r ≡ stepCharge n turn p ⌝ }
+{
+    let s = Stepper::enter(n, turn, p);
+    move_charge(s.next_move())
 }

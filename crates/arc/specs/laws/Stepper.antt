@@ -19,9 +19,8 @@ use Rattle.circle.specs.declared.plane.Turn.the-variants.{Clockwise, Counterclo
 use Rattle.circle.specs.declared.step.Move.{Move}
 use Rattle.circle.specs.declared.step.Move.the-variants.{Rise, Slant, Fall}
 use Rattle.circle.specs.declared.step.Stepper.{Stepper}
-use Rattle.circle.specs.declared.step.Cycled.{Cycled}
 use Rattle.circle.specs.Step.{nextQuadrant, stepOf, afterOf}
-use Rattle.circle.specs.Stepper.{enterOf, leaveOf, moveOf, advanceOf, cycledOf, pulseOf, Entered}
+use Rattle.circle.specs.Stepper.{enterOf, leaveOf, moveOf, advanceOf, pulseOf, Entered}
 use Rattle.circle.specs.laws.Circle.{on-circle-small}
 use Rattle.circle.specs.laws.Stepper.{entered-bounds, enter-entered, advance-enter, advance-turn, leave-enter, pulse-enter}
 use Rattle.arc.specs.declared.arc.Arc.{Arc}
@@ -86,30 +85,35 @@ pick-code t (suc (suc (suc (suc k)))) h Slant = absurd (omega arith)
 
 -- ---- one cycle, as the code puts it together
 
-module _ (t : Tracer) (h : Tracing t) {c : Cycled} (e : c ≡ cycledOf (t .circle)) {code : ℕ} (picked : code ≡ pickCode (t .rise) (t .fall) (c .made)) where
+module _ (t : Tracer) (h : Tracing t) {code : ℕ} (picked : code ≡ pickCode (t .rise) (t .fall) (t .next))
+    {s : Stepper} (e : s ≡ advanceOf (t .circle)) where
   picked-is : code ≡ wayCode (pulseOf (t .circle))
   unfolding pulseOf moveCode
   picked-is =
       picked
-      ∙ (λ i. pickCode (h .is i .rise) (h .is i .fall) (e i .made))
+      ∙ (λ i. pickCode (h .is i .rise) (h .is i .fall) (h .is i .next))
       ∙ pick-code (t .circle .turn) (t .circle .quadrant) (entered-bounds (h .entered) .four) (moveOf (t .circle))
 
-  next-is : c .stepper ≡ advanceOf (t .circle)
-  next-is = ap (λ (x : Cycled). x .stepper) e
-
   -- in one quadrant the codes stay
-  pub traced-on : c .stepper .quadrant ≡ t .circle .quadrant → record { tracer = record { circle = c .stepper; rise = t .rise; fall = t .fall }; code = code } ≡ tracedOf t
+  pub traced-on : s .quadrant ≡ t .circle .quadrant → {m : Move} → m ≡ moveOf s
+      → record { tracer = record { circle = s; rise = t .rise; fall = t .fall; next = m }; code = code } ≡ tracedOf t
   unfolding tracedOf
-  traced-on same =
+  traced-on same {m} n =
       let stays : (m : Move) → moveCode (t .circle .turn) (t .circle .quadrant) m ≡ moveCode (advanceOf (t .circle) .turn) (advanceOf (t .circle) .quadrant) m =
-      λ m. ap₂ (λ (u : Turn) (k : ℕ). moveCode u k m) (sym (advance-turn (t .circle))) (sym same ∙ ap (λ (x : Stepper). x .quadrant) next-is) in
+      λ m. ap₂ (λ (u : Turn) (k : ℕ). moveCode u k m) (sym (advance-turn (t .circle))) (sym same ∙ ap (λ (x : Stepper). x .quadrant) e) in
       let rise = ap (λ (x : Tracer). x .rise) (h .is) ∙ stays Rise in
       let fall = ap (λ (x : Tracer). x .fall) (h .is) ∙ stays Fall in
-      λ i. record { tracer = record { circle = next-is i; rise = rise i; fall = fall i }; code = picked-is i }
+      let next = n ∙ ap moveOf e in
+      λ i. record { tracer = record { circle = e i; rise = rise i; fall = fall i; next = next i }; code = picked-is i }
 
-  pub traced-over : {next : Tracer} → next ≡ tracerOf (c .stepper) → record { tracer = next; code = code } ≡ tracedOf t
+  pub traced-over : {next : Tracer} → next ≡ tracerOf s → record { tracer = next; code = code } ≡ tracedOf t
   unfolding tracedOf
-  traced-over n = let own = n ∙ ap tracerOf next-is in λ i. record { tracer = own i; code = picked-is i }
+  traced-over n = let own = n ∙ ap tracerOf e in λ i. record { tracer = own i; code = picked-is i }
+
+-- the code alone
+pub last-code : (t : Tracer) → Tracing t → {code : ℕ} → code ≡ pickCode (t .rise) (t .fall) (t .next) → code ≡ tracedOf t .code
+unfolding tracedOf
+last-code t h picked = picked-is t h picked refl
 
 -- codes of a tracer are small, and so is its point
 pub tracer-small : {t : Tracer} → Tracing t → (t .rise ≤ 10) × (t .fall ≤ 10)

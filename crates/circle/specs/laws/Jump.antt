@@ -1,29 +1,38 @@
--- The place of a rank is a circle point of that rank; so the walk after c cycles is at the place of its rank, round and round.
+-- The place of a rank is a circle point of that rank; so the walk after c cycles is at the place of its rank, round and round, and its
+-- charges are the tolls apart.
 use mathlib.Core.Path.{_≡_, refl, sym, ap, _∙_}
 use mathlib.Core.Logic.{inl, inr}
 use mathlib.Core.Bool.{Bool, true, false, cond}
 use Prim.Native.Nat.{ℕ, zero, suc, _+_, _-_, _*_, _/_, _%_, _≤_, _<_}
-use native.Mathlib.Nat.{mod-lt, div-add-mod', div-lt-iff-lt-mul, lt-of-not-le}
+use native.Mathlib.Nat.{mod-lt, div-add-mod', lt-of-not-le, mul-le-mul-right}
 use native.Mathlib.Decide.{decLe}
 use native.Mathlib.Omega.{arith}
 use lib.Dec.{leb}
 use lib.IntN.{natAbs}
 use borrow.Author.Tests.{leb-true, leb-false}
+use Rattle.whole.specs.Root.{nearestRoot}
 use Rattle.whole.specs.laws.Quotient.{quotient}
+use Rattle.circle.specs.declared.charge.Span.{Span}
+use Rattle.circle.specs.declared.jump.Start.{Start}
 use Rattle.circle.specs.declared.plane.Offset.{Offset}
 use Rattle.circle.specs.declared.plane.Turn.{Turn}
 use Rattle.circle.specs.declared.quadrant.Place.{Place}
-use Rattle.circle.specs.Circle.{Circle, largestN}
+use Rattle.circle.specs.Circle.{Circle, largestN, onCircle}
 use Rattle.circle.specs.Step.{place, seen, pointOf, seenPlace, stepOf, afterOf}
-use Rattle.circle.specs.Count.{quarterOf, rankOf}
-use Rattle.circle.specs.Asked.{Placed}
-use Rattle.circle.specs.Jump.{beside, placeIn, placeAt, jumpOf}
-use Rattle.circle.specs.laws.Octant.{Octant, Axis, apart, apart-le, some, under-axis, within-axis, nearest-axis}
-use Rattle.circle.specs.laws.Circle.{radius-bound, seen-seen}
+use Rattle.circle.specs.Count.{quarterOf, rankOf, onward, placesTo, cyclesOf}
+use Rattle.circle.specs.Charge.{chargesIn, tollOf, roundChargesOf, chargesOf, spanTo}
+use Rattle.circle.specs.Asked.{Placed, Tolled, Started}
+use Rattle.circle.specs.Jump.{beside, placeIn, placeAt, startOf, pointOn, chargesOn, arrivedOf}
+use Rattle.circle.specs.laws.Octant.{Octant, Axis, apart, apart-le, some, within-axis, nearest-axis}
+use Rattle.circle.specs.laws.Circle.{OnCircle, on-circle-to, radius-bound, seen-seen}
 use Rattle.circle.specs.laws.Code.{turned-small}
 use Rattle.circle.specs.laws.Next.{On, seen-form}
 use Rattle.circle.specs.laws.Rank.{After, more, wrap, rank-low, rank-above, place-lt, place-injective, move, rank-move}
+use Rattle.circle.specs.laws.Rank.{onward-lt, onward-ge}
 use Rattle.circle.specs.laws.Walk.{after-circle, quarter-axis, seen-step}
+use Rattle.circle.specs.laws.Count.{rank-bound}
+use Rattle.circle.specs.laws.Stepper.{after-on}
+use Rattle.circle.specs.laws.Charge.{charges-closed, tolled, toll-bound, round-bound}
 
 self-square : (y : ℕ) → y ≤ y * y
 self-square zero = omega arith
@@ -65,11 +74,20 @@ module _ (n : ℕ) {Q : ℕ} (k : Axis (2 * n) Q) where
           let r = rank-above k (Q - i) (beside n (Q - i)) (inr o) (o .wide) in
           record { on = record { four = four; some = omega arith; on = inr o }; rank = omega (arith, r) }
 
-  pub place-at : (r : ℕ) → r < 4 * Q → At n Q r (placeAt n Q r)
+  -- the quarters of a rank, round and round, and what is left of it
+  rounds : (r a b k i : ℕ) → a * Q + i ≡ r → b * 4 + k ≡ a → k < 4 → i < Q → k * Q + i ≡ r % (4 * Q)
+  rounds r a b k i e f l h =
+      let up : k + 1 ≤ 4 = omega arith in
+      sym (quotient r (4 * Q) b (k * Q + i) (omega (arith, ap (λ (t : ℕ). t * Q) f)) (omega (arith, mul-le-mul-right Q up)) .1)
+
+  pub place-at : (r : ℕ) → At n Q (r % (4 * Q)) (placeAt n Q r)
   unfolding placeAt
-  place-at r h =
-      let p = place-in (r / Q) (r % Q) (div-lt-iff-lt-mul (some k) .1 h) (mod-lt r (some k)) in
-      record { on = p .on; rank = p .rank ∙ div-add-mod' r Q }
+  place-at r =
+      let four : r / Q % 4 < 4 = mod-lt (r / Q) (omega arith) in
+      let rest = mod-lt r (some k) in
+      let p = place-in (r / Q % 4) (r % Q) four rest in
+      let round = rounds r (r / Q) (r / Q / 4) (r / Q % 4) (r % Q) (div-add-mod' r Q) (div-add-mod' (r / Q) 4) four rest in
+      record { on = p .on; rank = p .rank ∙ round }
 
 -- ---- ranks, round and round
 
@@ -110,23 +128,38 @@ module _ {n : ℕ} (t : Turn) (p : Offset) (o : Circle n p) where
   pub after-rank : (c : ℕ) → rank (afterOf n t p c) ≡ (rank p + c) % (4 * Q)
   after-rank c = onward-is (after-onward c)
 
-  pub jump-is : (c : ℕ) → jumpOf n t p c ≡ afterOf n t p c
-  unfolding jumpOf
-  jump-is c =
+  -- so it is at the place of that rank
+  pub after-place : (c : ℕ) → placeAt n Q (rank p + c) ≡ seenPlace t (afterOf n t p c)
+  after-place c =
       let q = afterOf n t p c in
-      let d = after-circle t p c o in
-      let a = place-at n (quarter-axis o) (rank q) (place-lt (quarter-axis o) (on q d)) in
-      let same : placeAt n Q (rank q) ≡ seenPlace t q = place-injective (quarter-axis o) (a .on) (on q d) (a .rank) in
-      ap (λ (r : ℕ). seen t (pointOf (placeAt n Q r))) (sym (after-rank c)) ∙ ap (λ (k : Place). seen t (pointOf k)) same
-      ∙ ap (seen t) (seen-form t q d .is) ∙ seen-seen t q
+      let a = place-at n (quarter-axis o) (rank p + c) in
+      place-injective (quarter-axis o) (a .on) (on q (after-circle t p c o)) (a .rank ∙ sym (after-rank c))
+
+  -- to a full turn, the cycles there are those that led there ..
+  pub cycles-after : (c : ℕ) → 1 ≤ c → c ≤ 4 * Q → cyclesOf n t p (afterOf n t p c) ≡ c
+  unfolding cyclesOf placesTo
+  cycles-after c l h = by (rank (afterOf n t p c)) (after-onward c) (place-lt (quarter-axis o) (on p o))
+    where
+      by : (s : ℕ) → Onward (4 * Q) (rank p) c s → rank p < 4 * Q → onward (4 * Q) (rank p) s ≡ c
+      by s w lt = at (w .rounds) (w .adds-up)
+        where
+          at : (v : ℕ) → s + v * (4 * Q) ≡ rank p + c → onward (4 * Q) (rank p) s ≡ c
+          at zero e = omega (arith, onward-lt (4 * Q) (rank p) s (omega arith))
+          at (suc zero) e = omega (arith, onward-ge (4 * Q) (rank p) s (omega arith))
+          at (suc (suc v)) e = absurd (omega arith)
+
+  abbrev pub toll : Offset → ℕ
+  toll q = tollOf Q (nearestRoot n) (seenPlace t q)
+
+  -- .. and their charges are the tolls apart
+  pub charges-after : (c : ℕ) → 1 ≤ c → c ≤ 4 * Q
+      → chargesIn n t p c ≡ onward (roundChargesOf Q (nearestRoot n)) (toll p) (toll (afterOf n t p c))
+  unfolding chargesOf
+  charges-after c l h =
+      let e = afterOf n t p c in
+      ap (chargesIn n t p) (sym (cycles-after c l h)) ∙ charges-closed n t p e o (after-circle t p c o)
 
 -- ---- what the code asks
-
--- small coordinates
-pub record SmallPlace (q : Place) : Type 0 where
-  pub four : q .quadrant < 4
-  pub along : q .along ≤ 1414214
-  pub across : q .across ≤ 1414214
 
 module _ (n : ℕ) (any : 1 ≤ n) (bound : n ≤ largestN) where
   quarter : Axis (2 * n) (quarterOf n)
@@ -149,14 +182,96 @@ module _ (n : ℕ) (any : 1 ≤ n) (bound : n ≤ largestN) where
       below : (y : ℕ) → 2 * y ≤ quarterOf n → y * y ≤ n
       below y l = omega (arith, room n quarter y l, self-square y)
 
-  on-small : {q : Place} → On n q → SmallPlace q
-  on-small o =
-      let u = under-axis (o .on) (nearest-axis n any) in
-      let r = radius-bound n any bound in
-      record { four = o .four; along = omega (arith, u, r); across = omega (arith, u, r) }
+-- ---- a start
 
-  pub at-small : (r : ℕ) → r < 4 * quarterOf n → SmallPlace (placeAt n (quarterOf n) r)
-  at-small r h = on-small (place-at n quarter r h .on)
+pub started : (n : ℕ) (t : Turn) (p : Offset) → onCircle n p ≡ true → Started (startOf n t p)
+unfolding startOf
+started n t p e = record { on = e; is = refl }
 
-pub point-small : (q : Place) → q .along ≤ 1414214 → q .across ≤ 1414214 → natAbs (pointOf q .y) ≤ 1414214
-point-small q a b = turned-small (q .quadrant) 1414214 _ a b .1
+pub record StartBounds (s : Start) : Type 0 where
+  pub some : 1 ≤ s .quarter
+  pub quarter : s .quarter ≤ 2000000
+  pub radius : s .radius ≤ 1414214
+  pub rank : s .from .cycles < 4 * s .quarter
+  pub toll : s .from .charges < roundChargesOf (s .quarter) (s .radius)
+  pub round : roundChargesOf (s .quarter) (s .radius) ≤ 9400000000
+
+module _ {s : Start} (h : Started s) where
+  pub start-on : OnCircle (s .n) (s .at)
+  start-on = on-circle-to (s .n) (s .at) (h .on)
+
+  pub quarter-is : s .quarter ≡ quarterOf (s .n)
+  unfolding startOf
+  quarter-is = ap (λ (x : Start). x .quarter) (h .is)
+
+  pub radius-is : s .radius ≡ nearestRoot (s .n)
+  unfolding startOf
+  radius-is = ap (λ (x : Start). x .radius) (h .is)
+
+  pub place-is : s .place ≡ seenPlace (s .turn) (s .at)
+  unfolding startOf
+  place-is = ap (λ (x : Start). x .place) (h .is)
+
+  pub from-is : s .from ≡ spanTo (quarterOf (s .n)) (nearestRoot (s .n)) (seenPlace (s .turn) (s .at))
+  unfolding startOf
+  from-is = ap (λ (x : Start). x .from) (h .is)
+
+  -- its numbers are small
+  pub start-bounds : StartBounds s
+  start-bounds =
+      let n = s .n in
+      let o = start-on in
+      let rank = rank-bound n (s .turn) (s .at) (h .on) in
+      let toll = toll-bound n (s .turn) (s .at) (h .on) in
+      let most = round-bound n (s .at) (h .on) in
+      record {
+        some = rw quarter-is (quarter-some n (o .some) (o .bound));
+        quarter = rw quarter-is (quarter-most n (o .some) (o .bound));
+        radius = rw radius-is (radius-bound n (o .some) (o .bound));
+        rank = rw (quarter-is, ap (λ (w : Span). w .cycles) from-is) rank;
+        toll = rw (quarter-is, radius-is, ap (λ (w : Span). w .charges) from-is) toll;
+        round = rw (quarter-is, radius-is) most;
+      }
+
+  -- the place so many cycles on
+  pub place-after : (c : ℕ) → placeAt (s .n) (s .quarter) (s .from .cycles + c) ≡ seenPlace (s .turn) (pointOn s c)
+  place-after c = rw (quarter-is, ap (λ (w : Span). w .cycles) from-is) (after-place (s .turn) (s .at) (start-on .circle) c)
+
+  pub tolled-after : (c : ℕ) → Tolled (quarterOf (s .n)) (nearestRoot (s .n)) (seenPlace (s .turn) (pointOn s c))
+  tolled-after c = tolled (s .n) (s .turn) (pointOn s c) (after-on (s .n) (s .turn) (s .at) c (h .on))
+
+  pub toll-after : (c : ℕ) → tollOf (s .quarter) (s .radius) (seenPlace (s .turn) (pointOn s c)) < roundChargesOf (s .quarter) (s .radius)
+  toll-after c = rw (quarter-is, radius-is) (toll-bound (s .n) (s .turn) (pointOn s c) (after-on (s .n) (s .turn) (s .at) c (h .on)))
+
+  -- what the code answers is where the walk is
+  pub reached-is : (c w : ℕ) (q : Place) → 1 ≤ c → c ≤ 4 * s .quarter → q ≡ placeAt (s .n) (s .quarter) (s .from .cycles + c)
+      → w ≡ onward (roundChargesOf (s .quarter) (s .radius)) (s .from .charges) (tollOf (s .quarter) (s .radius) q)
+      → record { cycles = c; charges = w; place = q } ≡ arrivedOf s c
+  unfolding arrivedOf
+  reached-is c w q l m e f =
+      let there = e ∙ place-after c in
+      let most : c ≤ 4 * quarterOf (s .n) = omega (arith, quarter-is) in
+      let toll = ap (λ (w : Span). w .charges) from-is in
+      let apart = charges-after (s .turn) (s .at) (start-on .circle) c l most in
+      let sum : w ≡ chargesOn s c = rw (f, quarter-is, radius-is, toll, there) (sym apart) in
+      λ i. record { cycles = c; charges = sum i; place = there i }
+
+-- back from quadrant form
+pub seen-point : {n : ℕ} (t : Turn) (p : Offset) → Circle n p → seen t (pointOf (seenPlace t p)) ≡ p
+seen-point t p o = ap (seen t) (seen-form t p o .is) ∙ seen-seen t p
+
+-- small coordinates
+pub record SmallPlace (q : Place) : Type 0 where
+  pub four : q .quadrant < 4
+  pub along : q .along ≤ 1414214
+  pub across : q .across ≤ 1414214
+  pub height : natAbs (pointOf q .y) ≤ 1414214
+
+pub reached-small : {s : Start} → Started s → (c : ℕ) → SmallPlace (arrivedOf s c .place)
+unfolding arrivedOf
+reached-small {s} h c =
+    let m = tolled-after h c in
+    let q = seenPlace (s .turn) (pointOn s c) in
+    let a : q .along ≤ 1414214 = omega (arith, m .reach, m .radius) in
+    let b : q .across ≤ 1414214 = omega (arith, m .side, m .radius) in
+    record { four = m .ranked .four; along = a; across = b; height = turned-small (q .quadrant) 1414214 _ a b .1 }

@@ -26,11 +26,11 @@ use Rattle.circle.specs.laws.Walk.{seen-step}
 
 -- ---- what a stepper on the circle holds
 
-abbrev squares : ℕ → ℕ → ℕ
+abbrev pub squares : ℕ → ℕ → ℕ
 squares a b = a * a + b * b
 
 -- the stepper of a place
-abbrev atPlace : ℕ → Turn → Place → Stepper
+abbrev pub atPlace : ℕ → Turn → Place → Stepper
 atPlace n t q = carry t q (squares (q .along) (q .across) + bias - n)
 
 pub record Bounds (s : Stepper) : Type 0 where
@@ -62,7 +62,7 @@ entered-bounds {s} h = subst Bounds (sym (h .is)) (enter-bounds (h .square) (s .
 
 -- ---- the move, by the products and by the excess
 
-data Moves (n : ℕ) : (a b : ℕ) → Move → ℕ × ℕ → Type 0 where
+pub data Moves (n : ℕ) : (a b : ℕ) → Move → ℕ × ℕ → Type 0 where
   rises : {a b : ℕ} → Moves n a b Rise (a, b + 1)
   slants : {a b : ℕ} → Moves n (suc a) b Slant (a, b + 1)
   falls : {a b : ℕ} → Moves n (suc a) b Fall (a, b)
@@ -135,7 +135,8 @@ exact {n} q l s o =
     let m = near (o .on) in
     omega arith
 
-moves-at : {n : ℕ} (t : Turn) (q : Place) → n ≤ largestN → 1 ≤ n → On n q → Moves n (q .along) (q .across) (moveOf (atPlace n t q)) (firstStep n (q .along) (q .across))
+pub moves-at : {n : ℕ} (t : Turn) (q : Place) → n ≤ largestN → 1 ≤ n → On n q
+    → Moves n (q .along) (q .across) (moveOf (atPlace n t q)) (firstStep n (q .along) (q .across))
 moves-at {n} t q l s o = by (q .along) (o .some) (exact q l s o)
   where
     by : (a : ℕ) → 1 ≤ a → squares a (q .across) + bias - n + n ≡ squares a (q .across) + bias → Moves n a (q .across) (moveOf (carry t (place (q .quadrant) a (q .across)) (squares a (q .across) + bias - n))) (firstStep n a (q .across))
@@ -207,9 +208,9 @@ turned-way (suc k) p q =
     pair : {x y u v : ℤ} → x ≡ u → y ≡ v → offset x y ≡ offset u v
     pair e f = cc
 
-seen-way : (t : Turn) (p q : Offset) → way (seen t p) (seen t q) ≡ seen t (way p q)
-seen-way Clockwise p q = ap (λ (z : ℤ). offset (q .x -ℤ p .x) z) (neg-way (q .y) (p .y))
-seen-way Counterclockwise p q = refl
+seen-span : (t : Turn) (p q : Offset) → way (seen t p) (seen t q) ≡ seen t (way p q)
+seen-span Clockwise p q = ap (λ (z : ℤ). offset (q .x -ℤ p .x) z) (neg-way (q .y) (p .y))
+seen-span Counterclockwise p q = refl
 
 move-way : {n a b : ℕ} {m : Move} {s : ℕ × ℕ} → Moves n a b m s → way (first a b) (first (s .0) (s .1)) ≡ quadrantPulse m
 move-way (rises {a} {b}) = rw (ring (num a ⊖ num a) (num 0) (omega arith), ring (num (b + 1) ⊖ num b) (num 1) (omega arith))
@@ -227,7 +228,7 @@ pulse-enter n t p e =
     let m = move-way (moves-at t q (o .bound) (o .some) (f .on)) in
     ap (λ (r : Offset). seen t (turned (q .quadrant) r)) (sym m)
     ∙ ap (seen t) (sym (turned-way (q .quadrant) (first (q .along) (q .across)) (first (s .0) (s .1))))
-    ∙ sym (seen-way t (pointOf q) (turned (q .quadrant) (first (s .0) (s .1))))
+    ∙ sym (seen-span t (pointOf q) (turned (q .quadrant) (first (s .0) (s .1))))
     ∙ ap (λ (r : Offset). way (seen t (pointOf q)) (seen t r)) (sym (point-placed (q .quadrant) s (f .on .four)))
     ∙ ap (λ (r : Offset). way r (seen t (pointOf (placed (q .quadrant) s)))) (ap (seen t) (f .is) ∙ seen-seen t p)
 

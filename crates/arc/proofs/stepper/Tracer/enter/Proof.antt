@@ -4,7 +4,7 @@ use Rattle.arc.proofs.stepper.Tracer.enter.Statement.{statement}
 use Rattle.arc.proofs.stepper.Tracer.enter.Tie as tie
 use mathlib.Core.Path.{_≡_, ap, _∙_}
 use Rattle.circle.specs.Stepper.{enterOf}
-use Rattle.circle.specs.laws.Stepper.{enter-bounds}
+use Rattle.circle.specs.laws.Stepper.{enter-entered}
 use Rattle.arc.specs.Centre.{seenFrom}
 use Rattle.arc.specs.Stepper.{tracerOf, arcTracer}
 
@@ -18,7 +18,9 @@ enter-requires : tie.Need-enter-requires
 enter-requires c κs = let s = c .before .before in rw (c .seen .ensures) (s .pre .on)
 
 trace-requires : tie.Need-trace-requires
-trace-requires c κs = let s = c .before .before .before in rw (entered c) (enter-bounds (s .args .a .square) (s .args .a .turn) (seenFrom (s .args .a .centre) (s .args .at)) (s .pre .on) .four)
+trace-requires c κs =
+    let s = c .before .before .before in
+    rw (entered c) (enter-entered (s .args .a .square) (s .args .a .turn) (seenFrom (s .args .a .centre) (s .args .at)) (s .pre .on))
 
 returns : tie.Need-returns
 unfolding arcTracer
