@@ -1,8 +1,9 @@
-// A run to the end of the block in work, without its bytes: the cycles left give the ticks, so none is walked.
+// A run to the end of the block in work, without its bytes: the charges left give the ticks, so none is walked.
 ghost use mathlib.Core.Path.{_≡_};
 ghost use mathlib.Core.Bool.{true};
 ghost use Rattle.machine.specs.Machine.{soundOf};
 ghost use Rattle.finish.specs.Finish.{worksOf, finishOf};
+use divider::FEED_SCALE;
 use divider::ending;
 use machine::Machine;
 use settings::capacity;
@@ -48,7 +49,12 @@ pub fn finish(m: Machine) -> Finished
     let q0 = capacity(settings);
     let left = work_left(at, work);
     let end = left.end;
-    let last = ending(q0, left.feed, m.remainder, left.cycles);
+    let last = ending(
+        left.charges * q0,
+        FEED_SCALE * left.feed,
+        m.remainder,
+        left.cycles,
+    );
     Finished {
         cycles: left.cycles,
         ticks: last.tick,

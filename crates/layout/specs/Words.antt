@@ -16,9 +16,10 @@ use Rattle.machine.specs.declared.Machine.{Machine}
 use Rattle.layout.specs.declared.encode.Head.{Head}
 use Rattle.layout.specs.declared.encode.WorkWords.{WorkWords}
 
--- the number of this layout; it grows whenever the words of a record change, so that a record saved under another one is refused
+-- the number of this layout; it grows whenever the words of a record change or one comes to mean something else, so that a record saved
+-- under another one is refused. 2: 02 §2 counts the remainder by charges, a thousandfold of what it was
 abbrev pub abi : ℤ
-abi = pos 1
+abi = pos 2
 
 -- a count as a word; -1 where no word holds it, as in no sound record
 unfoldable pub wordOf : ℕ → ℤ

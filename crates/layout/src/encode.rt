@@ -9,7 +9,7 @@ use machine::Machine;
 use work::Work;
 
 // Word 0, the number of this layout.
-pub const ABI: i64 = 1;
+pub const ABI: i64 = 2;
 
 // Words 1 to 10: the settings, the position, the mark and the remainder.
 pub struct Head {

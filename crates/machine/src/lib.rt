@@ -9,6 +9,7 @@ ghost use Rattle.machine.specs.Run.{reportOf, runOf};
 ghost use Rattle.machine.specs.Calls.{makeOf, loadOf, tickOf, holdOf, releaseOf, stopOf};
 use block::Block;
 use block::questions::load_no;
+use circle::step::DIAGONAL;
 use plane::point::Point;
 use plane::travel::inside;
 use run::run_work;
@@ -84,7 +85,7 @@ pub fn sound(settings: Settings, at: Point, remainder: u64, work: Work) -> bool
         return false;
     }
     let q0 = capacity(settings);
-    if q0 <= remainder {
+    if DIAGONAL * q0 <= remainder {
         return false;
     }
     work_sound(q0, travel, at, work)

@@ -10,9 +10,9 @@ use Rattle.plane.specs.declared.point.Point.{Point}
 pub record Same (most s t : ℕ) : Type 0 where
   pub same : min (suc most) s ≡ min (suc most) t
 
--- so many ticks, few enough for the product, do fewer than k cycles
-unfoldable pub shortOf : (q0 f r ticks k : ℕ) → Bool
-shortOf q0 f r ticks k = ltb ticks 1000000000 && ltb (r + ticks * f) (k * q0)
+-- so many ticks, few enough for the product, do not reach this due
+unfoldable pub shortOf : (due added r ticks : ℕ) → Bool
+shortOf due a r ticks = ltb ticks 10000000 && ltb (r + ticks * a) due
 
 abbrev pub longerOf : (from to : Point) → ℕ
 longerOf from to = max (natAbs (to .x -ℤ from .x)) (natAbs (to .y -ℤ from .y))

@@ -3,11 +3,12 @@
 use mathlib.Core.Path.{_≡_}
 use mathlib.Core.Bool.{Bool, true, false}
 use mathlib.Core.List.{List, [], _∷_, _++_}
-use Prim.Native.Nat.{ℕ, zero, suc, _≤_, _<_}
+use Prim.Native.Nat.{ℕ, zero, suc, _*_, _≤_, _<_}
 use lib.ListN.{length, drop}
 use Rattle.plane.specs.declared.point.Point.{Point}
 use Rattle.plane.specs.declared.travel.Travel.{Travel}
 use Rattle.plane.specs.Travel.{insideOf}
+use Rattle.circle.specs.Charge.{diagonal}
 use Rattle.arc.specs.Centre.{Wide}
 use Rattle.work.specs.declared.Work.{Work}
 use Rattle.work.specs.declared.Advance.{Advance}
@@ -44,8 +45,8 @@ written bytes old = bytes ++ drop (length bytes) old
 pub record SoundIn (q0 : ℕ) (at : Point) (r : ℕ) (w : Work) : Type 0 where
   pub travel : Travel
   pub wide : Wide travel
-  pub capacity : q0 ≤ 1200000
+  pub capacity : q0 ≤ 1200000000
   pub inside : insideOf travel at ≡ true
-  pub below : r < q0
+  pub below : r < diagonal * q0
   pub sound : workSound q0 travel at w ≡ true
   pub busy : isNothing w ≡ false

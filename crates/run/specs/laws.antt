@@ -10,3 +10,4 @@ pub mod LineRun
 pub mod ArcRun
 pub mod Strip
 pub mod Skip
+pub mod Paid

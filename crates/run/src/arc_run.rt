@@ -1,4 +1,5 @@
-// A run along an arc, as along a line.
+// A run along an arc, as along a line. The tracer tells what the next cycle is charged, and there are two dues: a straight step's and a
+// diagonal one's.
 ghost use mathlib.Core.Path.{_≡_};
 ghost use Prim.Native.Nat.{_≤_};
 ghost use lib.ListN.{length};
@@ -7,11 +8,14 @@ use crate::Ran;
 use crate::buffer::clear;
 use crate::buffer::least;
 use crate::ending::arc_end;
+use crate::gap::arc_gap;
 use crate::gap::first_gap;
-use crate::gap::next_gap;
 use crate::gap::remainder_at;
 use arc::arc::Arc;
 use arc::stepper::Tracer;
+use circle::step::DIAGONAL;
+use circle::step::STRAIGHT;
+use divider::FEED_SCALE;
 use plane::byte::with_marks;
 use plane::point::Point;
 use work::Work;
@@ -21,25 +25,28 @@ pub fn run_arc(capacity: u64, at: Point, remainder: u64, a: Arc, most: u64, out:
     ensures { λ r. ⌜ r ≡ ranOf (stripOf capacity most at remainder (Work.Arc a)) ⌝ }
     ensures { λ r. ⌜ now (out .exit) ≡ written (stripOf capacity most at remainder (Work.Arc a) .bytes) (now (out .entry)) ⌝ }
 {
+    let added = FEED_SCALE * a.feed;
     let end = arc_end(capacity, at, remainder, a, most);
     let n = least(most, end);
     let last = least(most, end - 1);
     clear(out, n);
-    let whole = capacity / a.feed;
-    let mut gap = first_gap(capacity, a.feed, remainder);
+    let straight_whole = STRAIGHT * capacity / added;
+    let diagonal_whole = DIAGONAL * capacity / added;
     let mut tracer = Tracer::enter(a, at);
+    let mut gap = first_gap(tracer.charge() * capacity, added, remainder);
     while gap.ticks < last {
         let t = tracer.cycle();
         let tick = gap.ticks as usize;
         out[tick] = with_marks(t.code, false);
         tracer = t.tracer;
-        gap = next_gap(capacity, a.feed, whole, gap);
+        let m = tracer.next;
+        gap = arc_gap(capacity, added, straight_whole, diagonal_whole, m, gap);
     }
     if last < n {
-        let t = tracer.cycle();
+        let code = tracer.last_code();
         let tick = last as usize;
         let there = a.end;
-        out[tick] = with_marks(t.code, true);
+        out[tick] = with_marks(code, true);
         return Ran {
             ticks: n,
             ended: true,
@@ -53,7 +60,7 @@ pub fn run_arc(capacity: u64, at: Point, remainder: u64, a: Arc, most: u64, out:
         ticks: n,
         ended: false,
         at: tracer.leave(centre),
-        remainder: remainder_at(capacity, a.feed, gap, n),
+        remainder: remainder_at(tracer.charge() * capacity, added, gap, n),
         work: Work::Arc(a),
     }
 }

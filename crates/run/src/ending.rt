@@ -1,27 +1,30 @@
 // The end tick as far as a run asks it: exact where the run can reach it, else one beyond the run. Most runs of a long block cannot, and then
-// need no division, and on an arc no count of the cycles left and no root.
+// need no division, and on an arc no count of what is left and no root.
 ghost use mathlib.Core.Path.{_≡_};
 ghost use Prim.Native.Nat.{_-_, _*_, _^_, _≤_, _<_};
-ghost use Rattle.divider.specs.Divider.{endTick};
+ghost use Rattle.divider.specs.Divider.{lastTick};
 ghost use Rattle.arc.specs.Arc.{arcCycles};
+ghost use Rattle.arc.specs.Charge.{arcCharges};
 ghost use Rattle.work.specs.declared.Work.{Work};
 ghost use Rattle.run.specs.Run.{SoundIn};
 ghost use Rattle.run.specs.Ending.{shortOf, longerOf, Same};
 use arc::arc::Arc;
-use divider::end_tick;
+use circle::step::STRAIGHT;
+use divider::FEED_SCALE;
+use divider::last_tick;
 use line::line::Line;
 use plane::point::Point;
 use plane::point::between;
 
-// Whether so many ticks do fewer cycles than these. The bound keeps the product of ticks and feed in 64 bits.
-fn falls_short(capacity: u64, feed: u64, remainder: u64, ticks: u64, cycles: u64) -> bool
-    requires { ⌜ (feed ≤ 1200000) × (remainder ≤ 1200000) × (cycles * capacity < 2 ^ 64) ⌝ }
-    ensures { λ r. ⌜ r ≡ shortOf capacity feed remainder ticks cycles ⌝ }
+// Whether what so many ticks add does not reach this due. The bound keeps their product in 64 bits.
+fn falls_short(due: u64, added: u64, remainder: u64, ticks: u64) -> bool
+    requires { ⌜ (added ≤ 1200000000000) × (remainder ≤ 1696800000000) ⌝ }
+    ensures { λ r. ⌜ r ≡ shortOf due added remainder ticks ⌝ }
 {
-    if 1_000_000_000 <= ticks {
+    if 10_000_000 <= ticks {
         return false;
     }
-    remainder + ticks * feed < cycles * capacity
+    remainder + ticks * added < due
 }
 
 // The longer way between two points on one axis.
@@ -40,23 +43,28 @@ fn longer_way(from: Point, to: Point) -> u64
 
 pub fn line_end(capacity: u64, at: Point, remainder: u64, l: Line, most: u64) -> u64
     requires { ⌜ SoundIn capacity at remainder (Work.Line l) ⌝ }
-    ensures { λ r. ⌜ Same most r (endTick capacity (l .feed) remainder (l .cycles - l .done)) ⌝ }
+    ensures { λ r. ⌜ Same most r (lastTick (1000 * (l .cycles - l .done) * capacity) (1000 * l .feed) remainder (l .cycles - l .done)) ⌝ }
 {
     let left = l.cycles - l.done;
-    if falls_short(capacity, l.feed, remainder, most, left) {
+    let due = STRAIGHT * left * capacity;
+    let added = FEED_SCALE * l.feed;
+    if falls_short(due, added, remainder, most) {
         return most + 1;
     }
-    end_tick(capacity, l.feed, remainder, left)
+    last_tick(due, added, remainder, left)
 }
 
-// A cycle sends one pulse at most on each axis, so as many are left as the longer way has.
+// A cycle sends one pulse at most on each axis, so as many are left as the longer way has, and each is charged 1,000 at least.
 pub fn arc_end(capacity: u64, at: Point, remainder: u64, a: Arc, most: u64) -> u64
     requires { ⌜ SoundIn capacity at remainder (Work.Arc a) ⌝ }
-    ensures { λ r. ⌜ Same most r (endTick capacity (a .feed) remainder (arcCycles a at)) ⌝ }
+    ensures { λ r. ⌜ Same most r (lastTick (arcCharges a at * capacity) (1000 * a .feed) remainder (arcCycles a at)) ⌝ }
 {
     let end = a.end;
-    if falls_short(capacity, a.feed, remainder, most, longer_way(at, end)) {
+    let added = FEED_SCALE * a.feed;
+    let least = STRAIGHT * longer_way(at, end) * capacity;
+    if falls_short(least, added, remainder, most) {
         return most + 1;
     }
-    end_tick(capacity, a.feed, remainder, a.cycles(at))
+    let span = a.span(at);
+    last_tick(span.charges * capacity, added, remainder, span.cycles)
 }

@@ -1,8 +1,11 @@
 // The gap to the next cycle.
 ghost use mathlib.Core.Path.{_≡_};
-ghost use Prim.Native.Nat.{_+_, _/_, _^_, _≤_, _<_};
+ghost use Prim.Native.Nat.{_+_, _*_, _/_, _^_, _≤_, _<_};
 ghost use Rattle.work.specs.laws.Sound.{Feed};
-ghost use Rattle.run.specs.Gap.{gapOf, nextGap, remainderAt, Before};
+ghost use Rattle.circle.specs.Charge.{moveCharge};
+ghost use Rattle.run.specs.Gap.{gapOf, nextGap, remainderAt, ifLess, byMove, Before, ArcGap};
+use circle::step::Move;
+use circle::step::move_charge;
 
 // The ticks before the one that does the next cycle, counted from the run's first, and the remainder after it.
 pub struct Gap {
@@ -10,41 +13,79 @@ pub struct Gap {
     pub remainder: u64,
 }
 
-// The first gap of a run: the remainder may be more than one feed.
-pub fn first_gap(capacity: u64, feed: u64, remainder: u64) -> Gap
-    requires { ⌜ Feed capacity feed × (remainder < capacity) × (capacity ≤ 1200000) ⌝ }
-    ensures { λ r. ⌜ r ≡ gapOf capacity feed remainder ⌝ }
+// The gap to a cycle of this due, by a division: the remainder may be more than a tick adds, and a made-up one even more than the due.
+pub fn first_gap(due: u64, added: u64, remainder: u64) -> Gap
+    requires { ⌜ Feed due added × (due ≤ 1696800000000) × (remainder ≤ 1696800000000) ⌝ }
+    ensures { λ r. ⌜ r ≡ gapOf due added remainder ⌝ }
 {
-    let ticks = (capacity - 1 - remainder) / feed;
+    if due <= remainder {
+        return Gap {
+            ticks: 0,
+            remainder: remainder + added - due,
+        };
+    }
+    let ticks = (due - 1 - remainder) / added;
     Gap {
         ticks: ticks,
-        remainder: remainder + ticks * feed + feed - capacity,
+        remainder: remainder + ticks * added + added - due,
     }
 }
 
-// The gap after a gap's cycle, which leaves less than one feed: as many ticks more as whole feeds go into the capacity, or one more. It needs no division.
-pub fn next_gap(capacity: u64, feed: u64, whole: u64, gap: Gap) -> Gap
-    requires { ⌜ Feed capacity feed × (whole ≡ capacity / feed) × (gap .remainder < feed) × (capacity ≤ 1200000) × (gap .ticks + 2000000 < 2 ^ 64) ⌝ }
-    ensures { λ r. ⌜ r ≡ nextGap capacity feed gap ⌝ }
+// Both choose a number without a branch, which along an arc the processor could not predict.
+fn if_less(a: u64, b: u64, n: u64) -> u64
+    ensures { λ r. ⌜ r ≡ ifLess a b n ⌝ }
 {
-    let over = capacity - whole * feed;
-    if over <= gap.remainder {
-        Gap {
-            ticks: gap.ticks + whole,
-            remainder: gap.remainder - over,
-        }
-    } else {
-        Gap {
-            ticks: gap.ticks + 1 + whole,
-            remainder: gap.remainder + feed - over,
-        }
+    if a < b { n } else { 0 }
+}
+
+fn by_move(m: Move, straight: u64, diagonal: u64) -> u64
+    ensures { λ r. ⌜ r ≡ byMove m straight diagonal ⌝ }
+{
+    match m {
+        Move::Rise => straight,
+        Move::Slant => diagonal,
+        Move::Fall => straight,
     }
+}
+
+// The gap after a gap's cycle, to a cycle of this due. A cycle leaves less than a tick adds; then it is `whole` ticks more, as often as
+// what a tick adds goes into the due, or one more: no division. Only after a made-up remainder more can be left.
+pub fn next_gap(due: u64, added: u64, whole: u64, gap: Gap) -> Gap
+    requires { ⌜ Feed due added × (whole ≡ due / added) × (due ≤ 1696800000000)
+        × (gap .remainder ≤ 1696800000000) × (gap .ticks + 4000000000000 < 2 ^ 64) ⌝ }
+    ensures { λ r. ⌜ r ≡ nextGap due added gap ⌝ }
+{
+    if added <= gap.remainder {
+        let more = first_gap(due, added, gap.remainder);
+        return Gap {
+            ticks: gap.ticks + 1 + more.ticks,
+            remainder: more.remainder,
+        };
+    }
+    let over = due - whole * added;
+    let rest = gap.remainder;
+    let late = if_less(rest, over, 1);
+    let more = if_less(rest, over, added);
+    Gap {
+        ticks: gap.ticks + whole + late,
+        remainder: rest + more - over,
+    }
+}
+
+// The gap after a gap's cycle on an arc: to a straight step or to a diagonal one. So many times what a tick adds goes into the due of each.
+pub fn arc_gap(capacity: u64, added: u64, straight: u64, diagonal: u64, m: Move, gap: Gap) -> Gap
+    requires { ⌜ ArcGap capacity added straight diagonal gap ⌝ }
+    ensures { λ r. ⌜ r ≡ nextGap (moveCharge m * capacity) added gap ⌝ }
+{
+    let due = move_charge(m) * capacity;
+    let whole = by_move(m, straight, diagonal);
+    next_gap(due, added, whole, gap)
 }
 
 // The remainder after n ticks, none of which does the gap's cycle.
-pub fn remainder_at(capacity: u64, feed: u64, gap: Gap, n: u64) -> u64
-    requires { ⌜ Before capacity feed gap n ⌝ }
-    ensures { λ r. ⌜ r ≡ remainderAt capacity feed gap n ⌝ }
+pub fn remainder_at(due: u64, added: u64, gap: Gap, n: u64) -> u64
+    requires { ⌜ Before due added gap n ⌝ }
+    ensures { λ r. ⌜ r ≡ remainderAt due added gap n ⌝ }
 {
-    gap.remainder + capacity - (gap.ticks + 1 - n) * feed
+    gap.remainder + due - (gap.ticks + 1 - n) * added
 }

@@ -11,6 +11,8 @@ use crate::ending::line_end;
 use crate::gap::first_gap;
 use crate::gap::next_gap;
 use crate::gap::remainder_at;
+use circle::step::STRAIGHT;
+use divider::FEED_SCALE;
 use line::line::Line;
 use line::stepper::Stepper;
 use plane::byte::cycle_byte;
@@ -22,12 +24,14 @@ pub fn run_line(capacity: u64, at: Point, remainder: u64, l: Line, most: u64, ou
     ensures { λ r. ⌜ r ≡ ranOf (stripOf capacity most at remainder (Work.Line l)) ⌝ }
     ensures { λ r. ⌜ now (out .exit) ≡ written (stripOf capacity most at remainder (Work.Line l) .bytes) (now (out .entry)) ⌝ }
 {
+    let due = STRAIGHT * capacity;
+    let added = FEED_SCALE * l.feed;
     let end = line_end(capacity, at, remainder, l, most);
     let n = least(most, end);
     let last = least(most, end - 1);
     clear(out, n);
-    let whole = capacity / l.feed;
-    let mut gap = first_gap(capacity, l.feed, remainder);
+    let whole = due / added;
+    let mut gap = first_gap(due, added, remainder);
     let mut stepper = Stepper::enter(l, at);
     let mut cycles = l.done;
     while gap.ticks < last {
@@ -37,7 +41,7 @@ pub fn run_line(capacity: u64, at: Point, remainder: u64, l: Line, most: u64, ou
         out[tick] = cycle_byte(pulses, false);
         stepper = s.stepper;
         cycles = cycles + 1;
-        gap = next_gap(capacity, l.feed, whole, gap);
+        gap = next_gap(due, added, whole, gap);
     }
     if last < n {
         let s = stepper.advance();
@@ -59,7 +63,7 @@ pub fn run_line(capacity: u64, at: Point, remainder: u64, l: Line, most: u64, ou
         ticks: n,
         ended: false,
         at: line.point(),
-        remainder: remainder_at(capacity, l.feed, gap, n),
+        remainder: remainder_at(due, added, gap, n),
         work: Work::Line(line),
     }
 }

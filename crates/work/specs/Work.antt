@@ -1,7 +1,7 @@
 -- 01, Job and machine: "What is in work is nothing, a line with its numbers or an arc with its numbers."
 use mathlib.Core.Path.{_≡_}
 use mathlib.Core.Bool.{Bool, true, false, cond, _&&_}
-use Prim.Native.Nat.{ℕ, _+_, _-_, _^_, _<_}
+use Prim.Native.Nat.{ℕ, _+_, _-_, _*_, _^_, _<_}
 use lib.Dec.{eqb}
 use Rattle.plane.specs.declared.point.Point.{Point}
 use Rattle.plane.specs.declared.travel.Travel.{Travel}
@@ -12,8 +12,10 @@ use Rattle.line.specs.declared.line.Line.{Line}
 use Rattle.line.specs.Line.{differ, lineOf, shortOf, lineAt, steppedOf}
 use Rattle.arc.specs.declared.arc.Arc.{Arc}
 use Rattle.arc.specs.Arc.{OnArc, arcAt, arcCycles, arcStepped}
+use Rattle.arc.specs.Charge.{arcCharge, arcChargesIn}
+use Rattle.circle.specs.Charge.{straight, diagonal}
 use Rattle.divider.specs.declared.Fed.{Fed}
-use Rattle.divider.specs.Divider.{fedOf}
+use Rattle.divider.specs.Divider.{fedOf, addedAt, lastTick}
 use Rattle.block.specs.declared.Block.{Block}
 use Rattle.block.specs.declared.Path.{Path}
 use Rattle.block.specs.Block.{arcOf, blockWidth}
@@ -84,13 +86,43 @@ cyclesLeft at Work.Nothing = 0
 cyclesLeft at (Work.Line l) = l .cycles - l .done
 cyclesLeft at (Work.Arc a) = arcCycles a at
 
+-- what the next cycle is charged: 02 §2, "a straight arc step is charged 1,000 and a diagonal one 1,414. .. Line cycles are charged 1,000."
+-- Nothing in work has no cycle; the larger charge stands there because no sound remainder reaches it.
+abbrev pub chargeOf : (at : Point) → Work → ℕ
+chargeOf at Work.Nothing = diagonal
+chargeOf at (Work.Line l) = straight
+chargeOf at (Work.Arc a) = arcCharge a at
+
+-- 02 §2: "A cycle is due when the remainder reaches its charge times q0"
+abbrev pub dueOf : (q0 : ℕ) (at : Point) → Work → ℕ
+dueOf q0 at w = chargeOf at w * q0
+
+-- 02 §2: "A tick adds 1,000 × f."
+abbrev pub addedOf : Work → ℕ
+addedOf w = addedAt (feedOf w)
+
+-- the sum of the charges of its next c cycles
+abbrev pub chargesFor : (at : Point) → Work → (c : ℕ) → ℕ
+chargesFor at Work.Nothing c = 0
+chargesFor at (Work.Line l) c = straight * c
+chargesFor at (Work.Arc a) c = arcChargesIn a at c
+
+-- of all that are left: when a block comes into work 02 §2's "C being the sum of its charges"
+abbrev pub chargesLeft : (at : Point) → Work → ℕ
+chargesLeft at w = chargesFor at w (cyclesLeft at w)
+
+-- 02 §2: "A block ends on the tick that stepping by this rule gives": the working tick, its first being 1, on which what is in work ends
+abbrev pub lastTickFor : (q0 : ℕ) (at : Point) (remainder : ℕ) → Work → ℕ
+lastTickFor q0 at r w = lastTick (chargesLeft at w * q0) (addedOf w) r (cyclesLeft at w)
+
 -- where what is in work ends: the commanded end, or with nothing in work the point
 abbrev pub endOf : (at : Point) → Work → Point
 endOf at Work.Nothing = at
 endOf at (Work.Line l) = l .end
 endOf at (Work.Arc a) = a .end
 
--- 01, Feed divider: "Each working tick .. adds f to the remainder. If it then reaches or passes q0, q0 is taken off and one cycle is done."
+-- 01, Feed divider: "If it then reaches or passes q0, q0 is taken off and one cycle is done." 02 §2: "A cycle is due when the remainder
+-- reaches its charge times q0, at most one a tick."
 abbrev pub advanceBy : (at : Point) → Work → Fed → Advance
 advanceBy at w f =
     cond (f .cycle)
@@ -98,13 +130,13 @@ advanceBy at w f =
     (record { at = at; remainder = f .remainder; byte = 0; work = w })
 
 unfoldable pub advanceOf : (q0 : ℕ) (at : Point) (remainder : ℕ) → Work → Advance
-advanceOf q0 at r w = advanceBy at w (fedOf q0 (feedOf w) r)
+advanceOf q0 at r w = advanceBy at w (fedOf (dueOf q0 at w) (addedOf w) r)
 
 -- what the code of a tick asks: a line or an arc at its point, and a sum that fits
 abbrev pub Ready : (at : Point) (remainder : ℕ) → Work → Type 0
 Ready at r Work.Nothing = r < 2 ^ 64
-Ready at r (Work.Line l) = (lineAt l at ≡ true) × (r + l .feed < 2 ^ 64)
-Ready at r (Work.Arc a) = OnArc a at × (r + a .feed < 2 ^ 64)
+Ready at r (Work.Line l) = (lineAt l at ≡ true) × (r + addedAt (l .feed) < 2 ^ 64)
+Ready at r (Work.Arc a) = OnArc a at × (r + addedAt (a .feed) < 2 ^ 64)
 
 -- ---- a block comes into work
 

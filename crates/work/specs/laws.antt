@@ -1,4 +1,5 @@
 pub mod Sound
 pub mod Cycle
+pub mod Charge
 pub mod Keep
 pub mod Rest

@@ -2,7 +2,7 @@
 // The functions take the few numbers that they need and no machine, so that a tick copies little.
 ghost use mathlib.Core.Path.{_≡_};
 ghost use mathlib.Core.Bool.{true};
-ghost use Prim.Native.Nat.{_+_, _^_, _<_};
+ghost use Prim.Native.Nat.{_+_, _*_, _^_, _≤_, _<_};
 ghost use Rattle.plane.specs.Travel.{insideOf};
 ghost use Rattle.line.specs.Line.{lineAt};
 ghost use Rattle.arc.specs.Centre.{Wide};
@@ -12,6 +12,9 @@ use arc::arc::Arc;
 use block::Block;
 use block::Path;
 use block::questions::arc_of;
+use circle::step::DIAGONAL;
+use circle::step::STRAIGHT;
+use divider::FEED_SCALE;
 use divider::add_feed;
 use line::line::Line;
 use plane::byte::cycle_byte;
@@ -148,10 +151,10 @@ fn arc_cycle(at: Point, a: Arc) -> Cycle
 // ---- a working tick
 
 fn line_tick(capacity: u64, at: Point, remainder: u64, l: Line) -> Advance
-    requires { ⌜ (lineAt l at ≡ true) × (remainder + l .feed < 2 ^ 64) ⌝ }
+    requires { ⌜ (lineAt l at ≡ true) × (remainder + 1000 * l .feed < 2 ^ 64) × (capacity ≤ 1200000000) ⌝ }
     ensures { λ r. ⌜ r ≡ advanceOf capacity at remainder (Work.Line l) ⌝ }
 {
-    let f = add_feed(capacity, l.feed, remainder);
+    let f = add_feed(STRAIGHT * capacity, FEED_SCALE * l.feed, remainder);
     if f.cycle {
         let c = line_cycle(at, l);
         let here = c.at;
@@ -172,10 +175,21 @@ fn line_tick(capacity: u64, at: Point, remainder: u64, l: Line) -> Advance
 }
 
 fn arc_tick(capacity: u64, at: Point, remainder: u64, a: Arc) -> Advance
-    requires { ⌜ OnArc a at × (remainder + a .feed < 2 ^ 64) ⌝ }
+    requires { ⌜ OnArc a at × (remainder + 1000 * a .feed < 2 ^ 64) × (capacity ≤ 1200000000) ⌝ }
     ensures { λ r. ⌜ r ≡ advanceOf capacity at remainder (Work.Arc a) ⌝ }
 {
-    let f = add_feed(capacity, a.feed, remainder);
+    let added = FEED_SCALE * a.feed;
+    let sum = remainder + added;
+    // No step is charged less, so most ticks need not look at the next one.
+    if sum < STRAIGHT * capacity {
+        return Advance {
+            at: at,
+            remainder: sum,
+            byte: 0,
+            work: Work::Arc(a),
+        };
+    }
+    let f = add_feed(a.charge(at) * capacity, added, remainder);
     if f.cycle {
         let c = arc_cycle(at, a);
         let here = c.at;
@@ -197,12 +211,12 @@ fn arc_tick(capacity: u64, at: Point, remainder: u64, a: Arc) -> Advance
 
 // One working tick of what is in work.
 pub fn work_tick(capacity: u64, at: Point, remainder: u64, work: Work) -> Advance
-    requires { ⌜ Ready at remainder work ⌝ }
+    requires { ⌜ Ready at remainder work × (capacity ≤ 1200000000) ⌝ }
     ensures { λ r. ⌜ r ≡ advanceOf capacity at remainder work ⌝ }
 {
     match work {
         Work::Nothing => {
-            let f = add_feed(capacity, 0, remainder);
+            let f = add_feed(DIAGONAL * capacity, 0, remainder);
             Advance {
                 at: at,
                 remainder: f.remainder,

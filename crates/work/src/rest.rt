@@ -1,12 +1,15 @@
-// The rest of the block in work at once: what is left of it, and where it is some cycles on. Neither walks there.
+// What is left of the block in work, without walking to its end.
 ghost use mathlib.Core.Path.{_≡_};
-ghost use Rattle.work.specs.Rest.{Countable, Continues, leftOf, reachedOf};
+ghost use Rattle.work.specs.Rest.{Countable, leftOf};
 use crate::Work;
+use circle::step::STRAIGHT;
 use plane::point::Point;
 
 // What the end of the block in work depends on.
 pub struct Left {
     pub cycles: u64,
+    // The sum of what these cycles are charged.
+    pub charges: u64,
     pub feed: u64,
     pub end: Point,
 }
@@ -18,55 +21,29 @@ pub fn work_left(at: Point, work: Work) -> Left
     match work {
         Work::Nothing => Left {
             cycles: 0,
+            charges: 0,
             feed: 0,
             end: at,
         },
         Work::Line(l) => {
             let end = l.end;
+            let cycles = l.cycles - l.done;
             Left {
-                cycles: l.cycles - l.done,
+                cycles: cycles,
+                charges: STRAIGHT * cycles,
                 feed: l.feed,
                 end: end,
             }
         }
         Work::Arc(a) => {
             let end = a.end;
+            let span = a.span(at);
             Left {
-                cycles: a.cycles(at),
+                cycles: span.cycles,
+                charges: span.charges,
                 feed: a.feed,
                 end: end,
             }
         }
-    }
-}
-
-// What is in work so many cycles on, and its point.
-pub struct Reached {
-    pub at: Point,
-    pub work: Work,
-}
-
-// So many cycles at once, fewer than are left.
-pub fn work_after(at: Point, work: Work, cycles: u64) -> Reached
-    requires { ⌜ Continues at work cycles ⌝ }
-    ensures { λ r. ⌜ r ≡ reachedOf at work cycles ⌝ }
-{
-    match work {
-        Work::Nothing => Reached {
-            at: at,
-            work: Work::Nothing,
-        },
-        Work::Line(l) => {
-            let mut line = l;
-            line.done = l.done + cycles;
-            Reached {
-                at: line.point(),
-                work: Work::Line(line),
-            }
-        }
-        Work::Arc(a) => Reached {
-            at: a.after(at, cycles),
-            work: Work::Arc(a),
-        },
     }
 }

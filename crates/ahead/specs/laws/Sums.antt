@@ -21,7 +21,7 @@ use Rattle.arc.specs.Arc.{arcAfter, arcStepped}
 use Rattle.arc.specs.laws.Step.{after-none}
 use Rattle.divider.specs.Divider.{fedOf}
 use Rattle.work.specs.declared.Work.{Work}
-use Rattle.work.specs.Work.{isNothing, workSound, lineCycle, arcCycle, cycleOf, feedOf, advanceBy, advanceOf}
+use Rattle.work.specs.Work.{isNothing, workSound, lineCycle, arcCycle, cycleOf, dueOf, addedOf, advanceBy, advanceOf}
 use Rattle.work.specs.laws.Sound.{line-work, arc-work}
 use Rattle.settings.specs.Settings.{capacityOf}
 use Rattle.machine.specs.declared.Machine.{Machine}
@@ -91,10 +91,10 @@ module _ (q0 : ℕ) (t : Travel) (at : Point) where
   advance-leads : (r : ℕ) (w : Work) → Inside t at → workSound q0 t at w ≡ true
       → Leads at (advanceOf q0 at r w .byte ∷ []) (advanceOf q0 at r w .at)
   unfolding advanceOf
-  advance-leads r w here e = by (fedOf q0 (feedOf w) r .cycle)
+  advance-leads r w here e = by (fedOf (dueOf q0 at w) (addedOf w) r .cycle)
     where
       by : (c : Bool)
-          → (let a = advanceBy at w (record { remainder = fedOf q0 (feedOf w) r .remainder; cycle = c }) in
+          → (let a = advanceBy at w (record { remainder = fedOf (dueOf q0 at w) (addedOf w) r .remainder; cycle = c }) in
           Leads at (a .byte ∷ []) (a .at))
       by true = cycle-leads w here e
       by false = leads-zero at

@@ -1,6 +1,9 @@
--- `finish` is right because what is in work tells its cycles, its feed number and its end, and the divider how a block of these ends.
+-- `finish` is right because what is in work tells its cycles, their charges, its feed number and its end, and the divider how a block of
+-- these ends.
 use borrow.Author.Needs.{needs}
 use mathlib.Core.Path.{sym, _∙_}
+use Prim.Native.Nat.{_+_, _*_, _^_, _≤_, _<_}
+use native.Mathlib.Omega.{arith}
 use borrow.Author.Tests.{not-true, not-false}
 use Rattle.run.specs.laws.Skip.{skip-counts, end-asks}
 use Rattle.machine.specs.laws.Sound.{sound}
@@ -26,10 +29,24 @@ capacity-requires c κs = sound (working (c .before .before) .sound) .settings
 work-left-requires : tie.Need-work-left-requires
 work-left-requires c κs = skip-counts (at-work (working (c .before .before .before)))
 
+-- what the divider asks of what is left, with its dues
+asked : (c : tie.After-struct-known) → (let l = c .before .before .work-left .result in
+    let q0 = c .before .before .before .capacity .result in
+    (1 ≤ 1000 * l .feed) × (l .cycles * (1000 * l .feed) ≤ l .charges * q0)
+    × (l .charges * q0 + 1000 * l .feed + c .before .before .before .before .before .before .before .before .args .m .remainder < 2 ^ 64))
+asked c =
+    let l = c .before .before in
+    let w = at-work (working (c .before .before .before .before .before .before)) in
+    rw (l .before .capacity .ensures) (end-asks w (l .work-left .ensures))
+
+mul-ending : tie.Need-mul-ending
+mul-ending c = omega (arith, asked c)
+
+mul-ending-2 : tie.Need-mul-ending-2
+mul-ending-2 c = omega (arith, asked (c .before))
+
 ending-requires : tie.Need-ending-requires
-ending-requires c κs =
-    let l = c .before in
-    rw (l .before .capacity .ensures) (end-asks (at-work (working (l .before .before .before .before))) (l .work-left .ensures))
+ending-requires c κs = asked (c .before)
 
 moved-requires : tie.Need-moved-requires
 moved-requires c κs = search needs
@@ -37,9 +54,9 @@ moved-requires c κs = search needs
 returns-2 : tie.Need-returns-2
 returns-2 c =
     let e = c .before in
-    let l = e .before .before in
+    let l = c .before .before .before .before .before in
     rw (c .moved .ensures, e .ending .ensures, l .before .capacity .ensures, l .work-left .ensures)
-    (sym (finishes _ (working (l .before .before .before .before))))
+    (sym (finishes _ (working (c .before .before .before .before .before .before .before .before .before))))
 
 pub finish-spec : {M : Type 1} → statement M
 finish-spec =
@@ -49,6 +66,8 @@ finish-spec =
     returns
     capacity-requires
     work-left-requires
+    mul-ending
+    mul-ending-2
     ending-requires
     moved-requires
     returns-2)

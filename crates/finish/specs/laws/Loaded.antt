@@ -1,13 +1,15 @@
 -- A block that load accepts, finished from its start.
-use mathlib.Core.Path.{_≡_, refl}
+use mathlib.Core.Path.{_≡_, refl, sym}
 use mathlib.Core.Bool.{false}
 use native.Mathlib.Omega.{arith}
 use Rattle.plane.specs.declared.point.Point.{Point}
 use Rattle.block.specs.declared.Block.{Block}
 use Rattle.block.specs.declared.Path.{Path}
 use Rattle.block.specs.Block.{arcOf, cyclesAlong, blockCycles}
+use Rattle.block.specs.Charge.{chargesTo, blockCharges}
 use Rattle.block.specs.Questions.{loadNo}
-use Rattle.work.specs.Work.{isNothing, feedOf, cyclesLeft, endOf, workAlong, begunOf}
+use Rattle.block.specs.laws.Charge.{charges-line, charges-arc}
+use Rattle.work.specs.Work.{isNothing, feedOf, cyclesLeft, chargesLeft, endOf, workAlong, begunOf}
 use Rattle.machine.specs.declared.Machine.{Machine}
 use Rattle.settings.specs.Settings.{capacityOf}
 use Rattle.machine.specs.Machine.{movedOf}
@@ -28,6 +30,10 @@ module _ (start : Point) (b : Block) where
   begun-cycles : (p : Path) → cyclesLeft start (workAlong start b p) ≡ cyclesAlong start b p
   begun-cycles Path.Line = omega arith
   begun-cycles (Path.Arc turn centre) = refl
+
+  begun-charges : (p : Path) → b .path ≡ p → chargesLeft start (workAlong start b p) ≡ chargesTo start b (cyclesAlong start b p)
+  begun-charges Path.Line e = omega (arith, charges-line start b (cyclesAlong start b Path.Line) e)
+  begun-charges (Path.Arc turn centre) e = sym (charges-arc start b turn centre (cyclesAlong start b (Path.Arc turn centre)) e)
 
   begun-feed : (p : Path) → feedOf (workAlong start b p) ≡ b .feed
   unfolding arcOf
@@ -53,10 +59,17 @@ module _ (m : Machine) (rest : AtRest m) (b : Block)
       record { sound = load-keeps m (rest .sound) b; free = rw loads (rest .free); busy = rw loads (begun-busy (m .at) b (b .path)) }
 
   -- its cycles, its ticks and its end are the block's
-  pub finish-loaded : finishOf (loadOf m b .machine) ≡ finishedOf m (b .end) (blockCycles (m .at) b) (b .feed)
+  pub finish-loaded : finishOf (loadOf m b .machine) ≡ finishedOf m (b .end) (blockCycles (m .at) b) (blockCharges (m .at) b) (b .feed)
   unfolding movedOf blockCycles
   finish-loaded =
-      rw (finishes (loadOf m b .machine) loaded-at-work, loads, begun-cycles (m .at) b (b .path), begun-feed (m .at) b (b .path), begun-end (m .at) b (b .path))
+      rw (
+        finishes (loadOf m b .machine) loaded-at-work,
+        loads,
+        begun-charges (m .at) b (b .path) refl,
+        begun-cycles (m .at) b (b .path),
+        begun-feed (m .at) b (b .path),
+        begun-end (m .at) b (b .path),
+      )
 
   -- and the record is again at rest, for the next block
   pub loaded-rests : AtRest (finishOf (loadOf m b .machine) .machine)

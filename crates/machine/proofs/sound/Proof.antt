@@ -34,6 +34,9 @@ returns-2 c = sym (refuted _ (λ e. true≢false (sym (sound e .in-travel) ∙ s
 capacity-requires : tie.Need-capacity-requires
 capacity-requires c κs = settings-pass (c .before .before .before)
 
+mul-if3 : tie.Need-mul-if3
+mul-if3 c = let r = settings-right _ (settings-pass (c .before .before .before .before)) in omega (arith, r .clock-most)
+
 returns-3 : tie.Need-returns-3
 returns-3 c = sym (refuted _ (λ e. omega (arith, sound e .below, c .before .capacity .ensures)))
 
@@ -60,6 +63,7 @@ sound-spec =
     inside-requires
     returns-2
     capacity-requires
+    mul-if3
     returns-3
     work-sound-requires
     returns-4)

@@ -1,13 +1,14 @@
 -- What a sound record says of its numbers, and what the code of a call needs of them.
 use mathlib.Core.Path.{_≡_}
 use mathlib.Core.Bool.{Bool, true, false}
-use Prim.Native.Nat.{ℕ, _≤_, _<_}
+use Prim.Native.Nat.{ℕ, _*_, _≤_, _<_}
 use native.Mathlib.Omega.{arith}
 use borrow.Author.Tests.{ltb-true, lt-ltb, eqb-true, eq-eqb, le-leb}
 use lib.IntN.{natAbs}
 use Rattle.whole.specs.laws.Order.{abs-sub}
 use Rattle.whole.specs.laws.Test.{both, joined}
 use Rattle.plane.specs.declared.point.Point.{Point}
+use Rattle.circle.specs.Charge.{diagonal}
 use Rattle.plane.specs.declared.travel.Travel.{Travel}
 use Rattle.plane.specs.Travel.{insideOf}
 use Rattle.plane.specs.laws.Travel.{inside}
@@ -32,7 +33,7 @@ use Rattle.machine.specs.Machine.{soundParts}
 pub record Sound (s : Settings) (at : Point) (r : ℕ) (w : Work) : Type 0 where
   pub settings : settingsNo s ≡ 0
   pub in-travel : insideOf (s .travel) at ≡ true
-  pub below : r < capacityOf s
+  pub below : r < diagonal * capacityOf s
   pub work : workSound (capacityOf s) (s .travel) at w ≡ true
 
 pub sound : {s : Settings} {at : Point} {r : ℕ} {w : Work} → soundParts s at r w ≡ true → Sound s at r w
@@ -49,10 +50,13 @@ sound-test i = joined (eq-eqb _ 0 (i .settings)) (joined (i .in-travel) (joined 
 
 -- ---- what the code of a tick asks
 
-pub ready : {s : Settings} {at : Point} {r : ℕ} {w : Work} → Sound s at r w → Ready at r w
+pub ready : {s : Settings} {at : Point} {r : ℕ} {w : Work} → Sound s at r w → Ready at r w × (capacityOf s ≤ 1200000000)
 ready {s} {w = w} i =
-    let c = settings-right s (i .settings) in
-    work-ready (capacityOf s) (s .travel) w (c .wide) (omega (arith, c .clock-most)) (record { inside = inside (i .in-travel); below = i .below; sound = i .work })
+    let c = settings-right s (i .settings) in (
+      work-ready (capacityOf s) (s .travel) w (c .wide) (omega (arith, c .clock-most))
+          (record { inside = inside (i .in-travel); below = i .below; sound = i .work }),
+      omega (arith, c .clock-most),
+    )
 
 -- and the code of a run
 pub running : {s : Settings} {at : Point} {r : ℕ} {w : Work} → Sound s at r w → isNothing w ≡ false → SoundIn (capacityOf s) at r w

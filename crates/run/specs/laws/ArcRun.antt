@@ -2,19 +2,22 @@
 use mathlib.Core.Path.{_≡_, refl, sym, ap, subst, _∙_}
 use mathlib.Core.Bool.{Bool, true, false}
 use mathlib.Core.List.{List}
-use Prim.Native.Nat.{ℕ, _≤_, _<_}
+use Prim.Native.Nat.{ℕ, _+_, _*_, _≤_, _<_}
 use native.Mathlib.Omega.{arith}
 use lib.ListN.{set}
 use Rattle.plane.specs.declared.point.Point.{Point}
 use Rattle.plane.specs.Point.{equalPoint}
 use Rattle.plane.specs.Byte.{bothCodes, withMarks, cycleByte}
+use Rattle.circle.specs.Charge.{moveCharge}
 use Rattle.arc.specs.declared.arc.Arc.{Arc}
 use Rattle.arc.specs.declared.stepper.Tracer.{Tracer}
 use Rattle.arc.specs.declared.stepper.Traced.{Traced}
 use Rattle.arc.specs.Centre.{Near}
 use Rattle.arc.specs.Arc.{OnArc, arcStepped}
 use Rattle.arc.specs.Stepper.{arcTracer, tracedOf, tracerAt, Tracing}
+use Rattle.arc.specs.Charge.{arcCharge}
 use Rattle.arc.specs.laws.Step.{Circles, circles, next-circles}
+use Rattle.arc.specs.laws.Charge.{tracer-charge}
 use Rattle.arc.specs.laws.Stepper.{tracing, tracer-next, tracer-at}
 use Rattle.work.specs.declared.Work.{Work}
 use Rattle.work.specs.declared.Cycle.{Cycle}
@@ -54,6 +57,10 @@ module _ {q0 most : ℕ} {all : Strip} {out₀ out : List ℕ} {last n : ℕ} (a
   pub arc-asks : Near 2000000 (a .centre) × Tracing tracer
   arc-asks = (on .centre, subst Tracing (sym is) (tracing a (tracerAt (a .centre) tracer) (circles on)))
 
+  -- the charge of the cycle that is next
+  pub charge-here : moveCharge (tracer .next) ≡ arcCharge a (tracerAt (a .centre) tracer)
+  charge-here = ap (λ (x : Tracer). moveCharge (x .next)) is ∙ tracer-charge a (tracerAt (a .centre) tracer) (circles on)
+
   module _ {t : Traced} (e : t ≡ tracedOf tracer) where
     next-is : t ≡ record { tracer = arcTracer a (arcStepped a (tracerAt (a .centre) tracer) .at); code = bothCodes (arcStepped a (tracerAt (a .centre) tracer) .pulses) }
     next-is = e ∙ ap tracedOf is ∙ tracer-next a (tracerAt (a .centre) tracer) (circles on)
@@ -77,11 +84,20 @@ module _ {q0 most : ℕ} {all : Strip} {out₀ out : List ℕ} {last n : ℕ} (a
     byte-is : {byte : ℕ} (ended : Bool) → byte ≡ withMarks (t .code) ended → byte ≡ cycleByte (arcStepped a (tracerAt (a .centre) tracer) .pulses) ended
     byte-is ended b = b ∙ ap (λ (codes : ℕ). withMarks codes ended) code-is
 
-    pub arc-on : g .ticks < last → {byte : ℕ} → byte ≡ withMarks (t .code) false → {next : Gap} → next ≡ nextGap q0 (a .feed) g
+    -- the tracer's move tells the next charge
+    next-charge : moveCharge (t .tracer .next) ≡ arcCharge a (arcStepped a (tracerAt (a .centre) tracer) .at)
+    next-charge =
+        ap (λ (x : Tracer). moveCharge (x .next)) tracer-is
+        ∙ tracer-charge a (arcStepped a (tracerAt (a .centre) tracer) .at) next-on
+
+    pub arc-on : g .ticks < last → {byte : ℕ} → byte ≡ withMarks (t .code) false
+        → {next : Gap} → next ≡ nextGap (moveCharge (t .tracer .next) * q0) (1000 * a .feed) g
         → Cycling q0 (a .feed) most all out₀ (set out (g .ticks) byte) last n (tracerAt (a .centre) (t .tracer)) (Work.Arc a) next × StandsOn a (t .tracer)
     arc-on h {byte} b {next} gap =
-        let cycle = cycle-is a (tracerAt (a .centre) tracer) {byte = byte} (goes-on s h) (byte-is false b) in (
-          subst (λ (p : Point). Cycling q0 (a .feed) most all out₀ (set out (g .ticks) byte) last n p (Work.Arc a) next) (sym next-at) (cycling-on s h cycle gap),
+        let cycle = cycle-is a (tracerAt (a .centre) tracer) {byte = byte} (goes-on s h) (byte-is false b) in
+        let due = gap ∙ ap (λ (c : ℕ). nextGap (c * q0) (1000 * a .feed) g) next-charge in (
+          subst (λ (p : Point). Cycling q0 (a .feed) most all out₀ (set out (g .ticks) byte) last n p (Work.Arc a) next) (sym next-at)
+              (cycling-on s h cycle due),
           tracer-is ∙ ap (arcTracer a) (sym next-at),
         )
 

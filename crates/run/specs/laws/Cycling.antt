@@ -2,25 +2,27 @@
 use mathlib.Core.Path.{_≡_, refl, sym, ap, subst, _∙_}
 use mathlib.Core.Bool.{Bool, true, false}
 use mathlib.Core.List.{List}
-use Prim.Native.Nat.{ℕ, _+_, _-_, _*_, _≤_, _<_, min}
+use Prim.Native.Nat.{ℕ, suc, _+_, _-_, _*_, _≤_, _<_, min}
 use native.Mathlib.Nat.{mul-le-mul-left}
 use native.Mathlib.Omega.{arith}
 use lib.Dec.{T}
 use lib.ListN.{length, set}
 use Rattle.plane.specs.declared.point.Point.{Point}
-use Rattle.divider.specs.Divider.{endTick}
+use Rattle.divider.specs.Divider.{lastTick}
 use Rattle.work.specs.declared.Work.{Work}
 use Rattle.work.specs.declared.Cycle.{Cycle}
 use Rattle.work.specs.laws.Sound.{Feed}
-use Rattle.work.specs.Work.{isNothing, cycleOf, feedOf, cyclesLeft, endOf, advanceOf}
+use Rattle.work.specs.laws.Charge.{due-range}
+use Rattle.work.specs.Work.{isNothing, cycleOf, feedOf, cyclesLeft, chargesLeft, dueOf, addedOf, endOf, advanceOf}
 use Rattle.run.specs.declared.gap.Gap.{Gap}
 use Rattle.run.specs.Run.{Strip, stripOf, SoundIn}
 use Rattle.run.specs.Gap.{gapOf, later, nextGap, remainderAt, Before, clearedOf}
 use Rattle.run.specs.laws.Going.{Going, Answer, going-start, going-on, going-end, going-out}
 use Rattle.run.specs.laws.Sound.{waiting, still-sound}
-use Rattle.run.specs.laws.Gap.{Due, gap-due}
+use Rattle.run.specs.laws.Gap.{DueGap, gap-due, gap-sound}
 use Rattle.run.specs.laws.Left.{Left, left-start, left-some, left-turn, left-out, left-end}
-use Rattle.run.specs.laws.Cycles.{in-work, cycle-counts, due-later, end-range, same-feed, same-end}
+use Rattle.run.specs.laws.Cycles.{in-work, cycle-counts, cycle-pays, each-pays, none-pays, added-some}
+use Rattle.run.specs.laws.Cycles.{feed-due, due-most, rest-most, end-range, same-feed, same-end}
 use Rattle.run.specs.laws.Idle.{cycle-tick, cleared-length, cleared-twice, going-idle, answer-old}
 
 -- `done` ticks are done, up to a cycle, which left the remainder `rest`; g is the gap to the next; in out₀ the n bytes are cleared
@@ -29,18 +31,20 @@ pub record Cycling (q0 f most : ℕ) (all : Strip) (out₀ out : List ℕ) (last
   pub rest : ℕ
   pub going : Going q0 most all out₀ out done at rest w
   pub cleared : out₀ ≡ clearedOf n out₀
-  pub left : Left q0 f most last n done (cyclesLeft at w) rest
-  pub few : n ≤ 9600000000000
+  pub left : Left (addedOf w) most last n done (chargesLeft at w * q0) (cyclesLeft at w) rest
+  pub few : n ≤ 9400000 * q0
   pub work : SoundIn q0 at rest w
   pub feed : feedOf w ≡ f
-  pub gap : g ≡ later done (gapOf q0 f rest)
+  pub gap : g ≡ later done (gapOf (dueOf q0 at w) (addedOf w) rest)
 
 pub cycling-start : {q0 : ℕ} {at : Point} {r : ℕ} {w : Work} {last n : ℕ} {g : Gap} (most : ℕ) (old : List ℕ) {out : List ℕ} → SoundIn q0 at r w → most ≤ length old
-    → last ≡ min most (endTick q0 (feedOf w) r (cyclesLeft at w) - 1) → n ≡ min most (endTick q0 (feedOf w) r (cyclesLeft at w))
-    → out ≡ clearedOf n old → g ≡ gapOf q0 (feedOf w) r
+    → last ≡ min most (lastTick (chargesLeft at w * q0) (addedOf w) r (cyclesLeft at w) - 1)
+    → n ≡ min most (lastTick (chargesLeft at w * q0) (addedOf w) r (cyclesLeft at w))
+    → out ≡ clearedOf n old → g ≡ gapOf (dueOf q0 at w) (addedOf w) r
     → Cycling q0 (feedOf w) most (stripOf q0 most at r w) out out last n at w g
 cycling-start {q0} {at} {r} {w} {last} {n} {g} most old {out} i room before e clear gap =
-    let l : Left q0 (feedOf w) most last n 0 (cyclesLeft at w) r = rw (before, e) (left-start q0 (feedOf w) most r (cyclesLeft at w) (in-work i .feed .some) (due-later i)) in
+    let l : Left (addedOf w) most last n 0 (chargesLeft at w * q0) (cyclesLeft at w) r =
+    rw (before, e) (left-start (addedOf w) most (chargesLeft at w * q0) r (cyclesLeft at w) (added-some i) (in-work i .some)) in
     record {
       done = 0;
       rest = r;
@@ -50,14 +54,14 @@ cycling-start {q0} {at} {r} {w} {last} {n} {g} most old {out} i room before e cl
       few = omega (arith, end-range i .1);
       work = i;
       feed = refl;
-      gap = gap ∙ ap (λ (t : ℕ). record { ticks = t; remainder = gapOf q0 (feedOf w) r .remainder }) (omega arith);
+      gap = gap ∙ ap (λ (t : ℕ). record { ticks = t; remainder = gapOf (dueOf q0 at w) (addedOf w) r .remainder }) (omega arith);
     }
 
 -- the buffer keeps its length
 pub cleared-long : (most : ℕ) (old : List ℕ) {out : List ℕ} {n : ℕ} → most ≤ length old → n ≤ most → out ≡ clearedOf n old → length out ≡ length old
 cleared-long most old room short clear = ap length clear ∙ cleared-length _ old (omega arith)
 
-some-left : (at : Point) (w : Work) → 1 ≤ cyclesLeft at w → isNothing w ≡ false
+pub some-left : (at : Point) (w : Work) → 1 ≤ cyclesLeft at w → isNothing w ≡ false
 some-left at Work.Nothing h = absurd (omega arith)
 some-left at (Work.Line l) h = refl
 some-left at (Work.Arc a) h = refl
@@ -70,42 +74,57 @@ nothing-is (Work.Arc a) e = absurd (subst T (sym e) tt)
 module _ {q0 f most : ℕ} {all : Strip} {out₀ out : List ℕ} {last n : ℕ} {at : Point} {w : Work} {g : Gap} (s : Cycling q0 f most all out₀ out last n at w g) where
   -- the gap, counted from the last cycle
   abbrev ahead : Gap
-  ahead = gapOf q0 f (s .rest)
+  ahead = gapOf (dueOf q0 at w) (addedOf w) (s .rest)
 
   ticks-are : g .ticks ≡ s .done + ahead .ticks
   ticks-are = ap (λ (x : Gap). x .ticks) (s .gap)
 
-  due : Due q0 f (s .rest) ahead
-  due = gap-due q0 f (s .rest) (rw (s .feed) at (in-work (s .work) .feed .some)) (s .work .below)
+  due : DueGap (dueOf q0 at w) (addedOf w) (s .rest) ahead
+  due = gap-due (dueOf q0 at w) (addedOf w) (s .rest) (added-some (s .work))
 
-  remainder-is : g .remainder + q0 ≡ s .rest + ahead .ticks * f + f
-  remainder-is = ap (λ (x : Gap). x .remainder + q0) (s .gap) ∙ due .remainder
+  remainder-is : dueOf q0 at w + g .remainder ≡ s .rest + ahead .ticks * addedOf w + addedOf w
+  remainder-is = ap (λ (x : Gap). dueOf q0 at w + x .remainder) (s .gap) ∙ due .leaves
 
-  -- what the code of the next gap asks: the remainder after a cycle is below one feed
-  pub feeds : Feed q0 f × (g .remainder < f) × (q0 ≤ 1200000)
-  feeds = (rw (s .feed) at (in-work (s .work) .feed), omega (arith, due .before, remainder-is), s .work .capacity)
+  sound : (s .rest + ahead .ticks * addedOf w < 1414 * q0) × (ahead .remainder < 1414 * q0)
+  sound = let d = due-range q0 at w in gap-sound (1414 * q0) (feed-due (s .work) .most) (d .1) (s .work .below) due
 
-  waits : SoundIn q0 at (s .rest + ahead .ticks * feedOf w) w
-  waits = waiting (s .work) (s .rest + ahead .ticks * feedOf w) (rw (s .feed) (due .before))
+  -- what the code of the next gap asks
+  pub gap-left : g .remainder ≤ 1696800000000
+  gap-left = omega (arith, ap (λ (x : Gap). x .remainder) (s .gap), sound .1, s .work .capacity)
+
+  waits : SoundIn q0 at (s .rest + ahead .ticks * addedOf w) w
+  waits = waiting (s .work) (s .rest + ahead .ticks * addedOf w) (sound .0)
+
+  -- the next cycle's due, and those of the cycles after it
+  parted : Left (addedOf w) most last n (s .done) (dueOf q0 at w + chargesLeft (cycleOf at w .at) (cycleOf at w .work) * q0)
+      (suc (cyclesLeft (cycleOf at w .at) (cycleOf at w .work))) (s .rest)
+  parted = rw (cycle-pays (s .work), cycle-counts (s .work)) at (s .left)
 
   module _ {c : Cycle} (e : c ≡ cycleOf at w) where
-    tick : record { at = c .at; remainder = ahead .remainder; byte = c .byte; work = c .work } ≡ advanceOf q0 at (s .rest + ahead .ticks * feedOf w) w
-    tick = cycle-tick q0 at (s .rest + ahead .ticks * feedOf w) w (rw (s .feed) (due .due)) (rw (s .feed) (due .remainder)) e
+    tick : record { at = c .at; remainder = ahead .remainder; byte = c .byte; work = c .work }
+        ≡ advanceOf q0 at (s .rest + ahead .ticks * addedOf w) w
+    tick = cycle-tick q0 at (s .rest + ahead .ticks * addedOf w) w (due .leaves) e
 
-    before : s .done + ahead .ticks ≤ n → Going q0 most all out₀ out (s .done + ahead .ticks) at (s .rest + ahead .ticks * feedOf w) w
-    before h = going-idle (s .cleared) (s .going) (s .work .busy) (s .left .short) (ahead .ticks) h (rw (s .feed) (due .before))
+    before : s .done + ahead .ticks ≤ n → Going q0 most all out₀ out (s .done + ahead .ticks) at (s .rest + ahead .ticks * addedOf w) w
+    before h = going-idle (s .cleared) (s .going) (s .work .busy) (s .left .short) (ahead .ticks) h (due .before)
 
   -- before the tick `last` no cycle ends the block
   pub goes-on : g .ticks < last → isNothing (cycleOf at w .work) ≡ false
-  goes-on h = some-left (cycleOf at w .at) (cycleOf at w .work) (left-some due (rw (cycle-counts (s .work)) at (s .left)) (omega (arith, ticks-are)))
+  goes-on h =
+      some-left (cycleOf at w .at) (cycleOf at w .work)
+      (left-some (added-some (s .work)) due (each-pays (s .work)) (none-pays (s .work)) parted (omega (arith, ticks-are)))
 
-  pub cycling-on : g .ticks < last → {c : Cycle} → c ≡ cycleOf at w → {next : Gap} → next ≡ nextGap q0 f g
+  pub cycling-on : g .ticks < last → {c : Cycle} → c ≡ cycleOf at w
+      → {next : Gap} → next ≡ nextGap (dueOf q0 (c .at) (c .work)) (1000 * f) g
       → Cycling q0 f most all out₀ (set out (g .ticks) (c .byte)) last n (c .at) (c .work) next
   unfolding nextGap
   cycling-on h {c} e {next} gap =
       let more : isNothing (c .work) ≡ false = rw e (goes-on h) in
       let early : s .done + ahead .ticks < last = omega (arith, ticks-are) in
-      let l : Left q0 f most last n (s .done + ahead .ticks + 1) (cyclesLeft (c .at) (c .work)) (ahead .remainder) = rw e (left-turn due (rw (cycle-counts (s .work)) at (s .left)) early) in
+      let feed = ap (λ (k : Cycle). feedOf (k .work)) e ∙ same-feed at w (goes-on h) in
+      let l : Left (addedOf (c .work)) most last n (s .done + ahead .ticks + 1) (chargesLeft (c .at) (c .work) * q0)
+      (cyclesLeft (c .at) (c .work)) (ahead .remainder) =
+      rw feed (rw e (left-turn (added-some (s .work)) due (each-pays (s .work)) (none-pays (s .work)) parted early)) in
       record {
         done = s .done + ahead .ticks + 1;
         rest = ahead .remainder;
@@ -114,14 +133,17 @@ module _ {q0 f most : ℕ} {all : Strip} {out₀ out : List ℕ} {last n : ℕ} 
         left = l;
         few = s .few;
         work = still-sound waits (tick e) more;
-        feed = ap (λ (k : Cycle). feedOf (k .work)) e ∙ same-feed at w (goes-on h) ∙ s .feed;
-        gap = gap ∙ ap (λ (x : Gap). later (x .ticks + 1) (gapOf q0 f (x .remainder))) (s .gap);
+        feed = feed ∙ s .feed;
+        gap =
+            gap
+            ∙ ap (λ (a : ℕ). later (g .ticks + 1) (gapOf (dueOf q0 (c .at) (c .work)) (1000 * a) (g .remainder))) (sym (feed ∙ s .feed))
+            ∙ ap (λ (x : Gap). later (x .ticks + 1) (gapOf (dueOf q0 (c .at) (c .work)) (addedOf (c .work)) (x .remainder))) (s .gap);
       }
 
   -- the tick that ends it, where there is one
   module _ (m : last < n) (h : last ≤ g .ticks) where
     last-tick : (s .done + ahead .ticks ≡ last) × (s .done + ahead .ticks + 1 ≡ n) × (cyclesLeft (cycleOf at w .at) (cycleOf at w .work) ≡ 0)
-    last-tick = left-end due (rw (cycle-counts (s .work)) at (s .left)) (feeds .0 .most) m (omega (arith, ticks-are))
+    last-tick = left-end (added-some (s .work)) due (each-pays (s .work)) (none-pays (s .work)) parted m (omega (arith, ticks-are))
 
     pub ends-now : isNothing (cycleOf at w .work) ≡ true
     ends-now = by (isNothing (cycleOf at w .work)) refl
@@ -141,28 +163,40 @@ module _ {q0 f most : ℕ} {all : Strip} {out₀ out : List ℕ} {last n : ℕ} 
 
   -- with no cycle before n the ticks are used up there
   module _ (m : n ≤ last) (h : last ≤ g .ticks) where
-    out-of : (n ≡ most) × (s .rest + (n - s .done) * f < q0)
-    out-of = left-out due (rw (cycle-counts (s .work)) at (s .left)) m (omega (arith, ticks-are))
+    out-of : (n ≡ most) × (1 ≤ n - s .done → s .rest + (n - s .done) * addedOf w < dueOf q0 at w)
+    out-of = left-out (added-some (s .work)) due (each-pays (s .work)) (none-pays (s .work)) parted m (omega (arith, ticks-are))
 
-    -- the feeds to the next cycle
-    ticks : (g .ticks + 1 - n) * f + (n - s .done) * f ≡ ahead .ticks * f + f
+    -- what ticks add to the next cycle
+    ticks : (g .ticks + 1 - n) * addedOf w + (n - s .done) * addedOf w ≡ ahead .ticks * addedOf w + addedOf w
     ticks =
         let sum : g .ticks + 1 - n + (n - s .done) ≡ ahead .ticks + 1 = omega (arith, ticks-are, s .left .here, s .left .low) in
-        omega (arith, ap (λ (x : ℕ). x * f) sum)
+        omega (arith, ap (λ (x : ℕ). x * addedOf w) sum)
 
-    pub out-asks : Before q0 f g n
+    pub out-asks : Before (dueOf q0 at w) (addedOf w) g n
     out-asks = record {
       within = omega (arith, s .left .low);
-      early = omega (arith, ticks-are, s .left .here, s .left .low, s .few, s .work .capacity, due .before, mul-le-mul-left (ahead .ticks) (feeds .0 .some));
-      small = omega (arith, feeds, feeds .0 .most);
+      early = omega (
+        arith,
+        ticks-are,
+        s .left .here,
+        s .left .low,
+        s .few,
+        mul-le-mul-left 9400000 (s .work .capacity),
+        s .work .capacity,
+        sound .0,
+        mul-le-mul-left (ahead .ticks) (added-some (s .work)),
+      );
+      small = omega (arith, gap-left, due-most (s .work));
       off = omega (arith, ticks, remainder-is);
     }
 
     pub cycling-out : {old : List ℕ} → out₀ ≡ clearedOf n old
-        → Answer all old out (record { ticks = n; ended = false; at = at; remainder = remainderAt q0 f g n; work = w })
+        → Answer all old out
+        (record { ticks = n; ended = false; at = at; remainder = remainderAt (dueOf q0 at w) (addedOf w) g n; work = w })
     unfolding remainderAt
     cycling-out clear =
         let all-done : s .done + (n - s .done) ≡ n = omega (arith, s .left .here, s .left .low) in
-        let rest : g .remainder + q0 - (g .ticks + 1 - n) * f ≡ s .rest + (n - s .done) * f = omega (arith, ticks, remainder-is) in
-        let idle = going-idle (s .cleared) (s .going) (s .work .busy) (s .left .short) (n - s .done) (omega arith) (rw (s .feed) (out-of .1)) in
-        rw rest (answer-old clear (rw (all-done, s .feed) at (going-out idle (omega (arith, out-of .0)))) refl)
+        let rest : g .remainder + dueOf q0 at w - (g .ticks + 1 - n) * addedOf w ≡ s .rest + (n - s .done) * addedOf w =
+        omega (arith, ticks, remainder-is) in
+        let idle = going-idle (s .cleared) (s .going) (s .work .busy) (s .left .short) (n - s .done) (omega arith) (out-of .1) in
+        rw rest (answer-old clear (rw all-done at (going-out idle (omega (arith, out-of .0)))) refl)

@@ -1,67 +1,143 @@
--- The gap to the next cycle: by the sums of feeds, and without a division where the remainder is below one feed.
-use mathlib.Core.Path.{_≡_, ap, _∙_}
-use Prim.Native.Nat.{ℕ, suc, _+_, _-_, _*_, _/_, _≤_, _<_}
-use native.Mathlib.Nat.{lt-of-mul-lt-mul-right, le-antisymm, le-of-suc-le-suc, lt-div-mul-add, div-mul-le-self, mul-le-mul-left}
+-- The gap to the next cycle: by what ticks add, and without a division where the remainder is below what a tick adds.
+use mathlib.Core.Path.{_≡_, refl, ap, ap₂, _∙_}
+use mathlib.Core.Bool.{Bool, true, false, cond}
+use Prim.Native.Nat.{ℕ, zero, suc, _+_, _-_, _*_, _/_, _≤_, _<_}
+use native.Mathlib.Nat.{lt-of-mul-lt-mul-right, le-antisymm, le-of-suc-le-suc, lt-div-mul-add, div-mul-le-self, mul-le-mul, mul-le-mul-left}
 use native.Mathlib.Omega.{arith}
+use lib.Dec.{ltb}
+use borrow.Author.Tests.{ltb-true, ltb-false}
+use Rattle.circle.specs.declared.step.Move.{Move}
+use Rattle.circle.specs.declared.step.Move.the-variants.{Rise, Slant, Fall}
+use Rattle.circle.specs.Charge.{moveCharge}
+use Rattle.divider.specs.laws.Last.{Due}
 use Rattle.work.specs.laws.Sound.{Feed}
 use Rattle.run.specs.declared.gap.Gap.{Gap}
-use Rattle.run.specs.Gap.{gapOf, later, nextGap}
+use Rattle.run.specs.Gap.{gapOf, later, nextGap, ifLess, byMove}
 
--- after the gap's ticks the next feed reaches the capacity, and no earlier one does
-pub record Due (q0 f r : ℕ) (g : Gap) : Type 0 where
-  pub before : r + g .ticks * f < q0
-  pub due : q0 ≤ r + g .ticks * f + f
-  pub remainder : g .remainder + q0 ≡ r + g .ticks * f + f
+-- the gap is the divider's
+abbrev pub DueGap : (due a r : ℕ) → Gap → Type 0
+DueGap due a r g = Due due a r (g .ticks) (g .remainder)
 
-pub gap-due : (q0 f r : ℕ) → 1 ≤ f → r < q0 → Due q0 f r (gapOf q0 f r)
+pub gap-due : (due a r : ℕ) → 1 ≤ a → DueGap due a r (gapOf due a r)
 unfolding gapOf
-gap-due q0 f r some below =
-    let least = div-mul-le-self (q0 - 1 - r) f in
-    let most = lt-div-mul-add {a = q0 - 1 - r} some in
-    record { before = omega arith; due = omega arith; remainder = omega arith }
+gap-due due a r some =
+    let least = div-mul-le-self (due - 1 - r) a in
+    let most = lt-div-mul-add {a = due - 1 - r} some in
+    record { before = λ h. omega (arith, mul-le-mul h some); leaves = omega arith }
 
-pub due-unique : {q0 f r : ℕ} {g h : Gap} → Due q0 f r g → Due q0 f r h → g ≡ h
-due-unique {q0} {f} {r} {g} {h} a b = same ticks
+-- it is no longer than the due
+pub gap-most : (due a r : ℕ) → 1 ≤ a → gapOf due a r .ticks ≤ due
+unfolding gapOf
+gap-most due a r some = omega (arith, div-mul-le-self (due - 1 - r) a, mul-le-mul-left ((due - 1 - r) / a) some)
+
+pub due-unique : {due a r : ℕ} {g h : Gap} → DueGap due a r g → DueGap due a r h → g ≡ h
+due-unique {due} {a} {r} {g} {h} p q = same ticks
   where
-    not-after : (x y : ℕ) → r + x * f < q0 → q0 ≤ r + y * f + f → x ≤ y
-    not-after x y early late = le-of-suc-le-suc (lt-of-mul-lt-mul-right f {m = x} {n = suc y} (omega arith))
+    not-after : (x y : ℕ) → (1 ≤ x → r + x * a < due) → due ≤ r + y * a + a → x ≤ y
+    not-after zero y early late = omega arith
+    not-after (suc x) y early late =
+        le-of-suc-le-suc (lt-of-mul-lt-mul-right a {m = suc x} {n = suc y} (omega (arith, early (omega arith))))
 
     ticks : g .ticks ≡ h .ticks
-    ticks = le-antisymm (not-after (g .ticks) (h .ticks) (a .before) (b .due)) (not-after (h .ticks) (g .ticks) (b .before) (a .due))
+    ticks =
+        le-antisymm (not-after (g .ticks) (h .ticks) (p .before) (omega (arith, q .leaves)))
+        (not-after (h .ticks) (g .ticks) (q .before) (omega (arith, p .leaves)))
 
     same : g .ticks ≡ h .ticks → g ≡ h
     same e =
-        let rest : g .remainder ≡ h .remainder = omega (arith, a .remainder, b .remainder, ap (λ (x : ℕ). x * f) e) in
+        let rest : g .remainder ≡ h .remainder = omega (arith, p .leaves, q .leaves, ap (λ (x : ℕ). x * a) e) in
         λ i. record { ticks = e i; remainder = rest i }
 
--- ---- without a division: so many whole feeds go into the capacity
+-- a cycle leaves a sound remainder: M is 1,414 × q0
+pub gap-sound : {due a r : ℕ} {g : Gap} (M : ℕ) → a ≤ due → due ≤ M → r < M → DueGap due a r g → (r + g .ticks * a < M) × (g .remainder < M)
+gap-sound {due} {a} {r} {g} M l m h d = by (g .ticks) (d .before) (d .leaves)
+  where
+    by : (t : ℕ) → (1 ≤ t → r + t * a < due) → due + g .remainder ≡ r + t * a + a → (r + t * a < M) × (g .remainder < M)
+    by zero b e = omega arith
+    by (suc t) b e = omega (arith, b (omega arith))
 
-pub record Whole (q0 f whole : ℕ) : Type 0 where
+-- ---- without a division: so many whole sums of a tick go into the due
+
+pub record Whole (due a whole : ℕ) : Type 0 where
   pub some : 1 ≤ whole
-  pub within : whole * f ≤ q0
-  pub most : q0 < whole * f + f
+  pub within : whole * a ≤ due
+  pub most : due < whole * a + a
 
-pub whole-feeds : {q0 f whole : ℕ} → Feed q0 f → whole ≡ q0 / f → Whole q0 f whole
-whole-feeds {q0} {f} {whole} k e =
-    let least : whole * f ≤ q0 = rw e (div-mul-le-self q0 f) in
-    let most : q0 < whole * f + f = rw e (lt-div-mul-add {a = q0} (k .some)) in
-    record { some = lt-of-mul-lt-mul-right f {m = 0} {n = whole} (omega (arith, k .most)); within = least; most = most }
+pub whole-feeds : {due a whole : ℕ} → Feed due a → whole ≡ due / a → Whole due a whole
+whole-feeds {due} {a} {whole} k e =
+    let least : whole * a ≤ due = rw e (div-mul-le-self due a) in
+    let most : due < whole * a + a = rw e (lt-div-mul-add {a = due} (k .some)) in
+    record { some = lt-of-mul-lt-mul-right a {m = 0} {n = whole} (omega (arith, k .most)); within = least; most = most }
 
-module _ {q0 f whole : ℕ} (k : Feed q0 f) (w : Whole q0 f whole) where
-  pub whole-most : whole ≤ q0
+-- where the remainder is a tick's sum or more, by a division
+pub next-over : (due a : ℕ) (g : Gap) {x : Gap} → x ≡ gapOf due a (g .remainder)
+    → record { ticks = g .ticks + 1 + x .ticks; remainder = x .remainder } ≡ nextGap due a g
+unfolding nextGap
+next-over due a g e = ap (later (g .ticks + 1)) e
+
+module _ {due a whole : ℕ} (k : Feed due a) (w : Whole due a whole) where
+  pub whole-most : whole ≤ due
   whole-most = omega (arith, w .within, mul-le-mul-left whole (k .some))
 
-  module _ (g : Gap) (below : g .remainder < f) where
-    gap-is : {next : Gap} → Due q0 f (g .remainder) next → later (g .ticks + 1) next ≡ nextGap q0 f g
+  module _ (g : Gap) (below : g .remainder < a) where
+    gap-is : {next : Gap} → DueGap due a (g .remainder) next → later (g .ticks + 1) next ≡ nextGap due a g
     unfolding nextGap
-    gap-is d = ap (later (g .ticks + 1)) (due-unique d (gap-due q0 f (g .remainder) (k .some) (omega (arith, k .most))))
+    gap-is d = ap (later (g .ticks + 1)) (due-unique d (gap-due due a (g .remainder) (k .some)))
 
-    pub next-less : q0 - whole * f ≤ g .remainder → record { ticks = g .ticks + whole; remainder = g .remainder - (q0 - whole * f) } ≡ nextGap q0 f g
+    pub next-less : due - whole * a ≤ g .remainder
+        → record { ticks = g .ticks + whole; remainder = g .remainder - (due - whole * a) } ≡ nextGap due a g
     next-less h =
         let one : whole ≡ whole - 1 + 1 = omega (arith, w .some) in
-        let feeds = ap (λ (x : ℕ). x * f) one in
-        ap (λ (t : ℕ). record { ticks = t; remainder = g .remainder - (q0 - whole * f) }) (omega arith)
-        ∙ gap-is {next = record { ticks = whole - 1; remainder = g .remainder - (q0 - whole * f) }} (record { before = omega (arith, w .within); due = omega (arith, w .within); remainder = omega (arith, w .within) })
+        let feeds = ap (λ (x : ℕ). x * a) one in
+        ap (λ (t : ℕ). record { ticks = t; remainder = g .remainder - (due - whole * a) }) (omega arith)
+        ∙ gap-is {next = record { ticks = whole - 1; remainder = g .remainder - (due - whole * a) }}
+        (record { before = λ m. omega (arith, w .within); leaves = omega (arith, w .within) })
 
-    pub next-whole : g .remainder < q0 - whole * f → record { ticks = g .ticks + 1 + whole; remainder = g .remainder + f - (q0 - whole * f) } ≡ nextGap q0 f g
-    next-whole h = gap-is (record { before = omega (arith, w .within); due = omega (arith, w .most); remainder = omega (arith, w .most, w .within) })
+    pub next-whole : g .remainder < due - whole * a
+        → record { ticks = g .ticks + 1 + whole; remainder = g .remainder + a - (due - whole * a) } ≡ nextGap due a g
+    next-whole h = gap-is (record { before = λ m. omega (arith, w .within); leaves = omega (arith, w .most, w .within) })
+
+    -- both at once
+    pub next-either : record {
+      ticks = g .ticks + whole + ifLess (g .remainder) (due - whole * a) 1;
+      remainder = g .remainder + ifLess (g .remainder) (due - whole * a) a - (due - whole * a);
+    } ≡ nextGap due a g
+    next-either = by (ltb (g .remainder) (due - whole * a)) refl
+      where
+        by : (t : Bool) → ltb (g .remainder) (due - whole * a) ≡ t
+            → record { ticks = g .ticks + whole + cond t 1 0; remainder = g .remainder + cond t a 0 - (due - whole * a) } ≡ nextGap due a g
+        by true e =
+            let ticks : g .ticks + whole + 1 ≡ g .ticks + 1 + whole = omega arith in
+            ap (λ (n : ℕ). record { ticks = n; remainder = g .remainder + a - (due - whole * a) }) ticks
+            ∙ next-whole (ltb-true (g .remainder) (due - whole * a) e)
+        by false e =
+            let ticks : g .ticks + whole + 0 ≡ g .ticks + whole = omega arith in
+            let rest : g .remainder + 0 - (due - whole * a) ≡ g .remainder - (due - whole * a) = omega arith in
+            ap₂ (λ (n r : ℕ). record { ticks = n; remainder = r }) ticks rest ∙ next-less (ltb-false (g .remainder) (due - whole * a) e)
+
+    -- and no more is taken off than there is
+    pub over-fits : due - whole * a ≤ g .remainder + ifLess (g .remainder) (due - whole * a) a
+    over-fits = by (ltb (g .remainder) (due - whole * a)) refl
+      where
+        by : (t : Bool) → ltb (g .remainder) (due - whole * a) ≡ t → due - whole * a ≤ g .remainder + cond t a 0
+        by true e = omega (arith, w .most)
+        by false e = omega (arith, ltb-false (g .remainder) (due - whole * a) e)
+
+pub if-less-most : (a b n : ℕ) → ifLess a b n ≤ n
+if-less-most a b n = by (ltb a b)
+  where
+    by : (t : Bool) → cond t n 0 ≤ n
+    by true = omega arith
+    by false = omega arith
+
+-- the whole sums of a move's due
+pub by-move-is : (q0 a straight diagonal : ℕ) (m : Move) → straight ≡ 1000 * q0 / a → diagonal ≡ 1414 * q0 / a
+    → byMove m straight diagonal ≡ moveCharge m * q0 / a
+by-move-is q0 a straight diagonal Rise e f = e
+by-move-is q0 a straight diagonal Slant e f = f
+by-move-is q0 a straight diagonal Fall e f = e
+
+pub move-due : (q0 : ℕ) (m : Move) → (1000 * q0 ≤ moveCharge m * q0) × (moveCharge m * q0 ≤ 1414 * q0)
+move-due q0 Rise = omega arith
+move-due q0 Slant = omega arith
+move-due q0 Fall = omega arith

@@ -10,7 +10,7 @@ use lib.Seq.{take-add, drop-drop, drop-at}
 use Rattle.plane.specs.declared.point.Point.{Point}
 use Rattle.work.specs.declared.Work.{Work}
 use Rattle.work.specs.declared.Cycle.{Cycle}
-use Rattle.work.specs.Work.{isNothing, cycleOf, feedOf, advanceOf}
+use Rattle.work.specs.Work.{isNothing, cycleOf, dueOf, addedOf, advanceOf}
 use Rattle.run.specs.declared.Ran.{Ran}
 use Rattle.run.specs.Run.{Strip, stripOf, written}
 use Rattle.run.specs.Gap.{clearedOf}
@@ -21,30 +21,31 @@ unfolding after
 after-after xs ys s =
     ap (λ (bs : List ℕ). record { bytes = bs; at = s .at; remainder = s .remainder; work = s .work; ended = s .ended }) (sym (append-assoc xs ys (s .bytes)))
 
-pub idle-tick : (q0 : ℕ) (at : Point) (r : ℕ) (w : Work) → r + feedOf w < q0 → advanceOf q0 at r w ≡ record { at = at; remainder = r + feedOf w; byte = 0; work = w }
+pub idle-tick : (q0 : ℕ) (at : Point) (r : ℕ) (w : Work) → r + addedOf w < dueOf q0 at w
+    → advanceOf q0 at r w ≡ record { at = at; remainder = r + addedOf w; byte = 0; work = w }
 unfolding advanceOf
-idle-tick q0 at r w h = rw (lt-leb q0 (r + feedOf w) h)
+idle-tick q0 at r w h = rw (lt-leb (dueOf q0 at w) (r + addedOf w) h)
 
-pub cycle-tick : (q0 : ℕ) (at : Point) (r : ℕ) (w : Work) {rest : ℕ} {c : Cycle} → q0 ≤ r + feedOf w → rest + q0 ≡ r + feedOf w → c ≡ cycleOf at w
+pub cycle-tick : (q0 : ℕ) (at : Point) (r : ℕ) (w : Work) {rest : ℕ} {c : Cycle} → dueOf q0 at w + rest ≡ r + addedOf w → c ≡ cycleOf at w
     → record { at = c .at; remainder = rest; byte = c .byte; work = c .work } ≡ advanceOf q0 at r w
 unfolding advanceOf
-cycle-tick q0 at r w {rest} {c} h e k =
-    let left : rest ≡ r + feedOf w - q0 = omega arith in
-    rw (le-leb q0 (r + feedOf w) h, left, k)
+cycle-tick q0 at r w {rest} {c} e k =
+    let left : rest ≡ r + addedOf w - dueOf q0 at w = omega arith in
+    rw (le-leb (dueOf q0 at w) (r + addedOf w) (omega arith), left, k)
 
-one-idle : (q0 : ℕ) (at : Point) (w : Work) → isNothing w ≡ false → (n r : ℕ) → r + feedOf w < q0
-    → stripOf q0 (suc n) at r w ≡ after (0 ∷ []) (stripOf q0 n at (r + feedOf w) w)
+one-idle : (q0 : ℕ) (at : Point) (w : Work) → isNothing w ≡ false → (n r : ℕ) → r + addedOf w < dueOf q0 at w
+    → stripOf q0 (suc n) at r w ≡ after (0 ∷ []) (stripOf q0 n at (r + addedOf w) w)
 unfolding stripOf after
 one-idle q0 at w busy n r h = rw (idle-tick q0 at r w h, busy)
 
-strip-idle : (q0 : ℕ) (at : Point) (w : Work) → isNothing w ≡ false → (g m r : ℕ) → r + g * feedOf w < q0
-    → stripOf q0 (g + m) at r w ≡ after (replicate g 0) (stripOf q0 m at (r + g * feedOf w) w)
+strip-idle : (q0 : ℕ) (at : Point) (w : Work) → isNothing w ≡ false → (g m r : ℕ) → (1 ≤ g → r + g * addedOf w < dueOf q0 at w)
+    → stripOf q0 (g + m) at r w ≡ after (replicate g 0) (stripOf q0 m at (r + g * addedOf w) w)
 unfolding after
 strip-idle q0 at w busy zero m r h = ap₂ (λ (j s : ℕ). stripOf q0 j at s w) (omega arith) (omega arith)
 strip-idle q0 at w busy (suc g) m r h =
     ap (λ (j : ℕ). stripOf q0 j at r w) one
-    ∙ one-idle q0 at w busy (g + m) r (omega arith)
-    ∙ ap (after (0 ∷ [])) (strip-idle q0 at w busy g m (r + feedOf w) (omega arith))
+    ∙ one-idle q0 at w busy (g + m) r (omega (arith, h (omega arith)))
+    ∙ ap (after (0 ∷ [])) (strip-idle q0 at w busy g m (r + addedOf w) (λ j. omega (arith, h (omega arith))))
     ∙ ap (λ (s : ℕ). after (replicate (suc g) 0) (stripOf q0 m at s w)) (omega arith)
   where
     one : suc g + m ≡ suc (g + m)
@@ -69,8 +70,9 @@ cleared-twice n out = ap (λ (l : List ℕ). replicate n 0 ++ l) (drop-at (repli
 
 -- the ticks without a cycle need no byte written
 pub going-idle : {q0 k : ℕ} {all : Strip} {out₀ out : List ℕ} {n done : ℕ} {at : Point} {r : ℕ} {w : Work} → out₀ ≡ clearedOf n out₀
-    → Going q0 k all out₀ out done at r w → isNothing w ≡ false → n ≤ k → (g : ℕ) → done + g ≤ n → r + g * feedOf w < q0
-    → Going q0 k all out₀ out (done + g) at (r + g * feedOf w) w
+    → Going q0 k all out₀ out done at r w → isNothing w ≡ false → n ≤ k
+    → (g : ℕ) → done + g ≤ n → (1 ≤ g → r + g * addedOf w < dueOf q0 at w)
+    → Going q0 k all out₀ out (done + g) at (r + g * addedOf w) w
 unfolding after clearedOf
 going-idle {q0} {k} {all} {out₀} {out} {n} {done} {at} {r} {w} clear i busy short g here h =
     record {
@@ -82,7 +84,7 @@ going-idle {q0} {k} {all} {out₀} {out} {n} {done} {at} {r} {w} clear i busy sh
           i .so-far
           ∙ ap (after (take done out)) (ap (λ (j : ℕ). stripOf q0 j at r w) split ∙ strip-idle q0 at w busy g (k - (done + g)) r h)
           ∙ after-after (take done out) (replicate g 0) _
-          ∙ ap (λ (bs : List ℕ). after bs (stripOf q0 (k - (done + g)) at (r + g * feedOf w) w)) (sym taken);
+          ∙ ap (λ (bs : List ℕ). after bs (stripOf q0 (k - (done + g)) at (r + g * addedOf w) w)) (sym taken);
     }
   where
     split : k - done ≡ g + (k - (done + g))

@@ -1,83 +1,78 @@
 -- The cycles that are left to the block's end, and the ticks that they take: the bytes to write are known before the first.
-use mathlib.Core.Path.{_≡_}
+use mathlib.Core.Path.{_≡_, ap}
 use Prim.Native.Nat.{ℕ, zero, suc, _+_, _-_, _*_, _≤_, _<_, min}
-use native.Mathlib.Nat.{lt-of-mul-lt-mul-right, mul-le-mul-right, lt-of-not-le}
+use native.Mathlib.Nat.{mul-le-mul-right}
 use native.Mathlib.Omega.{arith}
-use Rattle.divider.specs.Divider.{endTick}
-use Rattle.divider.specs.laws.End.{Ends, end-tick}
+use Rattle.divider.specs.Divider.{lastTick}
+use Rattle.divider.specs.laws.Last.{Due, Ends, unique, last-tick, end-one, end-more}
 use Rattle.run.specs.declared.gap.Gap.{Gap}
-use Rattle.run.specs.laws.Gap.{Due}
+use Rattle.run.specs.laws.Gap.{DueGap}
 
--- of a run of at most `most` ticks that writes n bytes, `done` are done and k cycles are left: before the tick `last` none ends the block, and where
--- n is one more its last tick does
-pub record Left (q0 f most last n done k r : ℕ) : Type 0 where
+-- of a run of at most `most` ticks that writes n bytes, `done` are done and k cycles are left, whose dues add up to `due`: they end `end`
+-- ticks on, before the tick `last` none ends the block, and where n is one more its last tick does
+pub record Left (a most last n done due k r : ℕ) : Type 0 where
+  pub end : ℕ
+  pub ends : Ends due a r k end
   pub here : done ≤ last
   pub short : n ≤ most
   pub low : last ≤ n
-  pub high : n ≤ last + 1
-  pub before : r + last * f < k * q0 + done * f
-  pub at-end : last < n → k * q0 + done * f ≤ r + n * f
-  pub all : n ≤ last → n ≡ most
+  pub is-last : last ≡ min most (done + end - 1)
+  pub is-n : n ≡ min most (done + end)
 
-pub left-start : (q0 f most r k : ℕ) → 1 ≤ f → r < k * q0 → Left q0 f most (min most (endTick q0 f r k - 1)) (min most (endTick q0 f r k)) 0 k r
-left-start q0 f most r k some due = by (endTick q0 f r k) (end-tick q0 f r k some due)
+pub left-start : (a most due r k : ℕ) → 1 ≤ a → 1 ≤ k
+    → Left a most (min most (lastTick due a r k - 1)) (min most (lastTick due a r k)) 0 due k r
+left-start a most due r k some cycles = by (lastTick due a r k) (last-tick due a r k some)
   where
-    by : (t : ℕ) → Ends q0 f r k t → Left q0 f most (min most (t - 1)) (min most t) 0 k r
-    by zero e = absurd (omega (arith, e .reached))
-    by (suc t) e =
-        let before : r + t * f < k * q0 = lt-of-not-le (λ g. let h = e .first t g in omega arith) in
-        let least : min most (suc t - 1) ≤ t = omega arith in
-        record {
-          here = omega arith;
-          short = omega arith;
-          low = omega arith;
-          high = omega arith;
-          before = omega (arith, mul-le-mul-right f least);
-          at-end = λ h. let same : min most (suc t) ≡ suc t = omega arith in rw same (omega (arith, e .reached));
-          all = λ h. omega arith;
-        }
+    by : (t : ℕ) → Ends due a r k t → Left a most (min most (t - 1)) (min most t) 0 due k r
+    by t e =
+        record { end = t; ends = e; here = omega arith; short = omega arith; low = omega arith; is-last = omega arith; is-n = omega arith }
 
-module _ {q0 f most last n done k r : ℕ} {g : Gap} (d : Due q0 f r g) (l : Left q0 f most last n done (suc k) r) where
+-- the next cycle has the due d, and the k after it add up to D
+module _ {a most last n done d D k r : ℕ} {g : Gap} (some : 1 ≤ a) (x : DueGap d a r g) (each : k * a ≤ D) (none : k ≡ 0 → D ≡ 0)
+    (l : Left a most last n done (d + D) (suc k) r) where
+  one : k ≡ 0 → l .end ≡ g .ticks + 1
+  one z =
+      let e = l .ends in
+      let alone : Ends d a r 1 (l .end) = record {
+        enough = omega (arith, e .enough);
+        reached = omega (arith, e .reached, none z);
+        first = λ s h j. e .first s (omega arith) (omega (arith, none z));
+      } in
+      unique alone (end-one x)
+
+  more : l .end ≡ g .ticks + 1 + lastTick D a (g .remainder) k
+  more = unique (l .ends) (end-more x each (last-tick D a (g .remainder) k some))
+
   -- a cycle before the tick `last` leaves one at least
   module _ (h : done + g .ticks < last) where
-    feeds : (done + g .ticks + 1) * f ≤ last * f
-    feeds = let next : done + g .ticks + 1 ≤ last = omega arith in mul-le-mul-right f next
-
     pub left-some : 1 ≤ k
-    left-some = lt-of-mul-lt-mul-right q0 {m = 0} {n = k} (omega (arith, d .remainder, l .before, feeds))
+    left-some = by k one
+      where
+        by : (k : ℕ) → (k ≡ 0 → l .end ≡ g .ticks + 1) → 1 ≤ k
+        by zero o = absurd (omega (arith, o (omega arith), l .is-last))
+        by (suc k) o = omega arith
 
-    pub left-turn : Left q0 f most last n (done + g .ticks + 1) k (g .remainder)
+    pub left-turn : Left a most last n (done + g .ticks + 1) D k (g .remainder)
     left-turn = record {
+      end = lastTick D a (g .remainder) k;
+      ends = last-tick D a (g .remainder) k some;
       here = omega arith;
       short = l .short;
       low = l .low;
-      high = l .high;
-      before = omega (arith, d .remainder, l .before);
-      at-end = λ m. omega (arith, d .remainder, l .at-end m);
-      all = l .all;
+      is-last = omega (arith, l .is-last, more);
+      is-n = omega (arith, l .is-n, more);
     }
 
   -- with none before it the n ticks are all that was asked ..
-  pub left-out : n ≤ last → last ≤ done + g .ticks → (n ≡ most) × (r + (n - done) * f < q0)
-  left-out m h = (l .all m, omega (arith, d .before, mul-le-mul-right f ahead))
+  pub left-out : n ≤ last → last ≤ done + g .ticks → (n ≡ most) × (1 ≤ n - done → r + (n - done) * a < d)
+  left-out m h =
+      (omega (arith, l .is-n, l .is-last, l .ends .enough), λ j. omega (arith, x .before (omega (arith, ahead)), mul-le-mul-right a ahead))
     where
       ahead : n - done ≤ g .ticks
       ahead = omega (arith, l .low)
 
   -- .. or it is the one that ends the block
-  pub left-end : f ≤ q0 → last < n → last ≤ done + g .ticks → (done + g .ticks ≡ last) × (done + g .ticks + 1 ≡ n) × (k ≡ 0)
-  left-end feed m h = (at-last, omega (arith, at-last, in-time, l .high), none)
-    where
-      in-time : done + g .ticks < n
-      in-time = lt-of-mul-lt-mul-right f {m = done + g .ticks} {n = n} (omega (arith, d .before, l .at-end m))
-
-      at-last : done + g .ticks ≡ last
-      at-last = omega (arith, in-time, l .high)
-
-      ticks : n * f ≤ (done + g .ticks + 1) * f
-      ticks = let one : n ≤ done + g .ticks + 1 = omega (arith, l .high) in mul-le-mul-right f one
-
-      none : k ≡ 0
-      none =
-          let below : k < 1 = lt-of-mul-lt-mul-right q0 {m = k} {n = 1} (omega (arith, d .before, d .remainder, l .at-end m, ticks)) in
-          omega arith
+  pub left-end : last < n → last ≤ done + g .ticks → (done + g .ticks ≡ last) × (done + g .ticks + 1 ≡ n) × (k ≡ 0)
+  left-end m h =
+      let t = last-tick D a (g .remainder) k some .enough in
+      omega (arith, l .is-n, l .is-last, l .ends .enough, more, t)

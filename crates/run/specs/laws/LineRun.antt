@@ -2,7 +2,7 @@
 use mathlib.Core.Path.{_≡_, refl, ap, _∙_}
 use mathlib.Core.Bool.{Bool, true, false}
 use mathlib.Core.List.{List}
-use Prim.Native.Nat.{ℕ, _+_, _^_, _≤_, _<_}
+use Prim.Native.Nat.{ℕ, _+_, _*_, _^_, _≤_, _<_}
 use native.Mathlib.Omega.{arith}
 use lib.Dec.{eqb}
 use lib.ListN.{set}
@@ -75,7 +75,8 @@ module _ {q0 most : ℕ} {all : Strip} {out₀ out : List ℕ} {last n : ℕ} (l
       cycle-is {ended = ended} end byte =
           line-cycle (lineAfter l c) refl (line-ended (lineAfter l c) end) (byte ∙ ap (λ (p : Pulses). cycleByte p ended) pulses-are)
 
-      pub line-on : g .ticks < last → {byte : ℕ} → byte ≡ cycleByte (a .pulses) false → {next : Gap} → next ≡ nextGap q0 (l .feed) g
+      pub line-on : g .ticks < last → {byte : ℕ} → byte ≡ cycleByte (a .pulses) false
+          → {next : Gap} → next ≡ nextGap (1000 * q0) (1000 * l .feed) g
           → Cycling q0 (l .feed) most all out₀ (set out (g .ticks) byte) last n (pointAfter l (c + 1)) (Work.Line (lineAfter l (c + 1))) next × (a .stepper ≡ stepperOf (lineAfter l (c + 1)))
       unfolding steppedOf
       line-on h byte gap = (cycling-on s h (cycle-is (goes-on s h) byte) gap, ap (λ (x : Advanced). x .stepper) next-is)

@@ -1,23 +1,26 @@
--- What the ticks of a run come to: on the end tick the block's end, before it as many cycles as the feeds pay.
+-- What the ticks of a run come to: on the end tick the block's end, before it as many cycles as the sum pays, at most one a tick.
 use mathlib.Core.Path.{_≡_, refl, sym, ap, subst, _∙_}
 use mathlib.Core.Bool.{Bool, true, false}
 use Prim.Native.Nat.{ℕ, zero, suc, _+_, _-_, _*_, _≤_, _<_}
 use native.Mathlib.Nat.{le-of-suc-le-suc}
+use native.Mathlib.Decide.{decLe}
 use native.Mathlib.Omega.{arith}
 use lib.Dec.{T, leb}
 use lib.ListN.{length}
 use borrow.Author.Tests.{leb-true, leb-false}
 use Rattle.plane.specs.declared.point.Point.{Point}
-use Rattle.divider.specs.Divider.{endTick, remainderAfter, cyclesIn}
-use Rattle.divider.specs.laws.Ticks.{ticks}
-use Rattle.divider.specs.laws.End.{Ends, end-tick, not-before}
+use Rattle.divider.specs.declared.Gone.{Gone}
+use Rattle.divider.specs.Divider.{goneOf, lastTick}
+use Rattle.divider.specs.laws.Ticks.{total, Ticked, ticked}
+use Rattle.divider.specs.laws.Front.{ticked-none, ticked-idle, ticked-cycle}
+use Rattle.divider.specs.laws.Last.{Ends, last-tick, not-before}
 use Rattle.work.specs.declared.Work.{Work}
-use Rattle.work.specs.Work.{isNothing, cycleOf, feedOf, cyclesLeft, endOf}
-use Rattle.work.specs.Rest.{reachedOf}
-use Rattle.work.specs.laws.Rest.{reached-none, reached-next}
+use Rattle.work.specs.Work.{isNothing, cycleOf, dueOf, addedOf, cyclesLeft, chargesLeft, endOf}
+use Rattle.work.specs.laws.Charge.{due-range}
+use Rattle.work.specs.laws.Rest.{reachedOf, duesOf, reached-none, reached-next, dues-first, dues-next, dues-for}
 use Rattle.run.specs.Run.{Strip, stripOf, SoundIn}
 use Rattle.run.specs.laws.Sound.{waiting, still-sound}
-use Rattle.run.specs.laws.Cycles.{in-work, cycle-counts, same-feed, same-end, due-later}
+use Rattle.run.specs.laws.Cycles.{in-work, cycle-counts, cycle-pays, each-pays, none-pays, added-some, same-feed, same-end}
 use Rattle.run.specs.laws.Idle.{idle-tick, cycle-tick}
 
 nothing : (w : Work) → isNothing w ≡ true → w ≡ Work.Nothing
@@ -31,22 +34,34 @@ nothing (Work.Arc a) e = absurd (subst T (sym e) tt)
 pub record Ended (q0 : ℕ) (at : Point) (r : ℕ) (w : Work) (t : ℕ) (s : Strip) : Type 0 where
   pub ticks : length (s .bytes) ≡ t
   pub reached : s .at ≡ endOf at w
-  pub adds-up : cyclesLeft at w * q0 + s .remainder ≡ r + t * feedOf w
+  pub adds-up : chargesLeft at w * q0 + s .remainder ≡ r + t * addedOf w
   pub idle : s .work ≡ Work.Nothing
   pub ended : s .ended ≡ true
 
--- the end tick, one tick later
-module _ (q0 f r k t : ℕ) (e : Ends q0 f r k (suc t)) where
-  ends-idle : Ends q0 f (r + f) k t
-  ends-idle = record { reached = omega (arith, e .reached); first = λ s h. le-of-suc-le-suc (e .first (suc s) (omega arith)) }
+-- the end tick, one tick later: the next cycle has the due d, and the j after it together D
+module _ (d D a r j t : ℕ) (each : j * a ≤ D) (e : Ends (d + D) a r (suc j) (suc t)) where
+  ends-idle : r + a < d → Ends (d + D) a (r + a) (suc j) t
+  ends-idle low =
+      record {
+        enough = by (decLe (suc j) t);
+        reached = omega (arith, e .reached);
+        first = λ s k h. le-of-suc-le-suc (e .first (suc s) (omega arith) (omega arith));
+      }
+    where
+      by : Dec (suc j ≤ t) → suc j ≤ t
+      by (yes h) = h
+      by (no f) = let same : j ≡ t = omega (arith, e .enough) in absurd (omega (arith, e .reached, ap (λ (n : ℕ). n * a) same))
 
-  ends-cycle : (j g rest : ℕ) → k ≡ suc j → g ≡ f → rest + q0 ≡ r + f → Ends q0 g rest j t
-  ends-cycle j g rest one feed fed =
-      let all = ap (λ (c : ℕ). c * q0) one in
-      rw feed (record { reached = omega (arith, e .reached); first = λ s h. le-of-suc-le-suc (e .first (suc s) (omega arith)) })
+  module _ (rest : ℕ) (fed : d + rest ≡ r + a) where
+    ends-cycle : Ends D a rest j t
+    ends-cycle = record {
+      enough = omega (arith, e .enough);
+      reached = omega (arith, e .reached);
+      first = λ s k h. le-of-suc-le-suc (e .first (suc s) (omega arith) (omega arith));
+    }
 
-  ends-now : k ≡ 1 → q0 ≤ r + f → t ≡ 0
-  ends-now one due = let all = ap (λ (c : ℕ). c * q0) one in omega (arith, e .first 1 (omega arith))
+    ends-now : j ≡ 0 → D ≡ 0 → t ≡ 0
+    ends-now none nothing-due = omega (arith, e .first 1 (omega arith) (omega arith))
 
 -- ---- as far as the ticks go
 
@@ -61,21 +76,21 @@ pub record Short (at : Point) (w : Work) (t c rest : ℕ) (s : Strip) : Type 0 w
 
 module _ {q0 : ℕ} {at : Point} {r : ℕ} {w : Work} (i : SoundIn q0 at r w) (n t : ℕ) where
   -- a tick without a cycle, and the rest
-  ended-idle : r + feedOf w < q0 → Ended q0 at (r + feedOf w) w t (stripOf q0 n at (r + feedOf w) w)
+  ended-idle : r + addedOf w < dueOf q0 at w → Ended q0 at (r + addedOf w) w t (stripOf q0 n at (r + addedOf w) w)
       → Ended q0 at r w (suc t) (stripOf q0 (suc n) at r w)
   unfolding stripOf
   ended-idle h s =
       rw (idle-tick q0 at r w h, i .busy)
       (record { ticks = ap suc (s .ticks); reached = s .reached; adds-up = omega (arith, s .adds-up); idle = s .idle; ended = s .ended })
 
-  short-idle : (c rest : ℕ) → r + feedOf w < q0 → Short at w t c rest (stripOf q0 n at (r + feedOf w) w)
+  short-idle : (c rest : ℕ) → r + addedOf w < dueOf q0 at w → Short at w t c rest (stripOf q0 n at (r + addedOf w) w)
       → Short at w (suc t) c rest (stripOf q0 (suc n) at r w)
   unfolding stripOf
   short-idle c rest h s =
       rw (idle-tick q0 at r w h, i .busy)
       (record { ticks = ap suc (s .ticks); reached = s .reached; left-over = s .left-over; ended = s .ended })
 
-  module _ (now : ℕ) (fed : now + q0 ≡ r + feedOf w) where
+  module _ (now : ℕ) (fed : dueOf q0 at w + now ≡ r + addedOf w) where
     -- a tick with a cycle that is not the last, and the rest
     ended-cycle : (let c = cycleOf at w in
         isNothing (c .work) ≡ false → Ended q0 (c .at) now (c .work) t (stripOf q0 n (c .at) now (c .work))
@@ -83,12 +98,11 @@ module _ {q0 : ℕ} {at : Point} {r : ℕ} {w : Work} (i : SoundIn q0 at r w) (n
     unfolding stripOf
     ended-cycle more s =
         let feed = same-feed at w more in
-        let left = cycle-counts i in
-        rw (← cycle-tick q0 at r w {rest = now} {c = cycleOf at w} (omega arith) fed refl, more)
+        rw (← cycle-tick q0 at r w {rest = now} {c = cycleOf at w} fed refl, more)
         (record {
           ticks = ap suc (s .ticks);
           reached = s .reached ∙ same-end i;
-          adds-up = omega (arith, s .adds-up, ap (λ (k : ℕ). k * q0) left, ap (λ (f : ℕ). t * f) feed);
+          adds-up = omega (arith, s .adds-up, cycle-pays i, ap (λ (f : ℕ). t * (1000 * f)) feed);
           idle = s .idle;
           ended = s .ended;
         })
@@ -98,7 +112,7 @@ module _ {q0 : ℕ} {at : Point} {r : ℕ} {w : Work} (i : SoundIn q0 at r w) (n
         → Short at w (suc t) (suc c) rest (stripOf q0 (suc n) at r w))
     unfolding stripOf
     short-cycle c rest more s =
-        rw (← cycle-tick q0 at r w {rest = now} {c = cycleOf at w} (omega arith) fed refl, more)
+        rw (← cycle-tick q0 at r w {rest = now} {c = cycleOf at w} fed refl, more)
         (record { ticks = ap suc (s .ticks); reached = s .reached ∙ reached-next at w c more; left-over = s .left-over; ended = s .ended })
 
     -- the tick with the last cycle
@@ -107,105 +121,140 @@ module _ {q0 : ℕ} {at : Point} {r : ℕ} {w : Work} (i : SoundIn q0 at r w) (n
     only-cycle none at-once =
         let c = cycleOf at w in
         let gone = nothing (c .work) none in
-        let left = cycle-counts i ∙ ap (λ (v : Work). suc (cyclesLeft (c .at) v)) gone in
-        rw (← cycle-tick q0 at r w {rest = now} {c = c} (omega arith) fed refl, none)
+        let paid = cycle-pays i ∙ ap (λ (v : Work). dueOf q0 at w + chargesLeft (c .at) v * q0) gone in
+        rw (← cycle-tick q0 at r w {rest = now} {c = c} fed refl, none)
         (record {
           ticks = ap suc (sym at-once);
           reached = sym (ap (endOf (c .at)) gone) ∙ same-end i;
-          adds-up = omega (arith, ap (λ (k : ℕ). k * q0) left, ap (λ (j : ℕ). j * feedOf w) at-once);
+          adds-up = omega (arith, paid, ap (λ (j : ℕ). j * addedOf w) at-once);
           idle = gone;
           ended = refl;
         })
 
 -- ---- all ticks
 
-pub strip-ends : {q0 : ℕ} (n t : ℕ) {at : Point} {r : ℕ} {w : Work} → SoundIn q0 at r w → Ends q0 (feedOf w) r (cyclesLeft at w) t → t ≤ n
-    → Ended q0 at r w t (stripOf q0 n at r w)
-strip-ends n zero i e h = absurd (omega (arith, e .reached, due-later i))
+-- the charges left, parted: those of the next cycle and of the cycles after it
+parted : {q0 : ℕ} {at : Point} {r : ℕ} {w : Work} (i : SoundIn q0 at r w) {t : ℕ} → (let c = cycleOf at w in
+    Ends (chargesLeft at w * q0) (addedOf w) r (cyclesLeft at w) t
+    → Ends (dueOf q0 at w + chargesLeft (c .at) (c .work) * q0) (addedOf w) r (suc (cyclesLeft (c .at) (c .work))) t)
+parted i e = rw (cycle-pays i, cycle-counts i) at e
+
+pub strip-ends : {q0 : ℕ} (n t : ℕ) {at : Point} {r : ℕ} {w : Work} → SoundIn q0 at r w
+    → Ends (chargesLeft at w * q0) (addedOf w) r (cyclesLeft at w) t → t ≤ n → Ended q0 at r w t (stripOf q0 n at r w)
+strip-ends n zero i e h = absurd (omega (arith, e .enough, in-work i .some))
 strip-ends zero (suc t) i e h = absurd (omega arith)
 strip-ends {q0} (suc n) (suc t) {at} {r} {w} i e h =
-    by (leb q0 (r + feedOf w)) refl (isNothing (cycleOf at w .work)) refl
+    by (leb (dueOf q0 at w) (r + addedOf w)) refl (isNothing (cycleOf at w .work)) refl
     (λ at r w i e. strip-ends n t {at = at} {r = r} {w = w} i e (le-of-suc-le-suc h))
   where
-    by : (due : Bool) → leb q0 (r + feedOf w) ≡ due → (last : Bool) → isNothing (cycleOf at w .work) ≡ last
-        → ((at : Point) (r : ℕ) (w : Work) → SoundIn q0 at r w → Ends q0 (feedOf w) r (cyclesLeft at w) t
+    by : (due : Bool) → leb (dueOf q0 at w) (r + addedOf w) ≡ due → (last : Bool) → isNothing (cycleOf at w .work) ≡ last
+        → ((at : Point) (r : ℕ) (w : Work) → SoundIn q0 at r w → Ends (chargesLeft at w * q0) (addedOf w) r (cyclesLeft at w) t
         → Ended q0 at r w t (stripOf q0 n at r w))
         → Ended q0 at r w (suc t) (stripOf q0 (suc n) at r w)
     by false late last is rest =
-        let below = leb-false q0 (r + feedOf w) late in
-        ended-idle i n t below (rest at (r + feedOf w) w (waiting i (r + feedOf w) below) (ends-idle _ _ _ _ _ e))
+        let below = leb-false (dueOf q0 at w) (r + addedOf w) late in
+        let sound : r + addedOf w < 1414 * q0 = omega (arith, due-range q0 at w .1) in
+        let left = ends-idle _ _ _ _ _ _ (each-pays i) (parted i e) below in
+        ended-idle i n t below (rest at (r + addedOf w) w (waiting i (r + addedOf w) sound) (rw (cycle-pays i, cycle-counts i) left))
     by true due false more rest =
-        let over = leb-true q0 (r + feedOf w) due in
+        let over = leb-true (dueOf q0 at w) (r + addedOf w) due in
         let c = cycleOf at w in
-        let fed : (r + feedOf w - q0) + q0 ≡ r + feedOf w = omega arith in
-        let next = still-sound i (cycle-tick q0 at r w over fed refl) more in
-        ended-cycle i n t (r + feedOf w - q0) fed more
-        (rest (c .at) (r + feedOf w - q0) (c .work) next (ends-cycle _ _ _ _ _ e _ _ _ (cycle-counts i) (same-feed at w more) fed))
+        let now = r + addedOf w - dueOf q0 at w in
+        let fed : dueOf q0 at w + now ≡ r + addedOf w = omega arith in
+        let next = still-sound i (cycle-tick q0 at r w fed refl) more in
+        ended-cycle i n t now fed more
+        (rest (c .at) now (c .work) next (rw (same-feed at w more) (ends-cycle _ _ _ _ _ _ (each-pays i) (parted i e) now fed)))
     by true due true none rest =
-        let over = leb-true q0 (r + feedOf w) due in
+        let over = leb-true (dueOf q0 at w) (r + addedOf w) due in
         let c = cycleOf at w in
-        let fed : (r + feedOf w - q0) + q0 ≡ r + feedOf w = omega arith in
-        only-cycle i n t (r + feedOf w - q0) fed none
-        (ends-now _ _ _ _ _ e (cycle-counts i ∙ ap (λ (v : Work). suc (cyclesLeft (c .at) v)) (nothing (c .work) none)) over)
+        let now = r + addedOf w - dueOf q0 at w in
+        let fed : dueOf q0 at w + now ≡ r + addedOf w = omega arith in
+        let gone : cyclesLeft (c .at) (c .work) ≡ 0 = ap (cyclesLeft (c .at)) (nothing (c .work) none) in
+        only-cycle i n t now fed none (ends-now _ _ _ _ _ _ (each-pays i) (parted i e) now fed gone (none-pays i gone))
 
--- the cycles and what is left over, without division
-pub record Parted (q0 f r t c rest : ℕ) : Type 0 where
-  pub adds-up : c * q0 + rest ≡ r + t * f
-  pub below : rest < q0
+-- ---- before the end, by the divider's count
 
--- no tick: no cycle
-parted-none : {q0 f r c rest : ℕ} → r < q0 → Parted q0 f r 0 c rest → (c ≡ 0) × (rest ≡ r)
-parted-none {c = zero} low p = (refl, omega (arith, p .adds-up))
-parted-none {c = suc c} low p = absurd (omega (arith, p .adds-up))
+-- a tick adds no more than any due
+pub each-due : {q0 : ℕ} {at : Point} {r : ℕ} {w : Work} → SoundIn q0 at r w → (c : ℕ) → addedOf w ≤ duesOf q0 at w c
+each-due {q0} {at} {w = w} i c =
+    omega (arith, in-work i .feed .most, due-range q0 (reachedOf at w c .at) (reachedOf at w c .work) .0)
 
-pub strip-short : {q0 : ℕ} (t c rest : ℕ) {at : Point} {r : ℕ} {w : Work} → SoundIn q0 at r w → Parted q0 (feedOf w) r t c rest
-    → c < cyclesLeft at w → Short at w t c rest (stripOf q0 t at r w)
-unfolding stripOf
-strip-short {q0} zero c rest {at} {r} {w} i p h =
-    let none = parted-none (i .below) p in
+abbrev TicksOf : (q0 : ℕ) (at : Point) (r : ℕ) (w : Work) → SoundIn q0 at r w → (t : ℕ) → Gone → Type 0
+TicksOf q0 at r w i t g = Ticked (duesOf q0 at w) (addedOf w) (added-some i) (each-due i) r t g
+
+pub strip-short : {q0 : ℕ} (t : ℕ) (g : Gone) {at : Point} {r : ℕ} {w : Work} (i : SoundIn q0 at r w) → TicksOf q0 at r w i t g
+    → g .cycles < cyclesLeft at w → Short at w t (g .cycles) (g .remainder) (stripOf q0 t at r w)
+unfolding stripOf total
+strip-short {q0} zero g {at} {r} {w} i p h =
+    let none = ticked-none (duesOf q0 at w) (addedOf w) (added-some i) (each-due i) p in
     let there = sym (ap (reachedOf at w) (none .0) ∙ reached-none q0 (i .travel) at w (i .sound)) in
     record { ticks = refl; reached = there; left-over = sym (none .1); ended = refl }
-strip-short {q0} (suc t) c rest {at} {r} {w} i p h =
-    by (leb q0 (r + feedOf w)) refl (isNothing (cycleOf at w .work)) refl c p h
-    (λ c at r w i p h. strip-short t c rest {at = at} {r = r} {w = w} i p h)
+strip-short {q0} (suc t) g {at} {r} {w} i p h =
+    by (leb (dueOf q0 at w) (r + addedOf w)) refl (isNothing (cycleOf at w .work)) refl
+    (λ g at r w i p h. strip-short t g {at = at} {r = r} {w = w} i p h)
   where
-    by : (due : Bool) → leb q0 (r + feedOf w) ≡ due → (last : Bool) → isNothing (cycleOf at w .work) ≡ last
-        → (c : ℕ) → Parted q0 (feedOf w) r (suc t) c rest → c < cyclesLeft at w
-        → ((c : ℕ) (at : Point) (r : ℕ) (w : Work) → SoundIn q0 at r w → Parted q0 (feedOf w) r t c rest → c < cyclesLeft at w
-        → Short at w t c rest (stripOf q0 t at r w))
-        → Short at w (suc t) c rest (stripOf q0 (suc t) at r w)
-    by false late last is c p h more =
-        let below = leb-false q0 (r + feedOf w) late in
-        let same : Parted q0 (feedOf w) (r + feedOf w) t c rest = record { adds-up = omega (arith, p .adds-up); below = p .below } in
-        short-idle i t t c rest below (more c at (r + feedOf w) w (waiting i (r + feedOf w) below) same h)
-    by true due last is zero p h more = absurd (omega (arith, leb-true q0 (r + feedOf w) due, p .adds-up, p .below))
-    by true due false goes (suc c) p h more =
-        let over = leb-true q0 (r + feedOf w) due in
+    first : duesOf q0 at w 0 ≡ dueOf q0 at w
+    first = dues-first q0 at (i .travel) w (i .sound)
+
+    by : (due : Bool) → leb (dueOf q0 at w) (r + addedOf w) ≡ due → (last : Bool) → isNothing (cycleOf at w .work) ≡ last
+        → ((g : Gone) (at : Point) (r : ℕ) (w : Work) (i : SoundIn q0 at r w) → TicksOf q0 at r w i t g → g .cycles < cyclesLeft at w
+        → Short at w t (g .cycles) (g .remainder) (stripOf q0 t at r w))
+        → Short at w (suc t) (g .cycles) (g .remainder) (stripOf q0 (suc t) at r w)
+    by false late last is more =
+        let below = leb-false (dueOf q0 at w) (r + addedOf w) late in
+        let sound : r + addedOf w < 1414 * q0 = omega (arith, due-range q0 at w .1) in
+        let q = ticked-idle (duesOf q0 at w) (addedOf w) (added-some i) (each-due i) p (omega (arith, first)) in
+        let same : TicksOf q0 at (r + addedOf w) w (waiting i (r + addedOf w) sound) t g =
+        record { most = q .most; adds-up = q .adds-up; below = q .below } in
+        short-idle i t t (g .cycles) (g .remainder) below (more g at (r + addedOf w) w (waiting i (r + addedOf w) sound) same h)
+    by true due false goes more =
+        let over = leb-true (dueOf q0 at w) (r + addedOf w) due in
         let d = cycleOf at w in
-        let fed : (r + feedOf w - q0) + q0 ≡ r + feedOf w = omega arith in
-        let next = still-sound i (cycle-tick q0 at r w over fed refl) goes in
+        let now = r + addedOf w - dueOf q0 at w in
+        let fed : dueOf q0 at w + now ≡ r + addedOf w = omega arith in
+        let next = still-sound i (cycle-tick q0 at r w fed refl) goes in
         let feed = same-feed at w goes in
-        short-cycle i t t (r + feedOf w - q0) fed c rest goes
-        (more c (d .at) (r + feedOf w - q0) (d .work) next
-        (record { adds-up = omega (arith, p .adds-up, ap (λ (f : ℕ). t * f) feed); below = p .below })
-        (omega (arith, h, cycle-counts i)))
-    by true due true none (suc c) p h more =
+        let same : addedOf (d .work) ≡ addedOf w = ap (λ (f : ℕ). 1000 * f) feed in
+        let least : (c : ℕ) → addedOf w ≤ duesOf q0 (d .at) (d .work) c = λ c. omega (arith, same, each-due next c) in
+        let q =
+        ticked-cycle (duesOf q0 at w) (addedOf w) (added-some i) (each-due i) (duesOf q0 (d .at) (d .work)) least
+        (dues-next q0 at w goes) {now = now} p (omega (arith, first)) in
+        let rest : Gone = record { cycles = g .cycles - 1; remainder = g .remainder } in
+        let ticks : TicksOf q0 (d .at) now (d .work) next t rest =
+        record { most = q .1 .most; adds-up = omega (arith, q .1 .adds-up, ap (λ (x : ℕ). t * x) same); below = q .1 .below } in
+        let one : suc (g .cycles - 1) ≡ g .cycles = omega (arith, q .0) in
+        let onward = more rest (d .at) now (d .work) next ticks (omega (arith, h, cycle-counts i, one)) in
+        rw one at (short-cycle i t t now fed (g .cycles - 1) (g .remainder) goes onward)
+    by true due true none more =
         let d = cycleOf at w in
-        absurd (omega (arith, h, cycle-counts i ∙ ap (λ (v : Work). suc (cyclesLeft (d .at) v)) (nothing (d .work) none)))
+        let over = leb-true (dueOf q0 at w) (r + addedOf w) due in
+        let left = cycle-counts i ∙ ap (λ (v : Work). suc (cyclesLeft (d .at) v)) (nothing (d .work) none) in
+        absurd (some-cycle over (g .cycles) (omega (arith, h, left)) (p .adds-up) (p .below))
+      where
+        -- the due is reached, so there is a cycle
+        some-cycle : dueOf q0 at w ≤ r + addedOf w → (c : ℕ) → c < 1 → total (duesOf q0 at w) c + g .remainder ≡ r + suc t * addedOf w
+            → (c < suc t → g .remainder < duesOf q0 at w c) → ⊥
+        some-cycle over zero l e b = omega (arith, b (omega arith), first)
+        some-cycle over (suc c) l e b = omega arith
 
 -- ---- by the end tick and the divider's sums
 
 module _ {q0 : ℕ} {at : Point} {r : ℕ} {w : Work} (i : SoundIn q0 at r w) where
-  pub last-tick : Ends q0 (feedOf w) r (cyclesLeft at w) (endTick q0 (feedOf w) r (cyclesLeft at w))
-  last-tick = end-tick q0 (feedOf w) r (cyclesLeft at w) (in-work i .feed .some) (due-later i)
+  abbrev last : ℕ
+  last = lastTick (chargesLeft at w * q0) (addedOf w) r (cyclesLeft at w)
 
-  -- ticks whose feeds do not reach the last cycle
-  module _ (t : ℕ) (early : r + t * feedOf w < cyclesLeft at w * q0) where
-    pub cycles-fewer : cyclesIn q0 (feedOf w) r t < cyclesLeft at w
-    cycles-fewer = not-before q0 (feedOf w) r (in-work i .feed .most) (i .below) (cyclesLeft at w) t early
+  pub end-tick : Ends (chargesLeft at w * q0) (addedOf w) r (cyclesLeft at w) last
+  end-tick = last-tick (chargesLeft at w * q0) (addedOf w) r (cyclesLeft at w) (added-some i)
 
-    pub strip-early : Short at w t (cyclesIn q0 (feedOf w) r t) (remainderAfter q0 (feedOf w) r t) (stripOf q0 t at r w)
+  -- ticks before the last
+  module _ (t : ℕ) (early : t < last) where
+    pub cycles-fewer : goneOf (duesOf q0 at w) (addedOf w) r t .cycles < cyclesLeft at w
+    cycles-fewer =
+        let d = duesOf q0 at w in
+        not-before d (addedOf w) (added-some i) (each-due i) r (cyclesLeft at w) (in-work i .some) t
+        (rw (dues-for q0 at w (i .busy) (cyclesLeft at w)) early)
+
+    pub strip-early : (let g = goneOf (duesOf q0 at w) (addedOf w) r t in Short at w t (g .cycles) (g .remainder) (stripOf q0 t at r w))
     strip-early =
-        let p = ticks q0 (feedOf w) r t (in-work i .feed .most) (i .below) in
-        strip-short t (cyclesIn q0 (feedOf w) r t) (remainderAfter q0 (feedOf w) r t) i
-        (record { adds-up = p .adds-up; below = p .below }) cycles-fewer
+        let d = duesOf q0 at w in
+        strip-short t (goneOf d (addedOf w) r t) i (ticked d (addedOf w) (added-some i) (each-due i) r t) cycles-fewer

@@ -15,7 +15,7 @@ use Rattle.machine.specs.declared.Machine.{Machine}
 use Rattle.line.specs.Line.{steppedOf}
 use Rattle.arc.specs.Arc.{arcStepped}
 use Rattle.divider.specs.Divider.{fedOf}
-use Rattle.work.specs.Work.{isNothing, following, lineCycle, arcCycle, cycleOf, feedOf, advanceBy, advanceOf}
+use Rattle.work.specs.Work.{isNothing, following, lineCycle, arcCycle, cycleOf, dueOf, addedOf, advanceBy, advanceOf}
 use Rattle.run.specs.Run.{Strip, inFront, stripOf}
 use Rattle.work.specs.declared.Advance.{Advance}
 use Rattle.block.specs.declared.Block.{Block}
@@ -105,7 +105,7 @@ cycle-follows at (Work.Arc a) = by (equalPoint (arcStepped a at .at) (a .end))
 
 advance-follows : (q0 : ℕ) (at : Point) (r : ℕ) (w : Work) → Follows w (advanceOf q0 at r w .work)
 unfolding advanceOf
-advance-follows q0 at r w = by (fedOf q0 (feedOf w) r .cycle) (fedOf q0 (feedOf w) r .remainder)
+advance-follows q0 at r w = let f = fedOf (dueOf q0 at w) (addedOf w) r in by (f .cycle) (f .remainder)
   where
     by : (cycle : Bool) (left : ℕ) → Follows w (advanceBy at w (record { cycle = cycle; remainder = left }) .work)
     by true left = cycle-follows at w

@@ -8,6 +8,9 @@ use Rattle.work.proofs.work_tick.Tie as tie
 enum-told : tie.Need-enum-told
 enum-told c = search needs
 
+mul-add-feed : tie.Need-mul-add-feed
+mul-add-feed c = search needs
+
 add-feed-requires : tie.Need-add-feed-requires
 add-feed-requires c κs = search needs
 
@@ -15,13 +18,19 @@ enum-known-work : tie.Need-enum-known-work
 enum-known-work c = search needs
 
 line-tick-requires : tie.Need-line-tick-requires
-line-tick-requires c κs = rw (c .before .work .given .1) at (c .before .before .before .pre)
+line-tick-requires c κs =
+    let b = c .before .before .before in
+    let p = rw (c .before .work .given .1) at (b .pre .0) in
+    (p .0, p .1, b .pre .1)
 
 enum-known-work-2 : tie.Need-enum-known-work-2
 enum-known-work-2 c = search needs
 
 arc-tick-requires : tie.Need-arc-tick-requires
-arc-tick-requires c κs = rw (c .before .work2 .given .1) at (c .before .before .before .pre)
+arc-tick-requires c κs =
+    let b = c .before .before .before in
+    let p = rw (c .before .work2 .given .1) at (b .pre .0) in
+    (p .0, p .1, b .pre .1)
 
 returns : tie.Need-returns
 returns c =
@@ -39,6 +48,7 @@ work-tick-spec =
     tie.close
     (tie.spec
     enum-told
+    mul-add-feed
     add-feed-requires
     enum-known-work
     line-tick-requires

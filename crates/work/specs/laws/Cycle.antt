@@ -1,7 +1,7 @@
 -- A cycle and a tick, put together from what the code's calls give.
 use mathlib.Core.Path.{_≡_, refl, ap, _∙_}
 use mathlib.Core.Bool.{Bool, true, false}
-use Prim.Native.Nat.{ℕ, _≤_}
+use Prim.Native.Nat.{ℕ, _*_, _≤_}
 use lib.Dec.{eqb}
 use Rattle.plane.specs.declared.point.Point.{Point}
 use Rattle.plane.specs.Point.{equalPoint}
@@ -10,6 +10,7 @@ use Rattle.plane.specs.Byte.{cycleByte}
 use Rattle.line.specs.declared.line.Line.{Line}
 use Rattle.line.specs.declared.line.Stepped.{Stepped}
 use Rattle.line.specs.Line.{steppedOf}
+use Rattle.circle.specs.Charge.{diagonal}
 use Rattle.arc.specs.declared.arc.Arc.{Arc}
 use Rattle.arc.specs.declared.arc.Stepped.{Stepped as ArcStep}
 use Rattle.arc.specs.Arc.{arcStepped}
@@ -17,7 +18,7 @@ use Rattle.divider.specs.declared.Fed.{Fed}
 use Rattle.divider.specs.Divider.{fedOf}
 use Rattle.work.specs.declared.Work.{Work}
 use Rattle.work.specs.declared.Cycle.{Cycle}
-use Rattle.work.specs.Work.{following, lineCycle, arcCycle, cycleOf, feedOf, advanceBy, advanceOf}
+use Rattle.work.specs.Work.{following, lineCycle, arcCycle, cycleOf, dueOf, addedOf, advanceBy, advanceOf}
 
 -- the cycle of a step that ends its block or not
 abbrev pub cycleWith : (at : Point) (byte : ℕ) (ended : Bool) → Work → Cycle
@@ -44,7 +45,7 @@ arc-codes at a e = rw e (change-small _ _, change-small _ _)
 
 -- ---- a working tick
 
-module _ (q0 : ℕ) (at : Point) (r : ℕ) (w : Work) {f : Fed} (fed : f ≡ fedOf q0 (feedOf w) r) where
+module _ (q0 : ℕ) (at : Point) (r : ℕ) (w : Work) {f : Fed} (fed : f ≡ fedOf (dueOf q0 at w) (addedOf w) r) where
   pub tick-cycle : {c : Cycle} → f .cycle ≡ true → c ≡ cycleOf at w → record { at = c .at; remainder = f .remainder; byte = c .byte; work = c .work } ≡ advanceOf q0 at r w
   unfolding advanceOf
   tick-cycle {c} due cycle = taken c cycle ∙ ap (advanceBy at w) fed
@@ -60,7 +61,8 @@ module _ (q0 : ℕ) (at : Point) (r : ℕ) (w : Work) {f : Fed} (fed : f ≡ fed
       left = rw left-over
 
 -- with nothing in work a cycle is none
-pub tick-nothing : (q0 : ℕ) (at : Point) (r : ℕ) {f : Fed} → f ≡ fedOf q0 0 r → record { at = at; remainder = f .remainder; byte = 0; work = Work.Nothing } ≡ advanceOf q0 at r Work.Nothing
+pub tick-nothing : (q0 : ℕ) (at : Point) (r : ℕ) {f : Fed} → f ≡ fedOf (diagonal * q0) 0 r
+    → record { at = at; remainder = f .remainder; byte = 0; work = Work.Nothing } ≡ advanceOf q0 at r Work.Nothing
 unfolding advanceOf cycleOf
 tick-nothing q0 at r {f} fed = either (f .cycle) ∙ ap (advanceBy at Work.Nothing) fed
   where

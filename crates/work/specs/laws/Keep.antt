@@ -1,7 +1,7 @@
 -- A working tick keeps what is in work sound, and what is sound is ready for the next tick.
 use mathlib.Core.Path.{_≡_, refl, sym, subst, _∙_}
 use mathlib.Core.Bool.{Bool, true, false}
-use Prim.Native.Nat.{ℕ, _+_, _≤_, _<_}
+use Prim.Native.Nat.{ℕ, _+_, _*_, _≤_, _<_}
 use native.Mathlib.Omega.{arith}
 use lib.Dec.{T, eqb}
 use borrow.Author.Tests.{eqb-false}
@@ -14,20 +14,22 @@ use Rattle.line.specs.declared.line.Line.{Line}
 use Rattle.line.specs.Line.{steppedOf}
 use Rattle.line.specs.laws.Points.{point-inside}
 use Rattle.line.specs.laws.Work.{some-cycle, line-test}
+use Rattle.circle.specs.Charge.{diagonal}
 use Rattle.arc.specs.declared.arc.Arc.{Arc}
 use Rattle.arc.specs.Centre.{Wide}
 use Rattle.arc.specs.Arc.{arcAfter, arcStepped}
 use Rattle.arc.specs.laws.Work.{next-inside, on-arc, keeps}
 use Rattle.divider.specs.Divider.{fedOf}
-use Rattle.divider.specs.laws.Ticks.{tick}
+use Rattle.divider.specs.laws.Ticks.{tick, stays-below}
 use Rattle.work.specs.declared.Work.{Work}
-use Rattle.work.specs.Work.{workSound, following, lineCycle, arcCycle, cycleOf, feedOf, advanceBy, advanceOf, Ready}
+use Rattle.work.specs.Work.{workSound, following, lineCycle, arcCycle, cycleOf, feedOf, dueOf, addedOf, advanceBy, advanceOf, Ready}
+use Rattle.work.specs.laws.Charge.{due-range}
 use Rattle.work.specs.laws.Sound.{LineWork, line-work, line-sound, ArcWork, arc-work, arc-sound}
 
 -- what is in work, sound at a point and a remainder
 pub record SoundAt (q0 : ℕ) (t : Travel) (at : Point) (r : ℕ) (w : Work) : Type 0 where
   pub inside : Inside t at
-  pub below : r < q0
+  pub below : r < diagonal * q0
   pub sound : workSound q0 t at w ≡ true
 
 module _ (q0 : ℕ) (t : Travel) where
@@ -38,7 +40,7 @@ module _ (q0 : ℕ) (t : Travel) where
   feed-most at (Work.Arc a) e = arc-work e .feed .most
 
   -- what a tick of what is sound asks
-  pub ready : {at : Point} {r : ℕ} (w : Work) → Wide t → q0 ≤ 1200000 → SoundAt q0 t at r w → Ready at r w
+  pub ready : {at : Point} {r : ℕ} (w : Work) → Wide t → q0 ≤ 1200000000 → SoundAt q0 t at r w → Ready at r w
   unfolding workSound
   ready Work.Nothing wide small s = omega (arith, s .below)
   ready (Work.Line l) wide small s = let i = line-work (s .sound) in (line-test (i .line), omega (arith, s .below, i .feed .most))
@@ -93,10 +95,12 @@ module _ (q0 : ℕ) (t : Travel) where
   pub keeps-sound : {at : Point} {r : ℕ} (w : Work) → SoundAt q0 t at r w → SoundAt q0 t (advanceOf q0 at r w .at) (advanceOf q0 at r w .remainder) (advanceOf q0 at r w .work)
   unfolding advanceOf
   keeps-sound {at} {r} w s =
-      let f = fedOf q0 (feedOf w) r in
-      by (f .cycle) (f .remainder) (tick q0 (feedOf w) r (feed-most at w (s .sound)) (s .below) .below)
+      let f = fedOf (dueOf q0 at w) (addedOf w) r in
+      let d = due-range q0 at w in
+      by (f .cycle) (f .remainder)
+      (stays-below (diagonal * q0) (omega (arith, feed-most at w (s .sound), d .0)) (d .1) (s .below) (tick (dueOf q0 at w) (addedOf w) r))
     where
-      by : (cycle : Bool) (rest : ℕ) → rest < q0
+      by : (cycle : Bool) (rest : ℕ) → rest < diagonal * q0
           → let a = advanceBy at w (record { remainder = rest; cycle = cycle }) in SoundAt q0 t (a .at) (a .remainder) (a .work)
       by true rest below = let k = cycle-keeps w (s .inside) (s .sound) in record { inside = k .inside; below = below; sound = k .sound }
       by false rest below = record { inside = s .inside; below = below; sound = s .sound }

@@ -1,38 +1,44 @@
--- `run_arc` is right because each turn goes over a gap of cleared bytes to the next cycle, and n stands where the ticks or the arc end.
-use Rattle.run.proofs.arc_run.run_arc.Statement.{statement}
-use Rattle.run.proofs.arc_run.run_arc.Tie as tie
+-- `run_arc` is right because each turn goes over a gap of cleared bytes to the next cycle, of its own due, and n stands where the ticks or
+-- the arc end.
 use borrow.Author.Needs.{needs}
-use native.Mathlib.Omega.{arith}
 use mathlib.Core.Path.{_≡_, refl, sym, ap, subst, _∙_}
 use mathlib.Core.List.{List}
-use Prim.Native.Nat.{ℕ, _-_, _<_}
+use Prim.Native.Nat.{ℕ, _-_, _*_, _<_}
+use native.Mathlib.Omega.{arith}
 use lib.ListN.{length, length-set}
 use Rattle.plane.specs.declared.point.Point.{Point}
+use Rattle.circle.specs.Charge.{moveCharge}
 use Rattle.arc.specs.declared.arc.Arc.{Arc}
-use Rattle.arc.specs.Stepper.{arcTracer, tracerAt}
+use Rattle.arc.specs.declared.stepper.Tracer.{Tracer}
+use Rattle.arc.specs.Charge.{arcCharge}
+use Rattle.arc.specs.Stepper.{arcTracer, tracedOf, tracerAt}
 use Rattle.arc.specs.laws.Step.{circles}
 use Rattle.arc.specs.laws.Stepper.{tracer-at}
+use Rattle.arc.specs.laws.Charge.{tracer-charge}
 use Rattle.work.specs.declared.Work.{Work}
 use Rattle.run.specs.declared.gap.Gap.{Gap}
 use Rattle.run.specs.Run.{Strip, stripOf}
-use Rattle.run.specs.Gap.{nextGap, clearedOf}
+use Rattle.run.specs.Gap.{gapOf, nextGap, clearedOf}
 use Rattle.run.specs.laws.Going.{answers}
 use Rattle.run.specs.laws.Sound.{run-ready}
-use Rattle.run.specs.laws.Cycles.{in-work, end-range, gap-asks}
+use Rattle.run.specs.laws.Cycles.{in-work, end-range, added-some, feed-due, due-most, rest-most}
 use Rattle.run.specs.laws.Ending.{same-least, same-some, same-before}
-use Rattle.run.specs.laws.Cycling.{Cycling, cycling-start, cleared-long, feeds, out-asks, cycling-out}
-use Rattle.run.specs.laws.ArcRun.{StandsOn, arc-asks, arc-small, arc-on, arc-end}
+use Rattle.run.specs.laws.Cycling.{Cycling, cycling-start, cleared-long, gap-left, out-asks, cycling-out}
+use Rattle.run.specs.laws.ArcRun.{StandsOn, arc-asks, arc-small, charge-here, arc-on, arc-end}
+use Rattle.run.proofs.arc_run.run_arc.Statement.{statement}
+use Rattle.run.proofs.arc_run.run_arc.Tie as tie
 
 abbrev Inv-loop : tie.InvT-loop
-Inv-loop capacity remainder a most out₀ end n last whole gap₀ tracer₀ out gap tracer =
-    Cycling capacity (a .feed) most (stripOf capacity most (tracerAt (a .centre) tracer₀) remainder (Work.Arc a)) out₀ out last n (tracerAt (a .centre) tracer) (Work.Arc a) gap × StandsOn a tracer
+Inv-loop capacity remainder a most out₀ added end n last straight-whole diagonal-whole tracer₀ gap₀ out tracer gap =
+    Cycling capacity (a .feed) most (stripOf capacity most (tracerAt (a .centre) tracer₀) remainder (Work.Arc a)) out₀ out last n
+    (tracerAt (a .centre) tracer) (Work.Arc a) gap × StandsOn a tracer
 
 abbrev μ-loop : tie.MeasureT-loop
-μ-loop capacity remainder a most out₀ end n last whole gap₀ tracer₀ out gap tracer = last - gap .ticks
+μ-loop capacity remainder a most out₀ added end n last straight-whole diagonal-whole tracer₀ gap₀ out tracer gap = last - gap .ticks
 
 -- from the loop's head back: the start, the n bytes that the run writes, and the tick before which no cycle ends the arc
 abbrev start : tie.At-loop Inv-loop μ-loop → tie.Start Inv-loop μ-loop
-start l = l .before .before .before .before .before .before .before .before .before .before .before .before
+start l = l .before .before .before .before .before .before .before .before .before .before .before .before .before
 
 abbrev bytes : tie.At-loop Inv-loop μ-loop → ℕ
 bytes l = l .before .before .before .before .before .before .before .before .before .least .result
@@ -51,53 +57,92 @@ long l =
 in-time : (l : tie.At-loop Inv-loop μ-loop) {t : ℕ} → t < bytes l → t < length (l .loop .out)
 in-time l h = omega (arith, long l, start l .pre .1, l .loop .inv .0 .left .short)
 
--- the stepper begins at the point
-entered : (c : tie.After-enter Inv-loop μ-loop) → c .before .before .before .before .before .before .before .before .before .before .before .args .at ≡ tracerAt (c .before .before .before .before .before .before .before .before .before .before .before .args .a .centre) (c .enter .result)
+-- the tracer begins at the point, and knows the first charge
+abbrev entry : tie.After-enter Inv-loop μ-loop → tie.Start Inv-loop μ-loop
+entry c = c .before .before .before .before .before .before .before .before .before .before
+
+entered : (c : tie.After-enter Inv-loop μ-loop) → entry c .args .at ≡ tracerAt (entry c .args .a .centre) (c .enter .result)
 entered c =
-    let b = c .before .before .before .before .before .before .before .before .before .before .before in
+    let b = entry c in
     sym (ap (tracerAt (b .args .a .centre)) (c .enter .ensures) ∙ tracer-at (b .args .a) (b .args .at) (circles (run-ready (b .pre .0) .0)))
 
+first-charge : (c : tie.After-charge Inv-loop μ-loop) → (let s = entry (c .before) .args in c .charge .result ≡ arcCharge (s .a) (s .at))
+first-charge c =
+    let b = entry (c .before) in
+    c .charge .ensures
+    ∙ ap (λ (t : Tracer). moveCharge (t .next)) (c .before .enter .ensures)
+    ∙ tracer-charge (b .args .a) (b .args .at) (circles (run-ready (b .pre .0) .0))
+
 begins : {q0 f most : ℕ} (a : Arc) (r : ℕ) {out : List ℕ} {last n : ℕ} {at p : Point} {g : Gap} → at ≡ p
-    → Cycling q0 f most (stripOf q0 most at r (Work.Arc a)) out out last n at (Work.Arc a) g → Cycling q0 f most (stripOf q0 most p r (Work.Arc a)) out out last n p (Work.Arc a) g
-begins {q0} {f} {most} a r {out} {last} {n} {g = g} same i = subst (λ (x : Point). Cycling q0 f most (stripOf q0 most x r (Work.Arc a)) out out last n x (Work.Arc a) g) same i
+    → Cycling q0 f most (stripOf q0 most at r (Work.Arc a)) out out last n at (Work.Arc a) g
+    → Cycling q0 f most (stripOf q0 most p r (Work.Arc a)) out out last n p (Work.Arc a) g
+begins {q0} {f} {most} a r {out} {last} {n} {g = g} same i =
+    subst (λ (x : Point). Cycling q0 f most (stripOf q0 most x r (Work.Arc a)) out out last n x (Work.Arc a) g) same i
 
 abbrev strip : tie.Start Inv-loop μ-loop → Point → Strip
 strip c p = stripOf (c .args .capacity) (c .args .most) p (c .args .remainder) (Work.Arc (c .args .a))
 
+-- the charge after the loop
+last-charge : (c : tie.After-charge2 Inv-loop μ-loop) → (let l = c .before .before .before .before .before .before in
+    c .charge2 .result ≡ arcCharge (start l .args .a) (tracerAt (start l .args .a .centre) (l .loop .tracer)))
+last-charge c =
+    let l = c .before .before .before .before .before .before in
+    c .charge2 .ensures ∙ charge-here (start l .args .a) (l .loop .tracer) (l .loop .inv .0) (l .loop .inv .1)
+
+mul-added : tie.Need-mul-added Inv-loop μ-loop
+mul-added c = let i = c .before .before .pre .0 in omega (arith, in-work i .feed .most, i .capacity)
+
 arc-end-requires : tie.Need-arc-end-requires Inv-loop μ-loop
-arc-end-requires c κs = c .before .pre .0
+arc-end-requires c κs = c .before .before .pre .0
 
 least-requires : tie.Need-least-requires Inv-loop μ-loop
 least-requires c κs = search needs
 
 sub-least : tie.Need-sub-least Inv-loop μ-loop
-sub-least c = omega (arith, same-some (c .before .arc-end .ensures) (end-range (c .before .before .before .pre .0) .0))
+sub-least c = omega (arith, same-some (c .before .arc-end .ensures) (end-range (c .before .before .before .before .pre .0) .0))
 
 least-requires-2 : tie.Need-least-requires-2 Inv-loop μ-loop
 least-requires-2 c κs = search needs
 
 clear-requires : tie.Need-clear-requires Inv-loop μ-loop
-clear-requires c κs = omega (arith, c .before .before .least .ensures, c .before .before .before .before .before .pre .1)
+clear-requires c κs = omega (arith, c .before .before .least .ensures, c .before .before .before .before .before .before .pre .1)
 
-div-whole : tie.Need-div-whole Inv-loop μ-loop
-div-whole c = in-work (c .before .before .before .before .before .before .before .before .before .pre .0) .feed .some
+mul-straight-whole : tie.Need-mul-straight-whole Inv-loop μ-loop
+mul-straight-whole c = omega (arith, c .before .before .before .before .before .before .before .before .before .pre .0 .capacity)
 
-first-gap-requires : tie.Need-first-gap-requires Inv-loop μ-loop
-first-gap-requires c κs = gap-asks (c .before .before .before .before .before .before .before .before .before .pre .0)
+div-straight-whole : tie.Need-div-straight-whole Inv-loop μ-loop
+div-straight-whole c = added-some (c .before .before .before .before .before .before .before .before .before .pre .0)
+
+mul-diagonal-whole : tie.Need-mul-diagonal-whole Inv-loop μ-loop
+mul-diagonal-whole c = omega (arith, c .before .before .before .before .before .before .before .before .before .pre .0 .capacity)
+
+div-diagonal-whole : tie.Need-div-diagonal-whole Inv-loop μ-loop
+div-diagonal-whole c = added-some (c .before .before .before .before .before .before .before .before .before .pre .0)
 
 enter-requires : tie.Need-enter-requires Inv-loop μ-loop
-enter-requires c κs = run-ready (c .before .before .before .before .before .before .before .before .before .before .pre .0) .0
+enter-requires c κs = run-ready (c .before .before .before .before .before .before .before .before .before .pre .0) .0
+
+charge-requires : tie.Need-charge-requires Inv-loop μ-loop
+charge-requires c κs = search needs
+
+mul-first-gap : tie.Need-mul-first-gap Inv-loop μ-loop
+mul-first-gap c = rw (first-charge c) (omega (arith, due-most (entry (c .before) .pre .0)))
+
+first-gap-requires : tie.Need-first-gap-requires Inv-loop μ-loop
+first-gap-requires c κs = let i = entry (c .before) .pre .0 in rw (first-charge c) (feed-due i, due-most i, rest-most i)
 
 loop-holds : tie.Need-loop-holds Inv-loop μ-loop
 loop-holds c =
-    let b = c .before .before .before .before .before .before .before .before .before .before .before in
+    let b = entry (c .before .before) in
     let k = c .before .before .before .before .before .before .before in
     let e = k .before .before .arc-end .ensures in
     let last = k .least2 .ensures ∙ same-before e (end-range (b .pre .0) .0) in
     let n = k .before .least .ensures ∙ same-least e in
-    let same = entered c in
-    let i = cycling-start (b .args .most) (b .args .out .now) (b .pre .0) (b .pre .1) last n (c .before .before .before .before .before .clear .ensures) (c .before .first-gap .ensures) in
-    (begins (b .args .a) (b .args .remainder) same i, c .enter .ensures ∙ ap (arcTracer (b .args .a)) same)
+    let same = entered (c .before .before) in
+    let due = ap (λ (d : ℕ). gapOf (d * b .args .capacity) (1000 * b .args .a .feed) (b .args .remainder)) (first-charge (c .before)) in
+    let clear = c .before .before .before .before .before .clear .ensures in
+    let i = cycling-start (b .args .most) (b .args .out .now) (b .pre .0) (b .pre .1) last n clear (c .first-gap .ensures ∙ due) in
+    (begins (b .args .a) (b .args .remainder) same i, c .before .before .enter .ensures ∙ ap (arcTracer (b .args .a)) same)
 
 cycle-requires : tie.Need-cycle-requires Inv-loop μ-loop
 cycle-requires c κs = let l = c .before .before in arc-asks (start l .args .a) (l .loop .tracer) (l .loop .inv .0) (l .loop .inv .1) .1
@@ -112,35 +157,43 @@ slice-write-out c =
     let l = c .before .before .before .before in
     in-time l (omega (arith, c .before .before .if1 .taken, l .loop .inv .0 .left .low))
 
-next-gap-requires : tie.Need-next-gap-requires Inv-loop μ-loop
-next-gap-requires c κs =
+arc-gap-requires : tie.Need-arc-gap-requires Inv-loop μ-loop
+arc-gap-requires c κs =
     let s = c .before .before .before .before .before .loop .inv .0 in
-    let f = feeds s in
-    (f .0, refl, f .1, f .2, omega (arith, c .before .before .before .if1 .taken, s .left .low, s .few))
+    record {
+      some = added-some (s .work);
+      most = omega (arith, in-work (s .work) .feed .most);
+      capacity = s .work .capacity;
+      is-straight = refl;
+      is-diagonal = refl;
+      rest = gap-left s;
+      early = omega (arith, c .before .before .before .if1 .taken, s .left .low, s .few, s .work .capacity);
+    }
 
 loop-less : tie.Need-loop-less Inv-loop μ-loop
 unfolding nextGap
-loop-less c =
-    let l = c .before .before .before .before .before .before in
-    omega (arith, ap (λ (g : Gap). g .ticks) (c .next-gap .ensures), c .before .before .before .before .if1 .taken)
+loop-less c = omega (arith, ap (λ (g : Gap). g .ticks) (c .arc-gap .ensures), c .before .before .before .before .if1 .taken)
 
 loop-again : tie.Need-loop-again Inv-loop μ-loop
 loop-again c =
     let l = c .before .before .before .before .before .before in
-    arc-on (start l .args .a) (l .loop .tracer) (l .loop .inv .0) (l .loop .inv .1) (c .before .before .before .cycle .ensures) (c .before .before .before .before .if1 .taken) (c .before .before .with-marks .ensures) (c .next-gap .ensures)
+    arc-on (start l .args .a) (l .loop .tracer) (l .loop .inv .0) (l .loop .inv .1)
+    (c .before .before .before .cycle .ensures) (c .before .before .before .before .if1 .taken)
+    (c .before .before .with-marks .ensures) (c .arc-gap .ensures)
 
-cycle-requires-2 : tie.Need-cycle-requires-2 Inv-loop μ-loop
-cycle-requires-2 c κs = let l = c .before .before .before in arc-asks (start l .args .a) (l .loop .tracer) (l .loop .inv .0) (l .loop .inv .1) .1
+last-code-requires : tie.Need-last-code-requires Inv-loop μ-loop
+last-code-requires c κs =
+    let l = c .before .before .before in
+    arc-asks (start l .args .a) (l .loop .tracer) (l .loop .inv .0) (l .loop .inv .1) .1
 
 with-marks-requires-2 : tie.Need-with-marks-requires-2 Inv-loop μ-loop
 with-marks-requires-2 c κs =
     let l = c .before .before .before .before .before in
-    arc-small (start l .args .a) (l .loop .tracer) (l .loop .inv .0) (l .loop .inv .1) (c .before .cycle2 .ensures)
+    let small = arc-small (start l .args .a) (l .loop .tracer) (l .loop .inv .0) (l .loop .inv .1) {t = tracedOf (l .loop .tracer)} refl in
+    omega (arith, small, c .before .last-code .ensures)
 
 slice-write-out-2 : tie.Need-slice-write-out-2 Inv-loop μ-loop
-slice-write-out-2 c =
-    let l = c .before .before .before .before .before .before in
-    in-time l (c .before .before .before .if2 .taken)
+slice-write-out-2 c = let l = c .before .before .before .before .before .before in in-time l (c .before .before .before .if2 .taken)
 
 same-length : tie.Need-same-length Inv-loop μ-loop
 same-length c =
@@ -151,24 +204,35 @@ returns : tie.Need-returns Inv-loop μ-loop
 returns c =
     let l = c .before .before .before .before .before .before in
     let t = c .before .before .before in
-    answers (strip (start l)) (entered (l .before)) (arc-end (start l .args .a) (l .loop .tracer) (l .loop .inv .0) (l .loop .inv .1) (c .before .before .cycle2 .ensures) (t .if2 .taken) (t .before .if1 .left) (c .with-marks2 .ensures) (cleared l))
+    let byte = rw (c .before .before .last-code .ensures) at (c .with-marks2 .ensures) in
+    answers (strip (start l)) (entered (l .before .before .before))
+    (arc-end (start l .args .a) (l .loop .tracer) (l .loop .inv .0) (l .loop .inv .1) {t = tracedOf (l .loop .tracer)} refl
+    (t .if2 .taken) (t .before .if1 .left) byte (cleared l))
 
 leave-requires : tie.Need-leave-requires Inv-loop μ-loop
 leave-requires c κs = let l = c .before .before .before .before in arc-asks (start l .args .a) (l .loop .tracer) (l .loop .inv .0) (l .loop .inv .1)
 
+charge-requires-2 : tie.Need-charge-requires-2 Inv-loop μ-loop
+charge-requires-2 c κs = search needs
+
+mul-remainder-at : tie.Need-mul-remainder-at Inv-loop μ-loop
+mul-remainder-at c = rw (last-charge c) (omega (arith, due-most (c .before .before .before .before .before .before .loop .inv .0 .work)))
+
 remainder-at-requires : tie.Need-remainder-at-requires Inv-loop μ-loop
 remainder-at-requires c κs =
-    let l = c .before .before .before .before .before in
-    out-asks (l .loop .inv .0) (c .before .before .if2 .left) (c .before .before .before .if1 .left)
+    let l = c .before .before .before .before .before .before in
+    rw (last-charge c) (out-asks (l .loop .inv .0) (c .before .before .before .if2 .left) (c .before .before .before .before .if1 .left))
 
 same-length-2 : tie.Need-same-length-2 Inv-loop μ-loop
-same-length-2 c = long (c .before .before .before .before .before .before)
+same-length-2 c = long (c .before .before .before .before .before .before .before)
 
 returns-2 : tie.Need-returns-2 Inv-loop μ-loop
 returns-2 c =
-    let l = c .before .before .before .before .before .before in
-    let a = cycling-out (l .loop .inv .0) (c .before .before .before .if2 .left) (c .before .before .before .before .if1 .left) (cleared l) in
-    answers (strip (start l)) (entered (l .before)) (rw (c .before .leave .ensures, c .remainder-at .ensures) a)
+    let l = c .before .before .before .before .before .before .before in
+    let t = c .before .before .before .before in
+    let a = cycling-out (l .loop .inv .0) (t .if2 .left) (t .before .if1 .left) (cleared l) in
+    answers (strip (start l)) (entered (l .before .before .before))
+    (rw (c .before .before .leave .ensures, c .remainder-at .ensures, last-charge (c .before)) a)
 
 pub run-arc-spec : {M : Type 1} → statement M
 run-arc-spec =
@@ -176,27 +240,35 @@ run-arc-spec =
     (tie.spec
     Inv-loop
     μ-loop
+    mul-added
     arc-end-requires
     least-requires
     sub-least
     least-requires-2
     clear-requires
-    div-whole
-    first-gap-requires
+    mul-straight-whole
+    div-straight-whole
+    mul-diagonal-whole
+    div-diagonal-whole
     enter-requires
+    charge-requires
+    mul-first-gap
+    first-gap-requires
     loop-holds
     cycle-requires
     with-marks-requires
     slice-write-out
-    next-gap-requires
+    arc-gap-requires
     loop-less
     loop-again
-    cycle-requires-2
+    last-code-requires
     with-marks-requires-2
     slice-write-out-2
     same-length
     returns
     leave-requires
+    charge-requires-2
+    mul-remainder-at
     remainder-at-requires
     same-length-2
     returns-2)

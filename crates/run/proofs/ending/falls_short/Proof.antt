@@ -1,5 +1,4 @@
 -- `falls_short` is right because it asks the definition's two tests, the first of which keeps the product small.
-use borrow.Author.Needs.{needs}
 use borrow.Author.Tests.{lt-ltb, le-ltb}
 use native.Mathlib.Omega.{arith}
 use native.Mathlib.Nat.{mul-le-mul}
@@ -8,11 +7,11 @@ use Rattle.run.specs.Ending.{shortOf}
 use Rattle.run.proofs.ending.falls_short.Statement.{statement}
 use Rattle.run.proofs.ending.falls_short.Tie as tie
 
--- the product of ticks and feed
-product : (c : tie.Else1) → c .before .args .ticks * c .before .args .feed ≤ 1200000000000000
+-- what the ticks add
+product : (c : tie.Else1) → c .before .args .ticks * c .before .args .added ≤ 10000000 * 1200000000000
 product c =
-    let few : c .before .args .ticks ≤ 1000000000 = omega (arith, c .if1 .left) in
-    omega (arith, mul-le-mul few (c .before .pre .0))
+    let few : c .before .args .ticks ≤ 10000000 = omega (arith, c .if1 .left) in
+    mul-le-mul few (c .before .pre .0)
 
 returns : tie.Need-returns
 unfolding shortOf
@@ -24,12 +23,9 @@ mul-result c = omega (arith, product c)
 add-result : tie.Need-add-result
 add-result c = omega (arith, product c, c .before .pre .1)
 
-mul-result-2 : tie.Need-mul-result-2
-mul-result-2 c = search needs
-
 returns-2 : tie.Need-returns-2
 unfolding shortOf
 returns-2 c = rw (lt-ltb _ _ (c .if1 .left))
 
 pub falls-short-spec : {M : Type 1} → statement M
-falls-short-spec = tie.close (tie.spec returns mul-result add-result mul-result-2 returns-2)
+falls-short-spec = tie.close (tie.spec returns mul-result add-result returns-2)

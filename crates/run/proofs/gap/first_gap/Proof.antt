@@ -1,15 +1,31 @@
 -- `first_gap` is right because it computes the definition; the quotient's bounds show that nothing overflows.
 use borrow.Author.Needs.{needs}
+use Prim.Native.Nat.{_+_, _-_}
+use native.Mathlib.Nat.{div-mul-le-self, lt-div-mul-add}
 use native.Mathlib.Omega.{arith}
 use Rattle.run.specs.Gap.{gapOf}
-use Rattle.run.specs.laws.Gap.{Due, gap-due}
+use Rattle.run.specs.laws.Gap.{DueGap, gap-due, due-unique}
 use Rattle.run.proofs.gap.first_gap.Statement.{statement}
 use Rattle.run.proofs.gap.first_gap.Tie as tie
 use Rattle.run.proofs.gap.first_gap.Reads as reads
 use Rattle.run.proofs.gap.first_gap.Lts as lts
 
-due : (c : lts.Start reads.Pre reads.Post) → Due (c .args .capacity) (c .args .feed) (c .args .remainder) (gapOf (c .args .capacity) (c .args .feed) (c .args .remainder))
-due c = gap-due _ _ _ (c .pre .0 .some) (c .pre .1)
+due : (c : lts.Start reads.Pre reads.Post) → (let s = c .args in
+    DueGap (s .due) (s .added) (s .remainder) (gapOf (s .due) (s .added) (s .remainder)))
+due c = gap-due _ _ _ (c .pre .0 .some)
+
+add-t6 : tie.Need-add-t6
+add-t6 c = search needs
+
+sub-t7 : tie.Need-sub-t7
+sub-t7 c = search needs
+
+-- a due that is there already takes no tick
+returns : tie.Need-returns
+returns c =
+    let s = c .before in
+    due-unique {g = record { ticks = 0; remainder = s .args .remainder + s .args .added - s .args .due }}
+    (record { before = λ h. absurd (omega arith); leaves = omega arith }) (due s)
 
 sub-ticks : tie.Need-sub-ticks
 sub-ticks c = search needs
@@ -20,25 +36,34 @@ sub-ticks-2 c = search needs
 div-ticks : tie.Need-div-ticks
 div-ticks c = search needs
 
-mul-t5 : tie.Need-mul-t5
-unfolding gapOf
-mul-t5 c = let d = due c in omega (arith, d .before)
+mul-t8 : tie.Need-mul-t8
+mul-t8 c = let s = c .before .args in omega (arith, div-mul-le-self (s .due - 1 - s .remainder) (s .added))
 
-add-t6 : tie.Need-add-t6
-unfolding gapOf
-add-t6 c = let d = due c in omega (arith, d .before)
+add-t9 : tie.Need-add-t9
+add-t9 c = let s = c .before .args in omega (arith, div-mul-le-self (s .due - 1 - s .remainder) (s .added))
 
-add-t7 : tie.Need-add-t7
-unfolding gapOf
-add-t7 c = let d = due c in omega (arith, d .before, c .pre .0 .most)
+add-t10 : tie.Need-add-t10
+add-t10 c = let s = c .before .args in omega (arith, div-mul-le-self (s .due - 1 - s .remainder) (s .added), c .before .pre .0 .most)
 
-sub-t8 : tie.Need-sub-t8
-unfolding gapOf
-sub-t8 c = let d = due c in omega (arith, d .due)
+sub-t11 : tie.Need-sub-t11
+sub-t11 c = let s = c .before .args in omega (arith, lt-div-mul-add {a = s .due - 1 - s .remainder} (c .before .pre .0 .some))
 
-returns : tie.Need-returns
+returns-2 : tie.Need-returns-2
 unfolding gapOf
-returns c = search needs
+returns-2 c = search needs
 
 pub first-gap-spec : {M : Type 1} → statement M
-first-gap-spec = tie.close (tie.spec sub-ticks sub-ticks-2 div-ticks mul-t5 add-t6 add-t7 sub-t8 returns)
+first-gap-spec =
+    tie.close
+    (tie.spec
+    add-t6
+    sub-t7
+    returns
+    sub-ticks
+    sub-ticks-2
+    div-ticks
+    mul-t8
+    add-t9
+    add-t10
+    sub-t11
+    returns-2)

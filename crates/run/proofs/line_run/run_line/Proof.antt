@@ -15,18 +15,18 @@ use Rattle.line.specs.laws.Work.{line-at}
 use Rattle.run.specs.Run.{Strip, stripOf, SoundIn}
 use Rattle.run.specs.laws.Going.{answers}
 use Rattle.run.specs.laws.Sound.{run-ready}
-use Rattle.run.specs.laws.Cycles.{in-work, end-range, gap-asks}
+use Rattle.run.specs.laws.Cycles.{in-work, end-range, added-some, feed-due, due-most, rest-most}
 use Rattle.run.specs.laws.Ending.{same-least, same-some, same-before}
-use Rattle.run.specs.laws.Cycling.{Cycling, cycling-start, cleared-long, feeds, out-asks, cycling-out}
+use Rattle.run.specs.laws.Cycling.{Cycling, cycling-start, cleared-long, gap-left, out-asks, cycling-out}
 use Rattle.run.specs.laws.LineRun.{lineAfter, pointAfter, line-drawn, line-more, line-asks, line-small, line-on, line-end}
 
 abbrev Inv-loop : tie.InvT-loop
-Inv-loop capacity remainder l most out₀ end n last whole gap₀ stepper₀ cycles₀ out gap stepper cycles =
+Inv-loop capacity remainder l most out₀ due added end n last whole gap₀ stepper₀ cycles₀ out gap stepper cycles =
     Cycling capacity (l .feed) most (stripOf capacity most (pointAfter l (l .done)) remainder (Work.Line l)) out₀ out last n (pointAfter l cycles) (Work.Line (lineAfter l cycles)) gap
     × (stepper ≡ stepperOf (lineAfter l cycles))
 
 abbrev μ-loop : tie.MeasureT-loop
-μ-loop capacity remainder l most out₀ end n last whole gap₀ stepper₀ cycles₀ out gap stepper cycles =
+μ-loop capacity remainder l most out₀ due added end n last whole gap₀ stepper₀ cycles₀ out gap stepper cycles =
     last - gap .ticks
 
 -- from the loop's head back: the start, the n bytes that the run writes, and the tick before which no cycle ends the line
@@ -34,13 +34,14 @@ abbrev start : tie.At-loop Inv-loop μ-loop → tie.Start Inv-loop μ-loop
 start l = l .before .before .before .before .before .before .before .before .before .before .before .before
 
 abbrev bytes : tie.At-loop Inv-loop μ-loop → ℕ
-bytes l = l .before .before .before .before .before .before .before .before .before .least .result
+bytes l = l .before .before .before .before .before .before .before .before .least .result
 
 abbrev last-of : tie.At-loop Inv-loop μ-loop → ℕ
-last-of l = l .before .before .before .before .before .before .before .before .least2 .result
+last-of l = l .before .before .before .before .before .before .before .least2 .result
 
-cleared : (l : tie.At-loop Inv-loop μ-loop) → l .before .before .before .before .before .before .clear .last .0 ≡ clearedOf (bytes l) (start l .args .out .now)
-cleared l = l .before .before .before .before .before .before .clear .ensures
+cleared : (l : tie.At-loop Inv-loop μ-loop)
+    → l .before .before .before .before .before .clear .last .0 ≡ clearedOf (bytes l) (start l .args .out .now)
+cleared l = l .before .before .before .before .before .clear .ensures
 
 long : (l : tie.At-loop Inv-loop μ-loop) → length (l .loop .out) ≡ length (start l .args .out .now)
 long l =
@@ -60,26 +61,34 @@ sound c = subst (λ (p : Point). SoundIn (c .args .capacity) p (c .args .remaind
 abbrev strip : tie.Start Inv-loop μ-loop → Point → Strip
 strip c p = stripOf (c .args .capacity) (c .args .most) p (c .args .remainder) (Work.Line (c .args .l))
 
+mul-due : tie.Need-mul-due Inv-loop μ-loop
+mul-due c = omega (arith, c .before .pre .0 .capacity)
+
+mul-added : tie.Need-mul-added Inv-loop μ-loop
+mul-added c = let i = c .before .before .pre .0 in omega (arith, in-work i .feed .most, i .capacity)
+
 line-end-requires : tie.Need-line-end-requires Inv-loop μ-loop
-line-end-requires c κs = c .before .pre .0
+line-end-requires c κs = c .before .before .pre .0
 
 least-requires : tie.Need-least-requires Inv-loop μ-loop
 least-requires c κs = search needs
 
 sub-least : tie.Need-sub-least Inv-loop μ-loop
-sub-least c = omega (arith, same-some (c .before .line-end .ensures) (end-range (c .before .before .before .pre .0) .0))
+sub-least c = omega (arith, same-some (c .before .line-end .ensures) (end-range (c .before .before .before .before .pre .0) .0))
 
 least-requires-2 : tie.Need-least-requires-2 Inv-loop μ-loop
 least-requires-2 c κs = search needs
 
 clear-requires : tie.Need-clear-requires Inv-loop μ-loop
-clear-requires c κs = omega (arith, c .before .before .least .ensures, c .before .before .before .before .before .pre .1)
+clear-requires c κs = omega (arith, c .before .before .least .ensures, c .before .before .before .before .before .before .pre .1)
 
 div-whole : tie.Need-div-whole Inv-loop μ-loop
-div-whole c = in-work (c .before .before .before .before .before .before .before .before .before .pre .0) .feed .some
+div-whole c = added-some (c .before .before .before .before .before .before .before .before .before .pre .0)
 
 first-gap-requires : tie.Need-first-gap-requires Inv-loop μ-loop
-first-gap-requires c κs = gap-asks (c .before .before .before .before .before .before .before .before .before .pre .0)
+first-gap-requires c κs =
+    let i = c .before .before .before .before .before .before .before .before .before .pre .0 in
+    (feed-due i, due-most i, rest-most i)
 
 enter-requires : tie.Need-enter-requires Inv-loop μ-loop
 enter-requires c κs = run-ready (c .before .before .before .before .before .before .before .before .before .before .pre .0) .0
@@ -87,11 +96,14 @@ enter-requires c κs = run-ready (c .before .before .before .before .before .bef
 loop-holds : tie.Need-loop-holds Inv-loop μ-loop
 loop-holds c =
     let b = c .before .before .before .before .before .before .before .before .before .before .before in
-    let k = c .before .before .before .before .before .before .before in
+    let k = c .before .before .before .before .before .before in
     let e = k .before .before .line-end .ensures in
     let last = k .least2 .ensures ∙ same-before e (end-range (b .pre .0) .0) in
     let n = k .before .least .ensures ∙ same-least e in
-    (cycling-start (b .args .most) (b .args .out .now) (sound b) (b .pre .1) last n (c .before .before .before .before .before .clear .ensures) (c .before .first-gap .ensures), c .enter .ensures)
+    let clear = c .before .before .before .before .clear .ensures in (
+      cycling-start (b .args .most) (b .args .out .now) (sound b) (b .pre .1) last n clear (c .before .first-gap .ensures),
+      c .enter .ensures,
+    )
 
 advance-requires : tie.Need-advance-requires Inv-loop μ-loop
 advance-requires c κs = let l = c .before .before in line-asks (start l .args .l) (l .loop .cycles) (l .loop .inv .0) (l .loop .inv .1)
@@ -114,10 +126,13 @@ add-cycles c =
 
 next-gap-requires : tie.Need-next-gap-requires Inv-loop μ-loop
 next-gap-requires c κs =
-    let l = c .before .before .before .before .before .before in
-    let s = l .loop .inv .0 in
-    let f = feeds s in
-    (f .0, refl, f .1, f .2, omega (arith, c .before .before .before .before .if1 .taken, s .left .low, s .few))
+    let s = c .before .before .before .before .before .before .loop .inv .0 in (
+      feed-due (s .work),
+      refl,
+      due-most (s .work),
+      gap-left s,
+      omega (arith, c .before .before .before .before .if1 .taken, s .left .low, s .few, s .work .capacity),
+    )
 
 loop-less : tie.Need-loop-less Inv-loop μ-loop
 unfolding nextGap
@@ -177,6 +192,8 @@ run-line-spec =
     (tie.spec
     Inv-loop
     μ-loop
+    mul-due
+    mul-added
     line-end-requires
     least-requires
     sub-least
