@@ -1,8 +1,9 @@
--- 01, "The book of a history". "The book is fed the settings of the machine made and each call's arguments, of a buffer only the length; no answer and no record."
+-- 01, "The book of a history", with the charges of 02 §2: "A rule changed later changes in the book too."
+-- "The book is fed the settings of the machine made and each call's arguments, of a buffer only the length; no answer and no record."
 -- The settings are the feed capacity q0 and the travel; they never change.
 use mathlib.Core.Bool.{Bool, true, false, cond}
 use mathlib.Core.List.{List, [], _∷_}
-use Prim.Native.Nat.{ℕ, zero, suc, _+_, min}
+use Prim.Native.Nat.{ℕ, zero, suc, _+_, _*_, min}
 use lib.Dec.{leb, eqb}
 use lib.IntN.{pos}
 use lib.ListN.{length}
@@ -11,9 +12,10 @@ use Rattle.plane.specs.declared.travel.Travel.{Travel}
 use Rattle.plane.specs.Pulse.{pulsesBetween}
 use Rattle.plane.specs.Byte.{cycleByte}
 use Rattle.divider.specs.declared.Fed.{Fed}
-use Rattle.divider.specs.Divider.{fedOf}
+use Rattle.divider.specs.Divider.{fedOf, addedAt}
 use Rattle.block.specs.declared.Block.{Block}
 use Rattle.block.specs.Block.{blockCycles, blockPoint, blockWidth}
+use Rattle.block.specs.Charge.{blockCharge}
 use Rattle.block.specs.Questions.{loadNo}
 
 -- "It holds a point, a mark, a remainder and the block in work with its start and its cycles done c."
@@ -67,6 +69,15 @@ abbrev pub isNothing : InWork → Bool
 isNothing nothing = true
 isNothing (working j) = false
 
+-- 01, "The remainder grows by f."; 02 §2, "A tick adds 1,000 × f."
+abbrev pub addedBy : Block → ℕ
+addedBy k = addedAt (k .feed)
+
+-- 01, "If it is then q0 or more, q0 comes off"; 02 §2, "A cycle is due when the remainder reaches its charge times q0, at most one a tick."
+-- The charge is that of the cycle to come, the one after those done.
+abbrev pub jobDue : (q0 : ℕ) → Job → ℕ
+jobDue q0 j = blockCharge (j .start) (j .block) (j .done) * q0
+
 -- what a tick gives: its byte and the book after it
 pub record Ticked : Type 0 where
   pub code : ℕ
@@ -118,7 +129,7 @@ module _ (q0 : ℕ) (travel : Travel) where
         after = record { at = at; mark = b .mark; remainder = r; work = cond last nothing (working (record { block = j .block; start = j .start; done = c })) };
       }
 
-  -- "The remainder grows by f. If it is then q0 or more, q0 comes off ..": the divider's tick. A working tick without a cycle has byte 0.
+  -- after the divider's tick: a working tick without a cycle has byte 0
   abbrev pub fedTick : Book → Job → Fed → Ticked
   fedTick b j f =
       cond (f .cycle) (cycleTick b j (f .remainder))
@@ -127,7 +138,7 @@ module _ (q0 : ℕ) (travel : Travel) where
   -- "Tick: with a block and no mark it is a working tick. .. Any other tick gives 0 and changes nothing."
   abbrev pub tickWith : Book → InWork → Ticked
   tickWith b nothing = still b
-  tickWith b (working j) = cond (b .mark) (still b) (fedTick b j (fedOf q0 (j .block .feed) (b .remainder)))
+  tickWith b (working j) = cond (b .mark) (still b) (fedTick b j (fedOf (jobDue q0 j) (addedBy (j .block)) (b .remainder)))
 
   unfoldable pub bookTick : Book → Ticked
   bookTick b = tickWith b (b .work)

@@ -1,6 +1,7 @@
--- Demand 3: "What was done adds up: pulses sent on each axis since the machine was made sum to the point, and since the last stop, if any, cycles
--- times feed capacity plus remainder equals the feed numbers of all working ticks." Pulses and cycles are counted from the answers, feed numbers
--- by the book.
+-- Demand 3: "What was done adds up: pulses sent on each axis since the machine was made sum to the point, and since the last stop, if any,
+-- cycles times feed capacity plus remainder equals the feed numbers of all working ticks." 02 §2: "In the feed sum charges replace cycles
+-- and 1,000 × f replaces f." Pulses and cycles are counted from the answers; the path by which a cycle is charged is the book's, and so are
+-- feed numbers.
 use mathlib.Core.Bool.{Bool, false, cond, not}
 use mathlib.Core.List.{List, [], _∷_}
 use Prim.Native.Nat.{ℕ, _+_, _*_}
@@ -8,8 +9,10 @@ use lib.IntN.{ℤ, pos, _+ℤ_}
 use lib.ListN.{length}
 use Rattle.plane.specs.declared.travel.Travel.{Travel}
 use Rattle.plane.specs.Pulse.{pulseOf}
-use Rattle.plane.specs.Byte.{cycleMark}
-use Rattle.book.specs.Book.{InWork, Book, Call, Reply, entry}
+use Rattle.plane.specs.Byte.{codeX, codeY, cycleMark}
+use Rattle.block.specs.declared.Path.{Path}
+use Rattle.block.specs.Charge.{chargeBy}
+use Rattle.book.specs.Book.{InWork, Book, Call, Reply, addedBy, entry}
 
 -- ---- tick bytes
 
@@ -32,7 +35,7 @@ unfoldable pub pulsesSent : (code : ℕ → ℕ) → List Reply → ℤ
 pulsesSent code [] = pos 0
 pulsesSent code (r ∷ rs) = pulsesIn code (tickBytes r) +ℤ pulsesSent code rs
 
--- ---- cycles and feed numbers since the last stop
+-- ---- charges and feed numbers since the last stop
 
 -- a total since the last stop, after a call that adds to it
 abbrev pub sinceStop : (before : ℕ) → Call → (more : ℕ) → ℕ
@@ -43,30 +46,46 @@ sinceStop before Call.hold more = before + more
 sinceStop before Call.release more = before + more
 sinceStop before Call.stop more = 0
 
--- "cycles in the feed sum are the bytes that mark one"
+-- the bytes that mark a cycle, for the claims on runs, arcs and jobs
 abbrev pub cyclesMarked : List ℕ → ℕ
 cyclesMarked [] = 0
 cyclesMarked (b ∷ bs) = cycleMark b + cyclesMarked bs
 
-unfoldable pub cyclesSince : (before : ℕ) → List Call → List Reply → ℕ
-cyclesSince before [] rs = before
-cyclesSince before (c ∷ cs) [] = before
-cyclesSince before (c ∷ cs) (r ∷ rs) = cyclesSince (sinceStop before c (cyclesMarked (tickBytes r))) cs rs
+-- "cycles in the feed sum are the bytes that mark one"; 02 §2: "charges replace cycles". A byte tells by its codes what its cycle is
+-- charged, once the path is known: a line's diagonal cycle and an arc's look alike.
+abbrev pub chargeMarked : Path → (byte : ℕ) → ℕ
+chargeMarked p b = cycleMark b * chargeBy p (record { x = codeX b; y = codeY b })
+
+abbrev pub chargesMarked : Path → List ℕ → ℕ
+chargesMarked p [] = 0
+chargesMarked p (b ∷ bs) = chargeMarked p b + chargesMarked p bs
+
+-- the charges of a call's bytes, by what the call finds in work: a run ends with its block, so all are of that one
+abbrev pub chargesTold : InWork → List ℕ → ℕ
+chargesTold InWork.nothing bytes = 0
+chargesTold (InWork.working j) bytes = chargesMarked (j .block .path) bytes
 
 -- "Tick: with a block and no mark it is a working tick."
 abbrev pub ticksWork : (mark : Bool) → InWork → Bool
 ticksWork mark InWork.nothing = false
 ticksWork mark (InWork.working j) = not mark
 
-abbrev pub feedIn : InWork → ℕ
-feedIn InWork.nothing = 0
-feedIn (InWork.working j) = j .block .feed
+-- "and 1,000 × f replaces f"
+abbrev pub addedIn : InWork → ℕ
+addedIn InWork.nothing = 0
+addedIn (InWork.working j) = addedBy (j .block)
 
 module _ (q0 : ℕ) (travel : Travel) where
-  -- "Working ticks and their feed numbers are the book's." A call's ticks are all of the block that it finds in work: a run ends with its block.
+  unfoldable pub chargesSince : (before : ℕ) → Book → List Call → List Reply → ℕ
+  chargesSince before b [] rs = before
+  chargesSince before b (c ∷ cs) [] = before
+  chargesSince before b (c ∷ cs) (r ∷ rs) =
+      chargesSince (sinceStop before c (chargesTold (b .work) (tickBytes r))) (entry q0 travel b c .next) cs rs
+
+  -- "Working ticks and their feed numbers are the book's." A call's ticks, too, are all of the block that it finds in work.
   abbrev pub workingTicks : Book → Call → ℕ
   workingTicks b c = cond (ticksWork (b .mark) (b .work)) (length (tickBytes (entry q0 travel b c .reply))) 0
 
   unfoldable pub feedsSince : (before : ℕ) → Book → List Call → ℕ
   feedsSince before b [] = before
-  feedsSince before b (c ∷ cs) = feedsSince (sinceStop before c (workingTicks b c * feedIn (b .work))) (entry q0 travel b c .next) cs
+  feedsSince before b (c ∷ cs) = feedsSince (sinceStop before c (workingTicks b c * addedIn (b .work))) (entry q0 travel b c .next) cs

@@ -6,7 +6,9 @@ pub mod Sound
 pub mod Here
 pub mod Stretch
 pub mod Call
+pub mod Accounts
 pub mod Counts
+pub mod Begins
 pub mod Bounds
 pub mod Sums
 pub mod Ledger

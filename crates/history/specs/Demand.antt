@@ -10,8 +10,8 @@ use Rattle.machine.specs.declared.Answered.{Answered}
 use Rattle.settings.specs.Settings.{capacityOf}
 use Rattle.book.specs.Book.{Book, Call, Reply, freshBook, replies, closing}
 use Rattle.book.specs.Bounds.{OnWork}
-use Rattle.book.specs.Ledger.{Right, Counted, Every, ledger}
-use Rattle.book.specs.Sums.{pulsesSent, cyclesSince, feedsSince}
+use Rattle.book.specs.Ledger.{Right, BeginsBelow, Counted, Every, ledger}
+use Rattle.book.specs.Sums.{pulsesSent, chargesSince, feedsSince}
 use Rattle.history.specs.Agree.{workOf}
 use Rattle.history.specs.Contracts.{Makes}
 use Rattle.history.specs.History.{History, HasHistory}
@@ -35,13 +35,17 @@ pub record AsDemanded (s : Settings) (cs : List Call) (rs : List Reply) (m : Mac
   -- "A block not stopped has ended exactly when it has had the working ticks that the feed gives; the last of them leaves the point on the block's
   -- commanded end."
   pub blocks : Every (Right (capacityOf s)) (ledger (capacityOf s) (s .travel) [] freshBook cs)
-  -- the cycles by which the feed gives an arc's ticks are those of its walk to the end
+  -- that number of ticks is 02 §2's for "a history", where every block begins at a remainder that pays for no cycle
+  pub begins : Every (BeginsBelow (capacityOf s)) (ledger (capacityOf s) (s .travel) [] freshBook cs)
+  -- the cycles and charges by which the feed gives an arc's ticks are those of its walk to the end
   pub counts : Every Counted (ledger (capacityOf s) (s .travel) [] freshBook cs)
   -- "What was done adds up: pulses sent on each axis since the machine was made sum to the point,"
   pub pulses-x : pulsesSent codeX rs ≡ m .at .x
   pub pulses-y : pulsesSent codeY rs ≡ m .at .y
-  -- "and since the last stop, if any, cycles times feed capacity plus remainder equals the feed numbers of all working ticks."
-  pub feeds : cyclesSince 0 cs rs * capacityOf s + m .remainder ≡ feedsSince (capacityOf s) (s .travel) 0 freshBook cs
+  -- "and since the last stop, if any, cycles times feed capacity plus remainder equals the feed numbers of all working ticks." 02 §2: "In
+  -- the feed sum charges replace cycles and 1,000 × f replaces f."
+  pub feeds : chargesSince (capacityOf s) (s .travel) 0 freshBook cs rs * capacityOf s + m .remainder
+      ≡ feedsSince (capacityOf s) (s .travel) 0 freshBook cs
 
 -- "A history starts from the record that one make answers, refused or not."
 abbrev pub EveryHistory : Type 0

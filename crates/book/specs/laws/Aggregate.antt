@@ -8,7 +8,7 @@ use lib.ListN.{length, replicate}
 use Rattle.plane.specs.declared.point.Point.{Point}
 use Rattle.plane.specs.declared.travel.Travel.{Travel}
 use Rattle.block.specs.declared.Block.{Block}
-use Rattle.book.specs.Book.{Job, InWork, Book, Call, isNothing, bookTick, inFront, strip, runEntry}
+use Rattle.book.specs.Book.{Job, InWork, Book, Call, isNothing, addedBy, jobDue, bookTick, inFront, strip, runEntry}
 use Rattle.book.specs.Sums.{tickBytes, feedsSince}
 use Rattle.book.specs.Ledger.{Fate, Account, whileInWork, worked, fateAt, ledger}
 use Rattle.book.specs.laws.Sound.{bookOf, JobSound, Sound}
@@ -22,11 +22,11 @@ account a older f n = record { block = a .block; start = a .start; remainder = a
 module _ (q0 : ℕ) (t : Travel) where
   -- n ticks from b on, the block j in work, that leave `after`
   pub record Adds (b : Book) (j : Job) (n : ℕ) (after : Book) : Type 0 where
-    pub feeds : (before : ℕ) → feedsSince q0 t before b (replicate n Call.tick) ≡ before + n * j .block .feed
+    pub feeds : (before : ℕ) → feedsSince q0 t before b (replicate n Call.tick) ≡ before + n * addedBy (j .block)
     pub accounts : (a : Account) (older : List Account) → a .fate ≡ Fate.inWork
         → ledger q0 t (a ∷ older) b (replicate n Call.tick) ≡ worked n (fateAt (after .at) (after .work)) a ∷ older
 
-  pub strip-adds : (most : ℕ) (at : Point) (r : ℕ) (j : Job) → JobSound q0 t at j → r < q0
+  pub strip-adds : (most : ℕ) (at : Point) (r : ℕ) (j : Job) → JobSound q0 t at j → r < jobDue q0 j
       → (let b = bookOf at false r (InWork.working j) in Adds b j (length (strip q0 t most b .codes)) (strip q0 t most b .last))
   unfolding strip feedsSince ledger
   strip-adds zero at r j s low =
@@ -45,7 +45,7 @@ module _ (q0 : ℕ) (t : Travel) where
 
       by : (byte : ℕ) (mid : Point) (mark : Bool) (r′ : ℕ) (w : InWork) → bookTick q0 t b .after ≡ bookOf mid mark r′ w
           → Stretch q0 t at r j (byte ∷ []) (bookOf mid mark r′ w)
-          → ((at : Point) (r : ℕ) (j : Job) → JobSound q0 t at j → r < q0
+          → ((at : Point) (r : ℕ) (j : Job) → JobSound q0 t at j → r < jobDue q0 j
           → (let b = bookOf at false r (InWork.working j) in Adds b j (length (strip q0 t n b .codes)) (strip q0 t n b .last)))
           → (let s = inFront q0 t (isNothing w) (record { code = byte; after = bookOf mid mark r′ w }) (strip q0 t n (bookOf mid mark r′ w)) in
           Adds b j (length (s .codes)) (s .last))
@@ -56,11 +56,11 @@ module _ (q0 : ℕ) (t : Travel) where
           let m = length (strip q0 t n (bookOf mid false r′ (InWork.working next)) .codes) in
           let last = strip q0 t n (bookOf mid false r′ (InWork.working next)) .last in
           let rest = later mid r′ next (x .sound .work) (x .sound .below) in
-          let feed = ap (λ (k : Block). m * k .feed) (x .left .block) in
+          let feed = ap (λ (k : Block). m * addedBy k) (x .left .block) in
           record {
             feeds = λ before.
-                ap (λ (after : Book). feedsSince q0 t (before + 1 * j .block .feed) after (replicate m Call.tick)) is
-                ∙ omega (arith, rest .feeds (before + 1 * j .block .feed), feed);
+                ap (λ (after : Book). feedsSince q0 t (before + 1 * addedBy (j .block)) after (replicate m Call.tick)) is
+                ∙ omega (arith, rest .feeds (before + 1 * addedBy (j .block)), feed);
             accounts = λ a older e.
                 ap₂ (λ (c : Account) (after : Book). ledger q0 t (c ∷ older) after (replicate m Call.tick)) (first is a e) is
                 ∙ rest .accounts (worked 1 Fate.inWork a) older refl

@@ -1,17 +1,12 @@
 -- Demand 3's bounds hold at every sound book.
-use mathlib.Core.Path.{subst, sym}
 use mathlib.Core.List.{List}
 use Prim.Native.Nat.{ℕ}
 use Rattle.plane.specs.declared.point.Point.{Point}
 use Rattle.plane.specs.declared.travel.Travel.{Travel}
-use Rattle.circle.specs.Next.{Walk}
-use Rattle.circle.specs.laws.Circle.{on-circle-to}
-use Rattle.circle.specs.laws.Walk.{walk-of}
 use Rattle.line.specs.laws.Cycles.{cycles-some}
 use Rattle.line.specs.laws.Bounds.{half-pulse-x, half-pulse-y, near}
 use Rattle.arc.specs.declared.arc.Arc.{Arc}
-use Rattle.arc.specs.Centre.{seenFrom}
-use Rattle.arc.specs.laws.Step.{after-within, seen-after}
+use Rattle.arc.specs.laws.Step.{after-within}
 use Rattle.block.specs.declared.Path.{Path}
 use Rattle.block.specs.Block.{arcOf, pointAlong, blockPoint}
 use Rattle.book.specs.Book.{Job, InWork, Book, Call, freshBook, closing}
@@ -37,12 +32,11 @@ module _ (q0 : ℕ) (t : Travel) where
       }
   path-bounds j (Path.Arc turn centre) r =
       let a = arcOf (j .start) (j .block) turn centre in
-      let here = on-circle-to (a .square) (seenFrom (a .centre) (j .start)) (r .at .on) .circle in
+      let counted = counted-along t (j .start) (j .block) (Path.Arc turn centre) r in
       record {
         near = after-within a (j .start) (record { on = r .at .on; end-on = r .at .end-on }) (j .done);
-        walk = subst (Walk (a .square) turn (seenFrom (a .centre) (j .start)) (j .done)) (sym (seen-after a (j .start) (j .done)))
-            (walk-of turn (seenFrom (a .centre) (j .start)) (j .done) here);
-        ends = counted-along t (j .start) (j .block) (Path.Arc turn centre) r;
+        walk = counted .walk (j .done);
+        ends = counted .ends;
       }
 
   job-bounds : (at : Point) (j : Job) → JobSound q0 t at j → OnPath j at (j .block .path)

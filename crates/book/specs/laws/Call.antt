@@ -3,6 +3,7 @@ use mathlib.Core.Path.{_≡_, refl, sym}
 use mathlib.Core.Bool.{Bool, true, false}
 use mathlib.Core.List.{List, [], _∷_}
 use Prim.Native.Nat.{ℕ, zero, suc, min}
+use native.Mathlib.Omega.{arith}
 use lib.ListN.{length}
 use Rattle.plane.specs.declared.point.Point.{Point}
 use Rattle.plane.specs.declared.travel.Travel.{Travel}
@@ -14,7 +15,7 @@ use Rattle.book.specs.laws.Byte.{Silent, zero-silent, none-silent}
 use Rattle.book.specs.laws.Way.{block-way}
 use Rattle.book.specs.laws.Load.{load-right}
 use Rattle.book.specs.laws.Settings.{SettingsRight}
-use Rattle.book.specs.laws.Sound.{bookOf, Sound, fresh-sound}
+use Rattle.book.specs.laws.Sound.{bookOf, Sound, fresh-sound, below-due, idle-below}
 use Rattle.book.specs.laws.Stretch.{Stretch, one-tick, strip-stretch}
 
 module _ (q0 : ℕ) (t : Travel) where
@@ -62,10 +63,18 @@ module _ (q0 : ℕ) (t : Travel) where
         by zero e =
             let right = load-right q0 t (settings .wide) (isNothing (b .work)) (b .at) k (s .inside) e in
             let way = block-way k (s .inside) (right .path) in
+            let low = idle-below q0 (b .remainder) (b .work) (right .none) (s .below) in
             record {
-              below = s .below;
+              below = below-due q0 (record { block = k; start = b .at; done = 0 }) low;
               inside = s .inside;
-              work = record { some = right .some; short = right .short; due = way .some; point = sym (way .begins); start = s .inside; path = right .path };
+              work = record {
+                some = right .some;
+                short = right .short;
+                more = way .some;
+                point = sym (way .begins);
+                start = s .inside;
+                path = right .path;
+              };
             }
         by (suc n) e = s
 
@@ -75,7 +84,7 @@ module _ (q0 : ℕ) (t : Travel) where
     call-kept b (Call.run budget buffer) s = ticking-kept (run-does b budget buffer s) s
     call-kept b Call.hold s = record { below = s .below; inside = s .inside; work = s .work }
     call-kept b Call.release s = record { below = s .below; inside = s .inside; work = s .work }
-    call-kept b Call.stop s = record { below = settings .some; inside = s .inside; work = tt }
+    call-kept b Call.stop s = record { below = omega (arith, settings .some); inside = s .inside; work = tt }
 
     pub closing-sound : (b : Book) (cs : List Call) → Sound q0 t b → Sound q0 t (closing q0 t b cs)
     unfolding closing

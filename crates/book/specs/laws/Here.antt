@@ -51,7 +51,7 @@ Here t j at (Path.Arc turn centre) = ArcHere t (arcOf (j .start) (j .block) turn
 
 pub job-here : {q0 : ℕ} {t : Travel} {at : Point} {j : Job} → JobSound q0 t at j → Here t j at (j .block .path)
 unfolding blockCycles blockPoint
-job-here {t = t} {at = at} {j = j} s = by (j .block .path) (s .path) (s .due) (s .point)
+job-here {t = t} {at = at} {j = j} s = by (j .block .path) (s .path) (s .more) (s .point)
   where
     by : (p : Path) → PathRight t (j .start) (j .block) p → j .done < cyclesAlong (j .start) (j .block) p → at ≡ pointAlong (j .start) (j .block) p (j .done) → Here t j at p
     by Path.Line right due point = record { right = right; due = due; point = point }

@@ -7,17 +7,17 @@ use native.Mathlib.Omega.{arith}
 use lib.ListN.{length}
 use Rattle.plane.specs.declared.point.Point.{Point}
 use Rattle.plane.specs.declared.travel.Travel.{Travel}
-use Rattle.block.specs.declared.Block.{Block}
-use Rattle.block.specs.Block.{blockCycles}
-use Rattle.block.specs.Questions.{loadNo}
-use Rattle.book.specs.Book.{Job, InWork, Book, Call, freshBook, isNothing, loaded, loadEntry, entry, closing}
-use Rattle.book.specs.Sums.{cyclesMarked}
-use Rattle.book.specs.Ledger.{Fate, Account, opened, whileInWork, newest, worked, fateAt, accountsAfter, ledger, ticksGiven, RightFate, Right, Every}
 use Rattle.divider.specs.laws.AddUp.{fewer, exactly}
+use Rattle.block.specs.declared.Block.{Block}
+use Rattle.block.specs.Charge.{chargesTo}
+use Rattle.block.specs.Questions.{loadNo}
+use Rattle.book.specs.Book.{Job, InWork, Book, Call, freshBook, isNothing, addedBy, jobDue, loaded, loadEntry, entry, closing}
+use Rattle.book.specs.Ledger.{Fate, Account, opened, whileInWork, newest, worked, fateAt, accountsAfter, ledger}
+use Rattle.book.specs.Ledger.{ticksGiven, RightFate, Right, Every}
 use Rattle.book.specs.laws.Load.{load-right}
 use Rattle.book.specs.laws.Settings.{SettingsRight}
-use Rattle.book.specs.laws.Sound.{JobSound, WorkSound, Sound, fresh-sound}
-use Rattle.book.specs.laws.Stretch.{Left, Stretch}
+use Rattle.book.specs.laws.Sound.{JobSound, WorkSound, Sound, jobPaid, jobCharges, Below, due-within, fresh-sound}
+use Rattle.book.specs.laws.Stretch.{Left, Stretch, stretchCharges}
 use Rattle.book.specs.laws.Call.{Ticking, rests, works, tick-does, run-does, call-kept, history-sound}
 
 -- ---- the accounts and the book
@@ -27,8 +27,7 @@ pub record Open (q0 : ℕ) (r : ℕ) (j : Job) (a : Account) : Type 0 where
   pub fate : a .fate ≡ Fate.inWork
   pub block : a .block ≡ j .block
   pub start : a .start ≡ j .start
-  pub low : a .remainder < q0
-  pub fed : j .done * q0 + r ≡ a .remainder + a .ticks * j .block .feed
+  pub fed : jobPaid j * q0 + r ≡ a .remainder + a .ticks * addedBy (j .block)
 
 -- the account of a block no longer in work, and right
 abbrev pub ClosedFate : (q0 : ℕ) → Account → Fate → Type 0
@@ -57,15 +56,18 @@ all-right q0 [] h = tt
 all-right q0 (a ∷ l) h = (closed-right q0 a (a .fate) (h .0), all-right q0 l (h .1))
 
 -- the block in work has had fewer ticks than it will have had at its end
-open-fewer : {q0 : ℕ} {t : Travel} {at : Point} {r : ℕ} {j : Job} {a : Account} → JobSound q0 t at j → r < q0 → Open q0 r j a → a .ticks < ticksGiven q0 a
+open-fewer : {q0 : ℕ} {t : Travel} {at : Point} {r : ℕ} {j : Job} {a : Account} → JobSound q0 t at j → r < jobDue q0 j → Open q0 r j a
+    → a .ticks < ticksGiven q0 a
 open-fewer {q0} {r = r} {j = j} {a = a} s below o =
     rw (o .block, o .start)
-    (fewer q0 (j .block .feed) (a .remainder) (blockCycles (j .start) (j .block)) (s .some) (o .low) (omega (arith, s .due)) (a .ticks) (j .done) r (o .fed) below (s .due))
+    (fewer (jobCharges j * q0) (addedBy (j .block)) (a .remainder) (omega (arith, s .some)) (a .ticks) (jobPaid j * q0) r (jobDue q0 j)
+    (o .fed) below (due-within s))
 
-work-right : (q0 : ℕ) (t : Travel) (at : Point) {r : ℕ} (w : InWork) (l : List Account) → WorkSound q0 t at w → r < q0 → Agree q0 r w l → Every (Right q0) l
-work-right q0 t at InWork.nothing l s below h = all-right q0 l h
-work-right q0 t at (InWork.working j) [] s below h = absurd h
-work-right q0 t at (InWork.working j) (a ∷ l) s below h =
+work-right : (q0 : ℕ) (t : Travel) (at : Point) (r : ℕ) (w : InWork) (l : List Account) → WorkSound q0 t at w → Below q0 w r
+    → Agree q0 r w l → Every (Right q0) l
+work-right q0 t at r InWork.nothing l s below h = all-right q0 l h
+work-right q0 t at r (InWork.working j) [] s below h = absurd h
+work-right q0 t at r (InWork.working j) (a ∷ l) s below h =
     (subst (RightFate q0 a) (sym (h .0 .fate)) (open-fewer s below (h .0)), all-right q0 l (h .1))
 
 -- ---- each call keeps the agreement
@@ -90,12 +92,16 @@ module _ (q0 : ℕ) (t : Travel) where
   resting at r InWork.nothing l h = subst (Every (Closed q0)) (sym (untouched q0 _ l h)) h
   resting at r (InWork.working j) [] h = absurd h
   resting at r (InWork.working j) (a ∷ l) h =
-      let o = h .0 in
-      (subst (Open q0 r j) (sym (touched (worked 0 Fate.inWork) o)) (record { fate = refl; block = o .block; start = o .start; low = o .low; fed = omega (arith, o .fed) }), h .1)
+      let o = h .0 in (
+        subst (Open q0 r j) (sym (touched (worked 0 Fate.inWork) o))
+            (record { fate = refl; block = o .block; start = o .start; fed = omega (arith, o .fed) }),
+        h .1,
+      )
 
   -- a stretch
-  stretched : {at : Point} {r : ℕ} {j : Job} {bytes : List ℕ} {after : Book} (n : ℕ) → n ≡ length bytes → JobSound q0 t at j → Stretch q0 t at r j bytes after
-      → (l : List Account) → Agree q0 r (InWork.working j) l → Agree q0 (after .remainder) (after .work) (newest (worked n (fateAt (after .at) (after .work))) l)
+  stretched : {at : Point} {r : ℕ} {j : Job} {bytes : List ℕ} {after : Book} (n : ℕ) → n ≡ length bytes → JobSound q0 t at j
+      → Stretch q0 t at r j bytes after → (l : List Account) → Agree q0 r (InWork.working j) l
+      → Agree q0 (after .remainder) (after .work) (newest (worked n (fateAt (after .at) (after .work))) l)
   stretched n len s x [] h = absurd h
   stretched {r = r} {j = j} {bytes = bytes} {after = after} n len s x (a ∷ l) h =
       subst (λ (c : Account). Agree q0 (after .remainder) (after .work) (c ∷ l)) (sym (touched (worked n (fateAt (after .at) (after .work))) (h .0)))
@@ -104,36 +110,38 @@ module _ (q0 : ℕ) (t : Travel) where
       o : Open q0 r j a
       o = h .0
 
-      sum : (c k : ℕ) → c * q0 + after .remainder ≡ r + n * j .block .feed → j .done + c ≡ k
-          → k * q0 + after .remainder ≡ a .remainder + (a .ticks + n) * j .block .feed
+      sum : (c k : ℕ) → c * q0 + after .remainder ≡ r + n * addedBy (j .block) → jobPaid j + c ≡ k
+          → k * q0 + after .remainder ≡ a .remainder + (a .ticks + n) * addedBy (j .block)
       sum c k e all = omega (arith, o .fed, ap (λ (m : ℕ). m * q0) all)
 
-      fed : (k : ℕ) → j .done + cyclesMarked bytes ≡ k → k * q0 + after .remainder ≡ a .remainder + (a .ticks + n) * j .block .feed
-      fed k all = sum (cyclesMarked bytes) k (rw len (x .feeds)) all
+      fed : (k : ℕ) → jobPaid j + stretchCharges j bytes ≡ k
+          → k * q0 + after .remainder ≡ a .remainder + (a .ticks + n) * addedBy (j .block)
+      fed k all = sum (stretchCharges j bytes) k (rw len (x .feeds)) all
 
-      by : (w : InWork) → Left j (cyclesMarked bytes) (after .at) (after .remainder) w → Agree q0 (after .remainder) w (worked n (fateAt (after .at) w) a ∷ l)
-      by InWork.nothing over =
-          let k = blockCycles (j .start) (j .block) in (
-            (
-              rw (o .block, o .start)
-                  (exactly q0 (j .block .feed) (a .remainder) k (s .some) (o .low) (omega (arith, s .due)) (a .ticks + n) (after .remainder) (fed k (over .all)) (over .early)),
-              over .reached ∙ ap (λ (b : Block). b .end) (sym (o .block)),
-            ),
-            h .1,
-          )
+      by : (w : InWork) → Left j (stretchCharges j bytes) (after .at) (after .remainder) w
+          → Agree q0 (after .remainder) w (worked n (fateAt (after .at) w) a ∷ l)
+      by InWork.nothing over = (
+        (
+          rw (o .block, o .start)
+              (exactly (jobCharges j * q0) (addedBy (j .block)) (a .remainder) (omega (arith, s .some)) (a .ticks + n) (after .remainder)
+              (fed (jobCharges j) (over .paid)) (over .early)),
+          over .reached ∙ ap (λ (b : Block). b .end) (sym (o .block)),
+        ),
+        h .1,
+      )
       by (InWork.working next) going = (
         record {
           fate = refl;
           block = o .block ∙ sym (going .block);
           start = o .start ∙ sym (going .start);
-          low = o .low;
-          fed = fed (next .done) (sym (going .done)) ∙ ap (λ (b : Block). a .remainder + (a .ticks + n) * b .feed) (sym (going .block));
+          fed = fed (jobPaid next) (sym (going .paid)) ∙ ap (λ (b : Block). a .remainder + (a .ticks + n) * addedBy b) (sym (going .block));
         },
         h .1,
       )
 
-  ticking-agrees : {b : Book} {w : InWork} {bytes : List ℕ} {n : ℕ} {after : Book} (l : List Account) → Ticking q0 t b w bytes n after → b .work ≡ w → Sound q0 t b
-      → Agree q0 (b .remainder) (b .work) l → Agree q0 (after .remainder) (after .work) (newest (worked n (fateAt (after .at) (after .work))) l)
+  ticking-agrees : {b : Book} {w : InWork} {bytes : List ℕ} {n : ℕ} {after : Book} (l : List Account) → Ticking q0 t b w bytes n after
+      → b .work ≡ w → Sound q0 t b → Agree q0 (b .remainder) (b .work) l
+      → Agree q0 (after .remainder) (after .work) (newest (worked n (fateAt (after .at) (after .work))) l)
   ticking-agrees {b} l (rests silent) e s h = resting (b .at) (b .remainder) (b .work) l h
   ticking-agrees {b} l (works {n = n} len x) e s h =
       stretched n len (subst (WorkSound q0 t (b .at)) e (s .work)) x l (subst (λ (w : InWork). Agree q0 (b .remainder) w l) e h)
@@ -142,23 +150,25 @@ module _ (q0 : ℕ) (t : Travel) where
   none-open r InWork.nothing l e h = h
   none-open r (InWork.working j) l e h = absurd (false≢true e)
 
-  stop-agrees : (at : Point) (r : ℕ) (w : InWork) (l : List Account) → WorkSound q0 t at w → r < q0 → Agree q0 r w l
+  stop-agrees : (at : Point) (r : ℕ) (w : InWork) (l : List Account) → WorkSound q0 t at w → Below q0 w r → Agree q0 r w l
       → Every (Closed q0) (newest (worked 0 Fate.wasStopped) l)
   stop-agrees at r InWork.nothing l s below h = subst (Every (Closed q0)) (sym (untouched q0 _ l h)) h
   stop-agrees at r (InWork.working j) [] s below h = absurd h
-  stop-agrees at r (InWork.working j) (a ∷ l) s below h = (subst (Closed q0) (sym (touched (worked 0 Fate.wasStopped) (h .0))) (omega (arith, open-fewer s below (h .0))), h .1)
+  stop-agrees at r (InWork.working j) (a ∷ l) s below h =
+      (subst (Closed q0) (sym (touched (worked 0 Fate.wasStopped) (h .0))) (omega (arith, open-fewer s below (h .0))), h .1)
 
   module _ (settings : SettingsRight q0 t) where
     load-agrees : (b : Book) (k : Block) (l : List Account) → Sound q0 t b → Agree q0 (b .remainder) (b .work) l
         → (let e = loadEntry q0 t b k in Agree q0 (e .next .remainder) (e .next .work) (opened b k (e .reply) l))
-    unfolding loadEntry
+    unfolding loadEntry chargesTo
     load-agrees b k l s h = by (loadNo q0 t (isNothing (b .work)) (b .at) k) refl
       where
         by : (n : ℕ) → loadNo q0 t (isNothing (b .work)) (b .at) k ≡ n
             → (let e = loaded q0 t b k n in Agree q0 (e .next .remainder) (e .next .work) (opened b k (e .reply) l))
         by zero e =
             let right = load-right q0 t (settings .wide) (isNothing (b .work)) (b .at) k (s .inside) e in
-            (record { fate = refl; block = refl; start = refl; low = s .below; fed = omega arith }, none-open (b .remainder) (b .work) l (right .none) h)
+            let unfed : 0 * q0 + b .remainder ≡ b .remainder + 0 * addedBy k = omega arith in
+            (record { fate = refl; block = refl; start = refl; fed = unfed }, none-open (b .remainder) (b .work) l (right .none) h)
         by (suc n) e = h
 
     pub call-agrees : (b : Book) (c : Call) (l : List Account) → Sound q0 t b → Agree q0 (b .remainder) (b .work) l
@@ -176,7 +186,8 @@ module _ (q0 : ℕ) (t : Travel) where
         → (let after = closing q0 t b cs in Agree q0 (after .remainder) (after .work) (ledger q0 t l b cs))
     unfolding closing ledger
     ledger-agrees b [] l s h = h
-    ledger-agrees b (c ∷ cs) l s h = ledger-agrees (entry q0 t b c .next) cs (accountsAfter q0 t b c l) (call-kept q0 t settings b c s) (call-agrees b c l s h)
+    ledger-agrees b (c ∷ cs) l s h =
+        ledger-agrees (entry q0 t b c .next) cs (accountsAfter q0 t b c l) (call-kept q0 t settings b c s) (call-agrees b c l s h)
 
     -- the account in work, if any, is the book's block in work
     pub history-agrees : (cs : List Call)
@@ -187,4 +198,5 @@ module _ (q0 : ℕ) (t : Travel) where
     accounts-right cs =
         let after = closing q0 t freshBook cs in
         let s = history-sound q0 t settings cs in
-        work-right q0 t (after .at) (after .work) (ledger q0 t [] freshBook cs) (s .work) (s .below) (history-agrees cs)
+        let l = ledger q0 t [] freshBook cs in
+        work-right q0 t (after .at) (after .remainder) (after .work) l (s .work) (s .below) (history-agrees cs)

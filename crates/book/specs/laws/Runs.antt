@@ -3,6 +3,7 @@ use mathlib.Core.Path.{_≡_, refl, sym, ap, ap₂, subst, subst₂, _∙_}
 use mathlib.Core.Bool.{Bool, true, false}
 use mathlib.Core.List.{List, [], _∷_, map}
 use Prim.Native.Nat.{ℕ, zero, suc, _+_, _-_, _*_, _≤_, _<_, min}
+use native.Mathlib.Nat.{mul-le-mul-right}
 use native.Mathlib.Omega.{arith}
 use lib.Dec.{leb}
 use lib.ListN.{length, replicate}
@@ -11,23 +12,25 @@ use Rattle.whole.specs.laws.Test.{same-test}
 use Rattle.plane.specs.declared.point.Point.{Point}
 use Rattle.plane.specs.declared.travel.Travel.{Travel}
 use Rattle.divider.specs.Divider.{endTick}
-use Rattle.block.specs.Block.{blockCycles}
-use Rattle.book.specs.Book.{Job, InWork, Book, Call, Report, Reply, Strip, isNothing, bookTick, inFront, strip, reportOf, runEntry, replies, closing}
-use Rattle.book.specs.Sums.{tickBytes, cyclesMarked}
-use Rattle.book.specs.Ledger.{Account, ticksGiven}
 use Rattle.divider.specs.laws.AddUp.{fewer, exactly, rest}
-use Rattle.book.specs.laws.Sound.{bookOf, JobSound, WorkSound, Sound}
-use Rattle.book.specs.laws.Stretch.{Left, Stripped, strip-stretch}
+use Rattle.block.specs.declared.Block.{Block}
+use Rattle.block.specs.Charge.{blockCharges}
+use Rattle.book.specs.Book.{Job, InWork, Book, Call, Report, Reply, Strip, isNothing, addedBy, jobDue}
+use Rattle.book.specs.Book.{bookTick, inFront, strip, reportOf, runEntry, replies, closing}
+use Rattle.book.specs.Sums.{tickBytes}
+use Rattle.book.specs.Ledger.{Account, ticksGiven}
+use Rattle.book.specs.laws.Sound.{bookOf, JobSound, WorkSound, Sound, jobCharge, jobPaid, jobCharges, Below, charge-within}
+use Rattle.book.specs.laws.Stretch.{Left, Stripped, stretchCharges, strip-stretch}
 use Rattle.book.specs.laws.Ledger.{Open}
 
 -- the working ticks to the end of the block in work, at the remainder r
-abbrev pub ticksLeft : (q0 r : ℕ) → Job → ℕ
-ticksLeft q0 r j = endTick q0 (j .block .feed) r (blockCycles (j .start) (j .block) - j .done)
+abbrev pub jobTicksLeft : (q0 r : ℕ) → Job → ℕ
+jobTicksLeft q0 r j = endTick ((jobCharges j - jobPaid j) * q0) (addedBy (j .block)) r
 
 -- a strip of at most so many ticks does all that the block allows, and says whether it ended
 pub record Counted (q0 most r : ℕ) (j : Job) (s : Strip) : Type 0 where
-  pub ticks : length (s .codes) ≡ min most (ticksLeft q0 r j)
-  pub ended : s .ended ≡ leb (ticksLeft q0 r j) most
+  pub ticks : length (s .codes) ≡ min most (jobTicksLeft q0 r j)
+  pub ended : s .ended ≡ leb (jobTicksLeft q0 r j) most
 
 module _ (q0 : ℕ) (t : Travel) where
   -- ---- one by one
@@ -68,37 +71,44 @@ module _ (q0 : ℕ) (t : Travel) where
 
   -- ---- how many ticks
 
-  module _ (at : Point) (r : ℕ) (j : Job) (sound : JobSound q0 t at j) (low : r < q0) where
+  module _ (at : Point) (r : ℕ) (j : Job) (sound : JobSound q0 t at j) (low : r < jobDue q0 j) where
     counted : (most : ℕ) → Counted q0 most r j (strip q0 t most (bookOf at false r (InWork.working j)))
     counted most =
         let s = strip q0 t most (bookOf at false r (InWork.working j)) in
         let x = strip-stretch q0 t most at r j sound low in
-        by s x (s .last .work) (x .ended) (x .stretch .left) (x .stretch .sound .work)
+        by s x (s .last .work) (x .ended) (x .stretch .left) (x .stretch .sound .work) (x .stretch .sound .below)
       where
         k : ℕ
-        k = blockCycles (j .start) (j .block) - j .done
+        k = jobCharges j - jobPaid j
 
-        some : 1 ≤ k
-        some = omega (arith, sound .due)
+        some : 1 ≤ addedBy (j .block)
+        some = omega (arith, sound .some)
 
         by : (s : Strip) → Stripped q0 t most at r j s → (w : InWork) → s .ended ≡ isNothing w
-            → Left j (cyclesMarked (s .codes)) (s .last .at) (s .last .remainder) w → WorkSound q0 t (s .last .at) w → Counted q0 most r j s
-        by s x InWork.nothing ends over work =
-            let left : cyclesMarked (s .codes) ≡ k = omega (arith, over .all) in
+            → Left j (stretchCharges j (s .codes)) (s .last .at) (s .last .remainder) w → WorkSound q0 t (s .last .at) w
+            → Below q0 w (s .last .remainder) → Counted q0 most r j s
+        by s x InWork.nothing ends over work below =
+            let left : stretchCharges j (s .codes) ≡ k = omega (arith, over .paid) in
             let fed = ap (λ (c : ℕ). c * q0 + s .last .remainder) (sym left) ∙ x .stretch .feeds in
-            let all = exactly q0 (j .block .feed) r k (sound .some) low some (length (s .codes)) (s .last .remainder) fed (over .early) in
-            record { ticks = omega (arith, x .within); ended = ends ∙ sym (le-leb (ticksLeft q0 r j) most (omega (arith, x .within))) }
-        by s x (InWork.working next) ends going work =
-            let due : cyclesMarked (s .codes) < k = omega (arith, going .done, work .due, ap₂ blockCycles (going .start) (going .block)) in
-            let more = fewer q0 (j .block .feed) r k (sound .some) low some _ _ _ (x .stretch .feeds) (x .stretch .sound .below) due in
+            let all = exactly (k * q0) (addedBy (j .block)) r some (length (s .codes)) (s .last .remainder) fed (over .early) in
+            record { ticks = omega (arith, x .within); ended = ends ∙ sym (le-leb (jobTicksLeft q0 r j) most (omega (arith, x .within))) }
+        by s x (InWork.working next) ends going work below =
+            let paid = stretchCharges j (s .codes) in
+            let same = ap₂ (λ (s : Point) (b : Block). blockCharges s b) (going .start) (going .block) in
+            let next-paid : paid + jobCharge next ≤ k = omega (arith, going .paid, charge-within work, same) in
+            let within : paid * q0 + jobDue q0 next ≤ k * q0 = omega (arith, mul-le-mul-right q0 next-paid) in
+            let more =
+            fewer (k * q0) (addedBy (j .block)) r some (length (s .codes)) (paid * q0) (s .last .remainder) (jobDue q0 next)
+            (x .stretch .feeds) below within in
             let all = x .used-up ends in
-            record { ticks = omega arith; ended = ends ∙ sym (lt-leb (ticksLeft q0 r j) most (omega arith)) }
+            record { ticks = omega arith; ended = ends ∙ sym (lt-leb (jobTicksLeft q0 r j) most (omega arith)) }
 
     working-run : (budget buffer : ℕ)
         → (let b = bookOf at false r (InWork.working j) in
         let most = min budget buffer in
         runEntry q0 t b budget buffer .reply
-        ≡ Reply.ran (reportOf q0 t (leb (ticksLeft q0 r j) most) (leb budget buffer)) (min most (ticksLeft q0 r j)) (strip q0 t most b .codes))
+        ≡ Reply.ran (reportOf q0 t (leb (jobTicksLeft q0 r j) most) (leb budget buffer)) (min most (jobTicksLeft q0 r j))
+        (strip q0 t most b .codes))
     unfolding runEntry
     working-run budget buffer =
         let s = strip q0 t most (bookOf at false r (InWork.working j)) in
@@ -109,7 +119,7 @@ module _ (q0 : ℕ) (t : Travel) where
         most = min budget buffer
 
         left : ℕ
-        left = ticksLeft q0 r j
+        left = jobTicksLeft q0 r j
 
         -- where the block has not ended, what is used up is the lesser of budget and buffer
         reports : (ended : Bool) (n : ℕ) → ended ≡ leb left most → n ≡ min most left → (u : Bool) → leb left most ≡ u
@@ -126,28 +136,31 @@ module _ (q0 : ℕ) (t : Travel) where
     job-sound : JobSound q0 t (b .at) j
     job-sound = subst (WorkSound q0 t (b .at)) work (s .work)
 
+    job-below : b .remainder < jobDue q0 j
+    job-below = subst (λ (w : InWork). Below q0 w (b .remainder)) work (s .below)
+
     -- a strip does every tick that it may, up to the end of the block
     pub strip-counted : (most : ℕ) → Counted q0 most (b .remainder) j (strip q0 t most b)
     strip-counted most =
         subst₂ (λ (m : Bool) (w : InWork). Counted q0 most (b .remainder) j (strip q0 t most (bookOf (b .at) m (b .remainder) w))) (sym free) (sym work)
-        (counted (b .at) (b .remainder) j job-sound (s .below) most)
+        (counted (b .at) (b .remainder) j job-sound job-below most)
 
     -- 01, Ticks and runs: "It does the least of its tick budget, the buffer length and the ticks to the block's end"; "else ended, spent or full, the
     -- first that is true"
     pub run-report : (budget buffer : ℕ)
         → (let most = min budget buffer in
-        let left = ticksLeft q0 (b .remainder) j in
+        let left = jobTicksLeft q0 (b .remainder) j in
         runEntry q0 t b budget buffer .reply ≡ Reply.ran (reportOf q0 t (leb left most) (leb budget buffer)) (min most left) (strip q0 t most b .codes))
     run-report budget buffer =
         let most = min budget buffer in
-        let left = ticksLeft q0 (b .remainder) j in
+        let left = jobTicksLeft q0 (b .remainder) j in
         subst₂ (λ (m : Bool) (w : InWork).
         let k = bookOf (b .at) m (b .remainder) w in
         runEntry q0 t k budget buffer .reply ≡ Reply.ran (reportOf q0 t (leb left most) (leb budget buffer)) (min most left) (strip q0 t most k .codes))
-        (sym free) (sym work) (working-run (b .at) (b .remainder) j job-sound (s .below) budget buffer)
+        (sym free) (sym work) (working-run (b .at) (b .remainder) j job-sound job-below budget buffer)
 
     -- up to the end of the block n ticks in a run are n ticks called one by one
-    pub so-many-ticks : (n : ℕ) → n ≤ ticksLeft q0 (b .remainder) j
+    pub so-many-ticks : (n : ℕ) → n ≤ jobTicksLeft q0 (b .remainder) j
         → (replies q0 t b (replicate n Call.tick) ≡ map Reply.byte (strip q0 t n b .codes)) × (closing q0 t b (replicate n Call.tick) ≡ strip q0 t n b .last)
     so-many-ticks n most =
         let all : length (strip q0 t n b .codes) ≡ n = omega (arith, strip-counted n .ticks) in
@@ -155,7 +168,13 @@ module _ (q0 : ℕ) (t : Travel) where
         (ap (λ (m : ℕ). replies q0 t b (replicate m Call.tick)) (sym all) ∙ o .answers, ap (λ (m : ℕ). closing q0 t b (replicate m Call.tick)) (sym all) ∙ o .leaves)
 
   -- the ticks left are those that the block's account still lacks
-  pub account-left : {at : Point} {r : ℕ} {j : Job} {a : Account} → JobSound q0 t at j → r < q0 → Open q0 r j a → a .ticks + ticksLeft q0 r j ≡ ticksGiven q0 a
+  pub account-left : {at : Point} {r : ℕ} {j : Job} {a : Account} → JobSound q0 t at j → r < jobDue q0 j → Open q0 r j a
+      → a .ticks + jobTicksLeft q0 r j ≡ ticksGiven q0 a
   account-left {r = r} {j = j} {a = a} s below o =
+      let next = charge-within s in
+      let left = jobCharges j - jobPaid j in
+      let part : jobCharge j ≤ left = omega arith in
+      let all : jobPaid j + left ≡ jobCharges j = omega arith in
       rw (o .block, o .start)
-      (rest q0 (j .block .feed) (a .remainder) (blockCycles (j .start) (j .block)) (s .some) (o .low) (omega (arith, s .due)) (a .ticks) (j .done) r (o .fed) below (s .due))
+      (rest (jobCharges j * q0) (addedBy (j .block)) (a .remainder) (omega (arith, s .some)) (a .ticks) (jobPaid j * q0) r (jobDue q0 j)
+      (left * q0) (o .fed) below (mul-le-mul-right q0 part) (omega (arith, ap (λ (c : ℕ). c * q0) all)))

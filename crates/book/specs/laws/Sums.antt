@@ -12,8 +12,9 @@ use Rattle.plane.specs.Byte.{codeX, codeY}
 use Rattle.block.specs.declared.Block.{Block}
 use Rattle.block.specs.Questions.{loadNo}
 use Rattle.book.specs.Book.{InWork, Book, Call, Reply, freshBook, isNothing, loaded, loadEntry, entry, replies, closing}
-use Rattle.book.specs.Sums.{tickBytes, pulsesIn, pulsesSent, sinceStop, cyclesMarked, cyclesSince, ticksWork, feedIn, workingTicks, feedsSince}
-use Rattle.book.specs.laws.Byte.{onward}
+use Rattle.book.specs.Sums.{tickBytes, pulsesIn, pulsesSent, sinceStop, chargesTold, chargesSince, ticksWork, addedIn, workingTicks}
+use Rattle.book.specs.Sums.{feedsSince}
+use Rattle.book.specs.laws.Byte.{onward, Silent, none-silent}
 use Rattle.book.specs.laws.Settings.{SettingsRight}
 use Rattle.book.specs.laws.Sound.{Sound, fresh-sound}
 use Rattle.book.specs.laws.Call.{Ticking, rests, works, tick-does, run-does, call-kept}
@@ -30,15 +31,23 @@ stands b after bytes e x y = record { x = axis (ap (λ (p : Point). p .x) e) x; 
     axis : {u v s : ℤ} → v ≡ u → s ≡ pos 0 → v ≡ u +ℤ s
     axis {u} e none = e ∙ sym (rw none (+ℤ-idr u))
 
--- ---- its feeds lead to the next remainder; but a stop clears the remainder
+-- ---- its feeds lead to the next remainder, less its charges times q0; but a stop clears the remainder
 
-pub record Feeds (q0 : ℕ) (b : Book) (bytes : List ℕ) (n : ℕ) (after : Book) : Type 0 where
-  pub sum : cyclesMarked bytes * q0 + after .remainder ≡ b .remainder + n
+pub record Feeds (q0 : ℕ) (b : Book) (charges fed : ℕ) (after : Book) : Type 0 where
+  pub sum : charges * q0 + after .remainder ≡ b .remainder + fed
+
+silent-told : (w : InWork) {bytes : List ℕ} → Silent bytes → chargesTold w bytes ≡ 0
+silent-told InWork.nothing s = refl
+silent-told (InWork.working j) s = s .charges (j .block .path)
 
 -- a call without ticks, whether ticks would work or not
-quiet : (q0 : ℕ) (b after : Book) (work : Bool) (feed : ℕ) → after .remainder ≡ b .remainder → Feeds q0 b [] (cond work 0 0 * feed) after
-quiet q0 b after true feed e = omega arith
-quiet q0 b after false feed e = omega arith
+quiet : (q0 : ℕ) (b after : Book) → after .remainder ≡ b .remainder
+    → Feeds q0 b (chargesTold (b .work) []) (cond (ticksWork (b .mark) (b .work)) 0 0 * addedIn (b .work)) after
+quiet q0 b after e = rw (silent-told (b .work) none-silent) (by (ticksWork (b .mark) (b .work)) (addedIn (b .work)))
+  where
+    by : (work : Bool) (feed : ℕ) → Feeds q0 b 0 (cond work 0 0 * feed) after
+    by true feed = omega arith
+    by false feed = omega arith
 
 -- ---- and the pulses of all replies to the last point
 
@@ -53,12 +62,16 @@ module _ (q0 : ℕ) (t : Travel) where
   ticking-moves {b} {bytes = bytes} (rests silent) = stands b b bytes refl (silent .x) (silent .y)
   ticking-moves (works n stretch) = record { x = stretch .x; y = stretch .y }
 
-  ticking-feeds : {b : Book} {w : InWork} {bytes : List ℕ} {n : ℕ} {after : Book} → Ticking q0 t b w bytes n after → Feeds q0 b bytes (n * feedIn w) after
-  ticking-feeds (rests silent) = record { sum = rw (silent .cycles) (omega arith) }
+  ticking-feeds : {b : Book} {w : InWork} {bytes : List ℕ} {n : ℕ} {after : Book} → Ticking q0 t b w bytes n after
+      → Feeds q0 b (chargesTold w bytes) (n * addedIn w) after
+  ticking-feeds {w = w} (rests silent) = record { sum = rw (silent-told w silent) (omega arith) }
   ticking-feeds (works n stretch) = record { sum = rw n (stretch .feeds) }
 
+  abbrev chargedBy : Book → Call → ℕ
+  chargedBy b c = chargesTold (b .work) (tickBytes (entry q0 t b c .reply))
+
   abbrev fedBy : Book → Call → ℕ
-  fedBy b c = workingTicks q0 t b c * feedIn (b .work)
+  fedBy b c = workingTicks q0 t b c * addedIn (b .work)
 
   load-moves : (b : Book) (k : Block) → Moves b (tickBytes (loadEntry q0 t b k .reply)) (loadEntry q0 t b k .next)
   unfolding loadEntry
@@ -68,15 +81,16 @@ module _ (q0 : ℕ) (t : Travel) where
       by zero = stands b (loaded q0 t b k 0 .next) [] refl refl refl
       by (suc n) = stands b b [] refl refl refl
 
-  load-feeds : (b : Book) (k : Block) → Feeds q0 b (tickBytes (loadEntry q0 t b k .reply)) (fedBy b (Call.load k)) (loadEntry q0 t b k .next)
+  load-feeds : (b : Book) (k : Block) → Feeds q0 b (chargedBy b (Call.load k)) (fedBy b (Call.load k)) (loadEntry q0 t b k .next)
   unfolding loadEntry
   load-feeds b k = by (loadNo q0 t (isNothing (b .work)) (b .at) k)
     where
       by : (n : ℕ)
           → (let e = loaded q0 t b k n in
-          Feeds q0 b (tickBytes (e .reply)) (cond (ticksWork (b .mark) (b .work)) (length (tickBytes (e .reply))) 0 * feedIn (b .work)) (e .next))
-      by zero = quiet q0 b (loaded q0 t b k 0 .next) (ticksWork (b .mark) (b .work)) (feedIn (b .work)) refl
-      by (suc n) = quiet q0 b b (ticksWork (b .mark) (b .work)) (feedIn (b .work)) refl
+          let bytes = tickBytes (e .reply) in
+          Feeds q0 b (chargesTold (b .work) bytes) (cond (ticksWork (b .mark) (b .work)) (length bytes) 0 * addedIn (b .work)) (e .next))
+      by zero = quiet q0 b (loaded q0 t b k 0 .next) refl
+      by (suc n) = quiet q0 b b refl
 
   pub call-moves : (b : Book) (c : Call) → Sound q0 t b → Moves b (tickBytes (entry q0 t b c .reply)) (entry q0 t b c .next)
   call-moves b (Call.load k) s = load-moves b k
@@ -86,14 +100,14 @@ module _ (q0 : ℕ) (t : Travel) where
   call-moves b Call.release s = stands b _ [] refl refl refl
   call-moves b Call.stop s = stands b _ [] refl refl refl
 
-  pub call-feeds : (b : Book) (c : Call) (cycles feeds : ℕ) → Sound q0 t b → cycles * q0 + b .remainder ≡ feeds
-      → sinceStop cycles c (cyclesMarked (tickBytes (entry q0 t b c .reply))) * q0 + entry q0 t b c .next .remainder ≡ sinceStop feeds c (fedBy b c)
-  call-feeds b (Call.load k) cycles feeds s e = omega (arith, load-feeds b k .sum)
-  call-feeds b Call.tick cycles feeds s e = omega (arith, ticking-feeds (tick-does q0 t b s) .sum)
-  call-feeds b (Call.run budget buffer) cycles feeds s e = omega (arith, ticking-feeds (run-does q0 t b budget buffer s) .sum)
-  call-feeds b Call.hold cycles feeds s e = omega (arith, quiet q0 b b (ticksWork (b .mark) (b .work)) (feedIn (b .work)) refl .sum)
-  call-feeds b Call.release cycles feeds s e = omega (arith, quiet q0 b b (ticksWork (b .mark) (b .work)) (feedIn (b .work)) refl .sum)
-  call-feeds b Call.stop cycles feeds s e = omega arith
+  pub call-feeds : (b : Book) (c : Call) (charges feeds : ℕ) → Sound q0 t b → charges * q0 + b .remainder ≡ feeds
+      → sinceStop charges c (chargedBy b c) * q0 + entry q0 t b c .next .remainder ≡ sinceStop feeds c (fedBy b c)
+  call-feeds b (Call.load k) charges feeds s e = omega (arith, load-feeds b k .sum)
+  call-feeds b Call.tick charges feeds s e = omega (arith, ticking-feeds (tick-does q0 t b s) .sum)
+  call-feeds b (Call.run budget buffer) charges feeds s e = omega (arith, ticking-feeds (run-does q0 t b budget buffer s) .sum)
+  call-feeds b Call.hold charges feeds s e = omega (arith, quiet q0 b b refl .sum)
+  call-feeds b Call.release charges feeds s e = omega (arith, quiet q0 b b refl .sum)
+  call-feeds b Call.stop charges feeds s e = omega arith
 
   -- ---- every list of calls
 
@@ -111,11 +125,12 @@ module _ (q0 : ℕ) (t : Travel) where
           y = onward (b .at .y) (pulsesIn codeY bytes) (pulsesSent codeY later) (one .y) (rest .y);
         }
 
-    pub feeds-sum : (b : Book) (cs : List Call) (cycles feeds : ℕ) → Sound q0 t b → cycles * q0 + b .remainder ≡ feeds
-        → cyclesSince cycles cs (replies q0 t b cs) * q0 + closing q0 t b cs .remainder ≡ feedsSince q0 t feeds b cs
-    unfolding replies closing cyclesSince feedsSince
-    feeds-sum b [] cycles feeds s e = e
-    feeds-sum b (c ∷ cs) cycles feeds s e = feeds-sum (entry q0 t b c .next) cs _ _ (call-kept q0 t settings b c s) (call-feeds b c cycles feeds s e)
+    pub feeds-sum : (b : Book) (cs : List Call) (charges feeds : ℕ) → Sound q0 t b → charges * q0 + b .remainder ≡ feeds
+        → chargesSince q0 t charges b cs (replies q0 t b cs) * q0 + closing q0 t b cs .remainder ≡ feedsSince q0 t feeds b cs
+    unfolding replies closing chargesSince feedsSince
+    feeds-sum b [] charges feeds s e = e
+    feeds-sum b (c ∷ cs) charges feeds s e =
+        feeds-sum (entry q0 t b c .next) cs _ _ (call-kept q0 t settings b c s) (call-feeds b c charges feeds s e)
 
     -- "pulses sent on each axis since the machine was made sum to the point"
     pub pulses-are-point : (cs : List Call)
@@ -127,6 +142,9 @@ module _ (q0 : ℕ) (t : Travel) where
         let rs = replies q0 t freshBook cs in
         (sym (s .x ∙ +ℤ-idl (pulsesSent codeX rs)), sym (s .y ∙ +ℤ-idl (pulsesSent codeY rs)))
 
-    -- "since the last stop, if any, cycles times feed capacity plus remainder equals the feed numbers of all working ticks"
-    pub cycles-are-feeds : (cs : List Call) → cyclesSince 0 cs (replies q0 t freshBook cs) * q0 + closing q0 t freshBook cs .remainder ≡ feedsSince q0 t 0 freshBook cs
-    cycles-are-feeds cs = feeds-sum freshBook cs 0 0 (fresh-sound settings) (omega arith)
+    -- "since the last stop, if any, cycles times feed capacity plus remainder equals the feed numbers of all working ticks"; 02 §2: "In the
+    -- feed sum charges replace cycles and 1,000 × f replaces f."
+    pub charges-are-feeds : (cs : List Call)
+        → chargesSince q0 t 0 freshBook cs (replies q0 t freshBook cs) * q0 + closing q0 t freshBook cs .remainder
+        ≡ feedsSince q0 t 0 freshBook cs
+    charges-are-feeds cs = feeds-sum freshBook cs 0 0 (fresh-sound settings) (omega arith)

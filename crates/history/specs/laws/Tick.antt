@@ -1,7 +1,7 @@
 -- A tick of the record that a book tells is the book's tick.
-use mathlib.Core.Path.{_≡_, refl, sym, ap, _∙_}
+use mathlib.Core.Path.{_≡_, refl, sym, ap, ap₂, _∙_}
 use mathlib.Core.Bool.{Bool, true, false, cond}
-use Prim.Native.Nat.{ℕ, _+_}
+use Prim.Native.Nat.{ℕ, _+_, _*_}
 use native.Mathlib.Numerals.{add-one}
 use native.Mathlib.Omega.{arith}
 use lib.Dec.{eqb}
@@ -17,14 +17,16 @@ use Rattle.line.specs.Line.{steppedOf}
 use Rattle.arc.specs.declared.arc.Arc.{Arc}
 use Rattle.arc.specs.Arc.{arcAfter, arcCycles, arcStepped}
 use Rattle.arc.specs.laws.Step.{Circles, last-cycle}
+use Rattle.arc.specs.laws.Charge.{charge-codes}
 use Rattle.divider.specs.declared.Fed.{Fed}
 use Rattle.divider.specs.Divider.{fedOf}
 use Rattle.block.specs.declared.Path.{Path}
 use Rattle.block.specs.Block.{arcOf, cyclesAlong, pointAlong, blockCycles, blockPoint}
+use Rattle.block.specs.Charge.{chargeBy, blockCharge}
 use Rattle.work.specs.declared.Work.{Work}
 use Rattle.work.specs.declared.Cycle.{Cycle}
 use Rattle.work.specs.declared.Advance.{Advance}
-use Rattle.work.specs.Work.{following, lineCycle, arcCycle, cycleOf, feedOf, advanceBy, advanceOf}
+use Rattle.work.specs.Work.{following, lineCycle, arcCycle, cycleOf, feedOf, chargeOf, advanceBy, advanceOf}
 use Rattle.settings.specs.declared.Settings.{Settings}
 use Rattle.machine.specs.declared.Tick.{Tick}
 use Rattle.machine.specs.declared.Ticked.{Ticked as MachineTicked}
@@ -64,6 +66,19 @@ module _ (t : Travel) where
       let next : arcAfter a at 1 ≡ arcAfter a (j .start) (j .done + 1) = ap (λ (p : Point). arcAfter a p 1) point ∙ after-one a (j .start) (j .done) ∙ ap (arcAfter a (j .start)) (sym (add-one (j .done))) in
       rw (arc-ends here, next)
 
+-- ---- the charge of the next cycle
+
+module _ (t : Travel) where
+  charge-along : (at : Point) (j : Job) (p : Path) → at ≡ pointAlong (j .start) (j .block) p (j .done)
+      → chargeOf at (workAlong j p)
+      ≡ chargeBy p (pulsesBetween (pointAlong (j .start) (j .block) p (j .done)) (pointAlong (j .start) (j .block) p (j .done + 1)))
+  charge-along at j Path.Line point = refl
+  charge-along at j (Path.Arc turn centre) point =
+      let a = arcOf (j .start) (j .block) turn centre in
+      let next : arcAfter a at 1 ≡ arcAfter a (j .start) (j .done + 1) =
+      ap (λ (p : Point). arcAfter a p 1) point ∙ after-one a (j .start) (j .done) ∙ ap (arcAfter a (j .start)) (sym (add-one (j .done))) in
+      charge-codes a at ∙ ap₂ (λ (u v : Point). chargeBy (Path.Arc turn centre) (pulsesBetween u v)) point next
+
 -- ---- the whole tick
 
 feed-along : (j : Job) (p : Path) → feedOf (workAlong j p) ≡ j .block .feed
@@ -99,15 +114,23 @@ module _ (q0 : ℕ) (t : Travel) (at : Point) (r : ℕ) (j : Job) where
       by true e = rw e (cycle-is sound f)
       by false e = rw e
 
+  charge-is : JobSound q0 t at j → chargeOf at here ≡ blockCharge (j .start) (j .block) (j .done)
+  unfolding blockCharge blockPoint
+  charge-is sound = charge-along t at j (j .block .path) (sound .point)
+
   pub advance-is : JobSound q0 t at j → advanceOf q0 at r here ≡ advanceTold (bookTick q0 t before)
   unfolding advanceOf bookTick
   advance-is sound =
-      ap (λ (f : ℕ). advanceBy at here (fedOf q0 f r)) (feed-along j (j .block .path)) ∙ fed-is sound (fedOf q0 (j .block .feed) r)
+      ap₂ (λ (c f : ℕ). advanceBy at here (fedOf (c * q0) (1000 * f) r)) (charge-is sound) (feed-along j (j .block .path))
+      ∙ fed-is sound (fedOf (blockCharge (j .start) (j .block) (j .done) * q0) (1000 * j .block .feed) r)
 
   pub mark-kept : bookTick q0 t before .after .mark ≡ false
   unfolding bookTick cycleTick
-  mark-kept = by (fedOf q0 (j .block .feed) r) (fedOf q0 (j .block .feed) r .cycle) refl
+  mark-kept = by told-fed (told-fed .cycle) refl
     where
+      told-fed : Fed
+      told-fed = fedOf (blockCharge (j .start) (j .block) (j .done) * q0) (1000 * j .block .feed) r
+
       by : (f : Fed) (c : Bool) → f .cycle ≡ c → fedTick q0 t before j f .after .mark ≡ false
       by f true e = rw e
       by f false e = rw e
