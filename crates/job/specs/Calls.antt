@@ -1,8 +1,7 @@
 -- A job as calls on a machine: each text line is read at it, and a block that came into work is run to its end before the next line is read.
 use mathlib.Core.List.{List, [], _∷_}
-use Prim.Native.Nat.{ℕ, _+_, _-_, _*_}
+use Prim.Native.Nat.{ℕ, _+_}
 use Rattle.plane.specs.declared.point.Point.{Point}
-use Rattle.divider.specs.Divider.{endTick}
 use Rattle.block.specs.Block.{blockWidth}
 use Rattle.book.specs.Sums.{cyclesMarked}
 use Rattle.machine.specs.declared.Machine.{Machine}
@@ -11,8 +10,9 @@ use Rattle.machine.specs.Run.{Run, runOf}
 use Rattle.reader.specs.declared.Reader.{Reader}
 use Rattle.reader.specs.declared.«text_line».Read.{Read}
 use Rattle.reader.specs.TextLine.{readLineOf}
+use Rattle.listing.specs.Tally.{mostBlockTicks}
 use Rattle.job.specs.Job.{Made, End}
-use Rattle.job.specs.Listing.{madeCycles}
+use Rattle.job.specs.Listing.{madeCycles, madeTicks, madeLeaves}
 
 -- what the calls told of a block: the text line, the width that its load answered, what the run reported, the cycles marked in its tick bytes, its
 -- ticks, and where it left the machine
@@ -28,9 +28,9 @@ pub record Cuts : Type 0 where
   pub cuts : List Cut
   pub end : End
 
--- a budget and a buffer that no block exceeds: at most 8,000,000 cycles, of at most 1,200,000 ticks each
+-- a budget and a buffer that no block exceeds
 abbrev pub enough : ℕ
-enough = 9600000000000
+enough = mostBlockTicks
 
 abbrev pub afterRun : (textLine bits : ℕ) → Run → (rest : Machine → Cuts) → Cuts
 afterRun n bits x rest =
@@ -55,8 +55,12 @@ callsFrom n m k (l ∷ ls) = let r = readLineOf k m l in afterRead n (r .reader)
 unfoldable pub cutsOf : (q0 r : ℕ) → List Made → List Cut
 cutsOf q0 r [] = []
 cutsOf q0 r (m ∷ ms) =
-    let f = m .block .feed in
-    let k = madeCycles m in
-    let t = endTick q0 f r k in
-    record { textLine = m .textLine; bits = blockWidth (m .start) (m .block); report = Report.Ended; cycles = k; ticks = t; at = m .block .end }
-    ∷ cutsOf q0 (r + t * f - k * q0) ms
+    record {
+      textLine = m .textLine;
+      bits = blockWidth (m .start) (m .block);
+      report = Report.Ended;
+      cycles = madeCycles m;
+      ticks = madeTicks q0 r m;
+      at = m .block .end;
+    }
+    ∷ cutsOf q0 (madeLeaves q0 r m) ms

@@ -13,7 +13,7 @@ use Rattle.machine.specs.Machine.{soundOf}
 use Rattle.settings.specs.declared.Settings.{Settings}
 use Rattle.reader.specs.declared.Feed.{Feed}
 use Rattle.listing.specs.declared.Tally.{Tally}
-use Rattle.listing.specs.Tally.{listedOf}
+use Rattle.listing.specs.Tally.{mostBlockCycles, mostBlockTicks, listedOf}
 use Rattle.listing.specs.Tally.{startOf as tallyStart}
 use Rattle.job.specs.declared.Stage.{Stage}
 use Rattle.job.specs.declared.Check.{Check}
@@ -75,8 +75,8 @@ pub record Reached (at : ℕ) (t : Tally) : Type 0 where
   pub near : at ≤ 65537
   pub lines : t .lines ≤ 65537
   pub blocks : t .blocks ≤ t .lines
-  pub cycles : t .cycles ≤ 8000000 * t .lines
-  pub ticks : t .ticks ≤ 9600000000000 * t .lines
+  pub cycles : t .cycles ≤ mostBlockCycles * t .lines
+  pub ticks : t .ticks ≤ mostBlockTicks * t .lines
 
 abbrev pub Keeps : (before after : Check) → Type 0
 Keeps c d = Reached (c .at) (c .tally) → Reached (d .at) (d .tally)

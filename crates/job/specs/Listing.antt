@@ -1,10 +1,10 @@
 -- 01, "The check program": the listing of a job.
 use mathlib.Core.List.{List, [], _∷_, _++_}
-use Prim.Native.Nat.{ℕ, _+_, _-_, _*_}
+use Prim.Native.Nat.{ℕ, _+_}
 use lib.ListN.{length}
-use Rattle.divider.specs.Divider.{endTick}
 use Rattle.block.specs.declared.Path.{Path}
 use Rattle.block.specs.Block.{blockCycles, blockWidth}
+use Rattle.book.specs.Ledger.{blockTicks, blockLeaves}
 use Rattle.row.specs.declared.lines.Kind.{Kind}
 use Rattle.row.specs.Lines.{headerLine, blockLine, totalLine, refusedLine}
 use Rattle.settings.specs.declared.Settings.{Settings}
@@ -33,15 +33,19 @@ unfoldable pub allCycles : List Made → ℕ
 allCycles [] = 0
 allCycles (m ∷ ms) = madeCycles m + allCycles ms
 
--- "remainder kept": the working ticks of the blocks, of which the first is loaded at remainder r. A block of k cycles that takes t ticks at the feed f
--- leaves r + t f - k q0.
+-- 02 §2: "in a history that is its working tick ⌈(C × q0 - r) / (1,000 × f)⌉". A job is cut from a fresh machine on, so this is the number
+-- of working ticks of each block, r the remainder at its load.
+abbrev pub madeTicks : (q0 r : ℕ) → Made → ℕ
+madeTicks q0 r m = blockTicks q0 r (m .start) (m .block)
+
+-- "remainder kept"
+abbrev pub madeLeaves : (q0 r : ℕ) → Made → ℕ
+madeLeaves q0 r m = blockLeaves q0 r (m .start) (m .block)
+
+-- the ticks of all blocks, the first of which is loaded at remainder r
 unfoldable pub allTicks : (q0 r : ℕ) → List Made → ℕ
 allTicks q0 r [] = 0
-allTicks q0 r (m ∷ ms) =
-    let f = m .block .feed in
-    let k = madeCycles m in
-    let t = endTick q0 f r k in
-    t + allTicks q0 (r + t * f - k * q0) ms
+allTicks q0 r (m ∷ ms) = madeTicks q0 r m + allTicks q0 (madeLeaves q0 r m) ms
 
 -- "the last line gives blocks, cycles and ticks"; "At a refusal the rows so far stand and the last line is `line 3 refused 15` with its own numbers."
 abbrev pub lastLine : (q0 : ℕ) → List Made → End → List ℕ

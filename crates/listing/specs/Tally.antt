@@ -41,11 +41,19 @@ abbrev pub nextPlace : Place → (at : ℕ) → ℕ
 nextPlace (Place.Next next) at = next
 nextPlace Place.NoRoom at = at
 
--- No block has more than 8,000,000 cycles, nor q0 more than 1,200,000: so the totals of the at most 65,536 lines of a text fit in 64 bits.
+-- no block has more cycles
+abbrev pub mostBlockCycles : ℕ
+mostBlockCycles = 8000000
+
+-- nor more ticks: its charges are at most 9,400,000,000, q0 is at most 1,200,000, and a tick adds at least 1,000
+abbrev pub mostBlockTicks : ℕ
+mostBlockTicks = 11280000000000
+
+-- so the totals of the at most 65,536 lines of a text fit in 64 bits
 unfoldable pub countsRight : Tally → Bool
 countsRight t =
     leb (t .lines) 65536
-    && (leb (t .blocks) (t .lines) && (leb (t .cycles) (8000000 * t .lines) && leb (t .ticks) (9600000000000 * t .lines)))
+    && (leb (t .blocks) (t .lines) && (leb (t .cycles) (mostBlockCycles * t .lines) && leb (t .ticks) (mostBlockTicks * t .lines)))
 
 abbrev pub kindOf : Work → Kind
 kindOf Work.Nothing = Kind.Line

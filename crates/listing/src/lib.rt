@@ -100,7 +100,7 @@ impl Tally {
         if 8_000_000 * self.lines < self.cycles {
             return false;
         }
-        self.ticks <= 9_600_000_000_000 * self.lines
+        self.ticks <= 11_280_000_000_000 * self.lines
     }
 
     // Nothing read, and nothing written.

@@ -8,7 +8,7 @@ use reader::text_line::Read;
 use reader::text_line::read_first;
 
 // A budget that no block exceeds, so that a run goes to the block's end or fills its buffer.
-const ENOUGH: u64 = 9_600_000_000_000;
+const ENOUGH: u64 = 11_280_000_000_000;
 
 pub struct Tape {
     // All is handed out.

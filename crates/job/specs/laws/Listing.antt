@@ -10,6 +10,7 @@ use borrow.Author.Tests.{leb-true}
 use Rattle.row.specs.Lines.{headerLine, refusedLine}
 use Rattle.settings.specs.declared.Settings.{Settings}
 use Rattle.settings.specs.Settings.{capacityOf, settingsNo}
+use Rattle.settings.specs.laws.Right.{settings-right}
 use Rattle.finish.specs.laws.Record.{AtRest}
 use Rattle.machine.specs.Machine.{freshOf}
 use Rattle.keeps.specs.laws.Make.{fresh-sound}
@@ -20,6 +21,7 @@ use Rattle.job.specs.Text.{lineOr, linesOf}
 use Rattle.job.specs.Job.{Made, End, jobFrom, jobOf}
 use Rattle.job.specs.Listing.{rows, lastLine, listingOf}
 use Rattle.job.specs.Check.{startOf, rowsFrom, restOf}
+use Rattle.job.specs.laws.Ended.{Low}
 use Rattle.job.specs.laws.Rows.{lastAfter, total-same, lists}
 
 pub lines-few : (s : List ℕ) → length (linesOf s) ≤ length s
@@ -36,6 +38,10 @@ pub fresh-rests : (s : Settings) → settingsNo s ≡ 0 → AtRest (freshOf s)
 unfolding freshOf
 fresh-rests s passed = record { sound = fresh-sound s passed; idle = refl; free = refl }
 
+pub fresh-low : (s : Settings) → settingsNo s ≡ 0 → Low (freshOf s)
+unfolding freshOf
+fresh-low s passed = omega (arith, settings-right s passed .clock-some)
+
 last-is : (q0 : ℕ) (ms : List Made) (end : End) → lastAfter 0 0 0 q0 0 ms end ≡ lastLine q0 ms end
 last-is q0 ms End.complete = total-same (omega arith) (omega arith) (omega arith)
 last-is q0 ms (End.refused n number) = refl
@@ -51,7 +57,7 @@ listing-is s passed text = ap (λ (rest : List ℕ). headerLine ++ rest) (by (le
         rows 1 (j .blocks) ++ lastLine (capacityOf s) (j .blocks) (j .end))
     by true e =
         let j = jobFrom s 1 (record { x = pos 0; y = pos 0 }) unknown (linesOf text) in
-        lists (linesOf text) (tallyStart (freshOf s)) (fresh-rests s passed)
+        lists (linesOf text) (tallyStart (freshOf s)) (fresh-rests s passed) (fresh-low s passed)
         (record { lines = omega arith; blocks = omega arith; cycles = omega arith; ticks = omega arith })
         (omega (arith, lines-few text, leb-true (length text) 65536 e))
         ∙ ap (λ (last : List ℕ). rows 1 (j .blocks) ++ last) (last-is (capacityOf s) (j .blocks) (j .end))

@@ -1,5 +1,5 @@
 -- The rows that the tally hands out, line by line, are the listing of the job.
-use mathlib.Core.Path.{_≡_, refl, sym}
+use mathlib.Core.Path.{_≡_, refl, sym, ap}
 use mathlib.Core.Bool.{false}
 use mathlib.Core.List.{List, [], _∷_, _++_, append-assoc, append-nil}
 use Prim.Native.Nat.{ℕ, suc, _+_, _≤_}
@@ -24,7 +24,7 @@ use Rattle.listing.specs.laws.Read.{listed}
 use Rattle.job.specs.Job.{Asks, Made, End, Job, onward, jobFrom}
 use Rattle.job.specs.Listing.{pathKind, madeLine, rows, allCycles, allTicks}
 use Rattle.job.specs.Check.{rowsFrom, unless}
-use Rattle.job.specs.laws.Ended.{Accepted, endedOf, ended, ended-rests}
+use Rattle.job.specs.laws.Ended.{Accepted, Low, endedOf, ended, ended-rests, ended-ticks, ended-left, ended-low}
 use Rattle.job.specs.laws.Asks.{Read-as, load-accepted, line-asks}
 
 -- the last line, after blocks with these totals
@@ -43,7 +43,7 @@ total-same p q r = rw (p, q, r)
 
 -- ---- a line that makes a block
 
-module _ (t : Tally) (k : Reader) (b : Block) (i : AtRest (t .machine)) (ok : Accepted (t .machine) b) where
+module _ (t : Tally) (k : Reader) (b : Block) (i : AtRest (t .machine)) (low : Low (t .machine)) (ok : Accepted (t .machine) b) where
   abbrev made : Made
   made = record { textLine = t .lines + 1; start = t .machine .at; block = b }
 
@@ -73,7 +73,10 @@ module _ (t : Tally) (k : Reader) (b : Block) (i : AtRest (t .machine)) (ok : Ac
 
   last-next : (ms : List Made) (end : End) → lastOf next ms end ≡ lastOf t (made ∷ ms) end
   unfolding allCycles allTicks movedOf
-  last-next ms End.complete = total-same (omega arith) (omega arith) (omega arith)
+  last-next ms End.complete =
+      let many = ended-ticks (t .machine) i b ok low in
+      let left = ap (λ (r : ℕ). allTicks (capacityOf (t .machine .settings)) r ms) (ended-left (t .machine) i b ok low) in
+      total-same (omega arith) (omega arith) (omega arith)
   last-next ms (End.refused n number) = refl
 
   listed-next : (j : Job) → madeLine (t .blocks + 1) made ++ listingAfter next j ≡ listingAfter t (record { blocks = made ∷ j .blocks; end = j .end })
@@ -85,26 +88,28 @@ module _ (t : Tally) (k : Reader) (b : Block) (i : AtRest (t .machine)) (ok : Ac
 -- ---- any line
 
 abbrev pub Lists : List (List ℕ) → Tally → Type 0
-Lists ls t = AtRest (t .machine) → Counts t → t .lines + length ls ≤ 65536
+Lists ls t = AtRest (t .machine) → Low (t .machine) → Counts t → t .lines + length ls ≤ 65536
     → rowsFrom t ls ≡ listingAfter t (jobFrom (t .machine .settings) (t .lines + 1) (t .machine .at) (t .reader) ls)
 
-by-line : (t : Tally) (ls : List (List ℕ)) → AtRest (t .machine) → Counts t → t .lines + suc (length ls) ≤ 65536 → ((t′ : Tally) → Lists ls t′)
+by-line : (t : Tally) (ls : List (List ℕ)) → AtRest (t .machine) → Low (t .machine) → Counts t → t .lines + suc (length ls) ≤ 65536
+    → ((t′ : Tally) → Lists ls t′)
     → {a : Asks} {r : ReadLine} → Read-as (t .machine) (t .reader) a r
     → (let g = listedWith t (r .reader) (r .machine) (r .answer) in g .bytes ++ unless (g .over) (rowsFrom (g .tally) ls))
     ≡ listingAfter t (onward (t .lines + 1) (t .machine .at) a (λ at k. jobFrom (t .machine .settings) (t .lines + 1 + 1) at k ls))
 unfolding rows movedOf
-by-line t ls i c most rest (Read-as.nothing k) =
-    rest (record { reader = k; machine = t .machine; lines = t .lines + 1; blocks = t .blocks; cycles = t .cycles; ticks = t .ticks }) i
+by-line t ls i low c most rest (Read-as.nothing k) =
+    rest (record { reader = k; machine = t .machine; lines = t .lines + 1; blocks = t .blocks; cycles = t .cycles; ticks = t .ticks }) i low
     (record { lines = omega arith; blocks = omega (arith, c .blocks); cycles = omega (arith, c .cycles); ticks = omega (arith, c .ticks) })
     (omega arith)
-by-line t ls i c most rest (Read-as.makes k b ok) =
-    rw (block-given t k b i ok, rest (next t k b i ok) (ended-rests (t .machine) i b ok) (counted t k b i ok c (omega arith)) (omega arith))
-    (listed-next t k b i ok (jobFrom (t .machine .settings) (t .lines + 1 + 1) (b .end) k ls))
-by-line t ls i c most rest (Read-as.refuses n) = append-nil (refusedLine (t .lines + 1) n)
+by-line t ls i low c most rest (Read-as.makes k b ok) =
+    let j = ended-rests (t .machine) i b ok in
+    let later = rest (next t k b i low ok) j (ended-low (t .machine) i b ok low) (counted t k b i low ok c (omega arith)) (omega arith) in
+    rw (block-given t k b i low ok, later) (listed-next t k b i low ok (jobFrom (t .machine .settings) (t .lines + 1 + 1) (b .end) k ls))
+by-line t ls i low c most rest (Read-as.refuses n) = append-nil (refusedLine (t .lines + 1) n)
 
 pub lists : (ls : List (List ℕ)) (t : Tally) → Lists ls t
 unfolding rowsFrom jobFrom rows allCycles allTicks
-lists [] t i c most = total-same (omega arith) (omega arith) (omega arith)
-lists (l ∷ ls) t i c most =
+lists [] t i low c most = total-same (omega arith) (omega arith) (omega arith)
+lists (l ∷ ls) t i low c most =
     rw (listed t l (counts-test t c) {r = readLineOf (t .reader) (t .machine) l} refl)
-    (by-line t ls i c most (lists ls) (line-asks (t .machine) (t .reader) (i .sound) (i .idle) l))
+    (by-line t ls i low c most (lists ls) (line-asks (t .machine) (t .reader) (i .sound) (i .idle) l))

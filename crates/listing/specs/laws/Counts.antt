@@ -6,13 +6,13 @@ use native.Mathlib.Omega.{arith}
 use borrow.Author.Tests.{leb-true, le-leb}
 use Rattle.whole.specs.laws.Test.{both, joined}
 use Rattle.listing.specs.declared.Tally.{Tally}
-use Rattle.listing.specs.Tally.{countsRight}
+use Rattle.listing.specs.Tally.{mostBlockCycles, mostBlockTicks, countsRight}
 
 pub record Counts (t : Tally) : Type 0 where
   pub lines : t .lines ≤ 65536
   pub blocks : t .blocks ≤ t .lines
-  pub cycles : t .cycles ≤ 8000000 * t .lines
-  pub ticks : t .ticks ≤ 9600000000000 * t .lines
+  pub cycles : t .cycles ≤ mostBlockCycles * t .lines
+  pub ticks : t .ticks ≤ mostBlockTicks * t .lines
 
 pub counts : (t : Tally) → countsRight t ≡ true → Counts t
 unfolding countsRight
@@ -33,7 +33,12 @@ pub record Room (t : Tally) (k n : ℕ) : Type 0 where
   pub cycles : t .cycles + k < 2 ^ 64
   pub ticks : t .ticks + n < 2 ^ 64
 
-pub room : (t : Tally) (k n : ℕ) → countsRight t ≡ true → k ≤ 8000000 → n ≤ 9600000000000 → Room t k n
+pub room : (t : Tally) (k n : ℕ) → countsRight t ≡ true → k ≤ mostBlockCycles → n ≤ mostBlockTicks → Room t k n
 room t k n e few short =
     let c = counts t e in
-    record { lines = omega (arith, c .lines); blocks = omega (arith, c .lines, c .blocks); cycles = omega (arith, c .lines, c .cycles); ticks = omega (arith, c .lines, c .ticks) }
+    record {
+      lines = omega (arith, c .lines);
+      blocks = omega (arith, c .lines, c .blocks);
+      cycles = omega (arith, c .lines, c .cycles);
+      ticks = omega (arith, c .lines, c .ticks);
+    }

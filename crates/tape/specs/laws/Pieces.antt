@@ -6,7 +6,6 @@ use Prim.Native.Nat.{ℕ, _+_, _-_, _≤_, min}
 use native.Mathlib.Omega.{arith}
 use lib.Dec.{T}
 use lib.ListN.{length}
-use Rattle.work.specs.declared.Work.{Work}
 use Rattle.work.specs.Work.{isNothing}
 use Rattle.run.specs.Run.{Strip, stripOf}
 use Rattle.run.specs.laws.Going.{after}
@@ -17,10 +16,10 @@ use Rattle.machine.specs.Machine.{soundOf, movedOf}
 use Rattle.machine.specs.Run.{Run, ranOver, noTick, runOf}
 use Rattle.machine.specs.laws.Run.{ticks-are}
 use Rattle.keeps.specs.laws.Calls.{run-keeps}
-use Rattle.run.specs.laws.Cycles.{end-range}
-use Rattle.run.specs.laws.Strip.{last-tick, strip-ends}
-use Rattle.finish.specs.Finish.{lastTick, worksOf}
-use Rattle.finish.specs.laws.Record.{AtWork, at-work, works}
+use Rattle.run.specs.laws.Strip.{Ended, strip-ends, end-tick}
+use Rattle.finish.specs.declared.Finished.{Finished}
+use Rattle.finish.specs.Finish.{lastTickOf, worksOf, finishOf}
+use Rattle.finish.specs.laws.Record.{AtWork, at-work, works, finishes, ticks-most}
 use Rattle.job.specs.Calls.{enough}
 use Rattle.tape.specs.Tape.{runThen}
 use Rattle.tape.specs.laws.Split.{andThen, then-ended, then-going, strip-split, strip-busy, strip-some, strip-few}
@@ -62,11 +61,10 @@ module _ (m : Machine) (a : AtWork m) where
   some-tick budget buffer b n = rw (runs budget buffer) (strip-some (capacityOf (m .settings)) (min budget buffer) (m .at) (m .remainder) (m .work) (omega arith))
 
   -- a run that is allowed its ticks ends
-  ends : ticking enough .ended ≡ true
-  ends = strip-ends enough (lastTick m) (at-work a) (last-tick (at-work a)) (end-range (at-work a) .1) .ended
-
-  idle : ticking enough .work ≡ Work.Nothing
-  idle = strip-ends enough (lastTick m) (at-work a) (last-tick (at-work a)) (end-range (at-work a) .1) .idle
+  to-end : Ended (capacityOf (m .settings)) (m .at) (m .remainder) (m .work) (lastTickOf m) (ticking enough)
+  to-end =
+      let last : finishOf m .ticks ≡ lastTickOf m = ap (λ (f : Finished). f .ticks) (finishes m a) in
+      strip-ends enough (lastTickOf m) (at-work a) (end-tick (at-work a)) (omega (arith, ticks-most m))
 
 -- ---- a run of some of the ticks, and the run to the end of what it leaves
 
@@ -96,7 +94,7 @@ module _ (m : Machine) (a : AtWork m) (buffer : ℕ) (rest : Machine → List �
   unfolding movedOf
   ended e =
       let same = all ∙ then-ended first (stripOf q0 (enough - done)) e in
-      let s = still-idle left (sym (ap (λ (s : Strip). isNothing (s .work)) same) ∙ ap isNothing (idle m a)) enough enough in
+      let s = still-idle left (sym (ap (λ (s : Strip). isNothing (s .work)) same) ∙ ap isNothing (to-end m a .idle)) enough enough in
       rw (runs m a enough enough, s .0, s .1, same)
 
   -- or it did not, and then the run of what it leaves does the other ticks
@@ -104,7 +102,7 @@ module _ (m : Machine) (a : AtWork m) (buffer : ℕ) (rest : Machine → List �
   unfolding after movedOf
   going e =
       let whole = all ∙ then-going first (stripOf q0 (enough - done)) e in
-      let over : others .ended ≡ true = sym (ap (λ (s : Strip). s .ended) whole) ∙ ends m a in
+      let over : others .ended ≡ true = sym (ap (λ (s : Strip). s .ended) whole) ∙ to-end m a .ended in
       let sum : enough ≡ (enough - done) + done = omega arith in
       let same : stripOf q0 enough (first .at) (first .remainder) (first .work) ≡ others =
       ap (λ (k : ℕ). stripOf q0 k (first .at) (first .remainder) (first .work)) sum

@@ -26,8 +26,8 @@ use Rattle.job.specs.Job.{Made, End, Asks, onward, jobFrom, jobOf}
 use Rattle.job.specs.Calls.{enough}
 use Rattle.job.specs.Check.{unless}
 use Rattle.job.specs.Listing.{allCycles, allTicks}
-use Rattle.job.specs.laws.Ended.{Accepted, endedOf, ended-rests, ended-run, ended-cycles}
-use Rattle.job.specs.laws.Listing.{fresh-rests}
+use Rattle.job.specs.laws.Ended.{Accepted, Low, endedOf, ended-rests, ended-run, ended-cycles, ended-ticks, ended-left, ended-low}
+use Rattle.job.specs.laws.Listing.{fresh-rests, fresh-low}
 use Rattle.job.specs.laws.Asks.{Read-as, line-asks}
 use Rattle.tape.specs.Tape.{runThen, isRefused, bytesFrom, linesBytes, tickBytesOf, startOf, restOf, Tells}
 use Rattle.tape.specs.laws.Pieces.{still-idle, nothing-left}
@@ -51,7 +51,7 @@ unfolding allTicks allCycles
 none q0 r = record { ticks = refl; cycles = refl }
 
 -- the bytes of a block in front
-module _ (m : Machine) (n : ℕ) (b : Block) (i : AtRest m) (ok : Accepted m b) (rest : Machine → List ℕ) where
+module _ (m : Machine) (n : ℕ) (b : Block) (i : AtRest m) (low : Low m) (ok : Accepted m b) (rest : Machine → List ℕ) where
   counts-block : {ms : List Made} → Counts (capacityOf (m .settings)) (endedOf m b .machine .remainder) ms (rest (endedOf m b .machine))
       → Counts (capacityOf (m .settings)) (m .remainder) (record { textLine = n; start = m .at; block = b } ∷ ms) (runThen (loadOf m b .machine) rest)
   unfolding allTicks allCycles movedOf
@@ -59,6 +59,8 @@ module _ (m : Machine) (n : ℕ) (b : Block) (i : AtRest m) (ok : Accepted m b) 
       let x = runOf (loadOf m b .machine) enough enough in
       let ran = ended-run m i b ok in
       let many : length (x .bytes) ≡ endedOf m b .ticks = sym (ticks-are (loadOf m b .machine) enough enough) ∙ ap (λ (r : Ran). r .ticks) ran in
+      let given = ended-ticks m i b ok low in
+      let kept = ap (λ (r : ℕ). allTicks (capacityOf (m .settings)) r ms) (ended-left m i b ok low) in
       let left : x .ran .machine ≡ endedOf m b .machine = ap (λ (r : Ran). r .machine) ran in
       rw left
       (record {
@@ -67,21 +69,24 @@ module _ (m : Machine) (n : ℕ) (b : Block) (i : AtRest m) (ok : Accepted m b) 
       })
 
 abbrev pub Told : List (List ℕ) → Type 0
-Told ls = (n : ℕ) (m : Machine) (k : Reader) → AtRest m → Counts (capacityOf (m .settings)) (m .remainder) (jobFrom (m .settings) n (m .at) k ls .blocks) (bytesFrom m k ls)
+Told ls = (n : ℕ) (m : Machine) (k : Reader) → AtRest m → Low m
+    → Counts (capacityOf (m .settings)) (m .remainder) (jobFrom (m .settings) n (m .at) k ls .blocks) (bytesFrom m k ls)
 
-by-line : (m : Machine) (n : ℕ) (k : Reader) (ls : List (List ℕ)) → AtRest m → Told ls → {a : Asks} {r : ReadLine} → Read-as m k a r
+by-line : (m : Machine) (n : ℕ) (k : Reader) (ls : List (List ℕ)) → AtRest m → Low m → Told ls → {a : Asks} {r : ReadLine} → Read-as m k a r
     → Counts (capacityOf (m .settings)) (m .remainder) (onward n (m .at) a (λ at k′. jobFrom (m .settings) (n + 1) at k′ ls) .blocks)
     (unless (isRefused (r .answer)) (runThen (r .machine) (λ m′. bytesFrom m′ (r .reader) ls)))
 unfolding movedOf
-by-line m n k ls i rest (Read-as.nothing known) =
-    rw (nothing-left m (λ (m′ : Machine). bytesFrom m′ known ls) (still-idle m (i .idle))) (rest (n + 1) m known i)
-by-line m n k ls i rest (Read-as.makes known b ok) = counts-block m n b i ok (λ m′. bytesFrom m′ known ls) (rest (n + 1) (endedOf m b .machine) known (ended-rests m i b ok))
-by-line m n k ls i rest (Read-as.refuses number) = none (capacityOf (m .settings)) (m .remainder)
+by-line m n k ls i low rest (Read-as.nothing known) =
+    rw (nothing-left m (λ (m′ : Machine). bytesFrom m′ known ls) (still-idle m (i .idle))) (rest (n + 1) m known i low)
+by-line m n k ls i low rest (Read-as.makes known b ok) =
+    counts-block m n b i low ok (λ m′. bytesFrom m′ known ls)
+    (rest (n + 1) (endedOf m b .machine) known (ended-rests m i b ok) (ended-low m i b ok low))
+by-line m n k ls i low rest (Read-as.refuses number) = none (capacityOf (m .settings)) (m .remainder)
 
 lines-told : (ls : List (List ℕ)) → Told ls
 unfolding bytesFrom jobFrom
-lines-told [] n m k i = none (capacityOf (m .settings)) (m .remainder)
-lines-told (l ∷ ls) n m k i = by-line m n k ls i (lines-told ls) (line-asks m k (i .sound) (i .idle) l)
+lines-told [] n m k i low = none (capacityOf (m .settings)) (m .remainder)
+lines-told (l ∷ ls) n m k i low = by-line m n k ls i low (lines-told ls) (line-asks m k (i .sound) (i .idle) l)
 
 -- of a whole text, from a machine made fresh
 pub bytes-told : (s : Settings) → settingsNo s ≡ 0 → (text : List ℕ) → Counts (capacityOf s) 0 (jobOf s text .blocks) (tickBytesOf s text)
@@ -91,5 +96,5 @@ bytes-told s passed text = by (leb (length text) 65536)
     by : (short : Bool)
         → Counts (capacityOf s) 0 (cond short (jobFrom s 1 (record { x = pos 0; y = pos 0 }) unknown (linesOf text)) (record { blocks = []; end = End.refused 1 30 }) .blocks)
         (cond short (bytesFrom (freshOf s) unknown (linesOf (drop 0 text))) [])
-    by true = lines-told (linesOf text) 1 (freshOf s) unknown (fresh-rests s passed)
+    by true = lines-told (linesOf text) 1 (freshOf s) unknown (fresh-rests s passed) (fresh-low s passed)
     by false = none (capacityOf s) 0
