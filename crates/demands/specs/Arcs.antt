@@ -9,7 +9,7 @@ use lib.Signed.{_<ℤ_}
 use Rattle.whole.specs.Width.{widthOf}
 use Rattle.plane.specs.declared.point.Point.{Point}
 use Rattle.plane.specs.declared.pulse.Pulses.{Pulses}
-use Rattle.plane.specs.Pulse.{shiftedOf}
+use Rattle.plane.specs.Pulse.{shiftedOf, pulsesBetween}
 use Rattle.plane.specs.Byte.{cycleByte}
 use Rattle.circle.specs.declared.plane.Offset.{Offset}
 use Rattle.circle.specs.declared.plane.Turn.{Turn}
@@ -21,8 +21,9 @@ use Rattle.arc.specs.Centre.{seenFrom}
 use Rattle.block.specs.declared.Block.{Block}
 use Rattle.block.specs.declared.Path.{Path}
 use Rattle.block.specs.Block.{squareOf, arcOf}
+use Rattle.block.specs.Charge.{arcStepCharge}
 use Rattle.work.specs.declared.Work.{Work}
-use Rattle.work.specs.Work.{cyclesLeft}
+use Rattle.work.specs.Work.{cyclesLeft, chargesFor}
 use Rattle.settings.specs.Settings.{capacityOf}
 use Rattle.machine.specs.declared.Machine.{Machine}
 use Rattle.machine.specs.declared.Answer.{Answer}
@@ -67,31 +68,41 @@ pub record ArcLoaded (m : Machine) (b : Block) (turn : Turn) (centre : Offset) (
 
 -- ---- a tick
 
--- answer and record of a cycle that leads to the point at: "If it then reaches or passes q0, q0 is taken off and one cycle is done."
-abbrev pub arcCycled : Machine → (feed : ℕ) (at : Point) → Pulses → (ended : Bool) → Work → Ticked
-arcCycled m feed at pulses ended work =
-    record {
-      tick = Tick.Byte (cycleByte pulses ended);
-      machine = movedOf m at (m .remainder + feed - capacityOf (m .settings)) work;
-    }
-
--- a cycle leads to the paper's next point, and its pulses tell the way
-pub record ArcCycle (m : Machine) (a : Arc) (r : Ticked) : Type 0 where
+-- the step about to be made leads to the paper's next point, and its pulses tell the way
+pub record ArcStep (m : Machine) (a : Arc) : Type 0 where
   pub at : Point
   pub next : Next (a .square) (a .turn) (seenFrom (a .centre) (m .at)) (seenFrom (a .centre) at)
   pub pulses : Pulses
   pub small : (pulses .x ≤ 2) × (pulses .y ≤ 2)
   pub moved : at ≡ shiftedOf (m .at) pulses
-  -- ".. one a cycle, to the end."
-  pub going : at ≢ a .end → r ≡ arcCycled m (a .feed) at pulses false (Work.Arc a)
-  pub last : at ≡ a .end → r ≡ arcCycled m (a .feed) at pulses true Work.Nothing
 
--- a working tick of a record with an arc in work. "Every arc cycle costs q0."
+-- 02 §2: "A tick adds 1,000 × f."
+abbrev pub arcSum : Machine → Arc → ℕ
+arcSum m a = m .remainder + 1000 * a .feed
+
+-- 02 §2: "a straight arc step is charged 1,000 and a diagonal one 1,414. .. A cycle is due when the remainder reaches its charge times q0"
+abbrev pub arcDue : {m : Machine} {a : Arc} → ArcStep m a → ℕ
+arcDue {m} s = arcStepCharge (s .pulses) * capacityOf (m .settings)
+
+-- answer and record of its cycle
+abbrev pub arcCycled : {m : Machine} {a : Arc} → ArcStep m a → (ended : Bool) → Work → Ticked
+arcCycled {m} {a} s ended work =
+    record { tick = Tick.Byte (cycleByte (s .pulses) ended); machine = movedOf m (s .at) (arcSum m a - arcDue s) work }
+
+-- a working tick of a record with an arc in work
 pub record ArcTick (m : Machine) (a : Arc) (r : Ticked) : Type 0 where
-  -- "Each working tick .. adds f to the remainder."
-  pub waits : m .remainder + a .feed < capacityOf (m .settings)
-      → r ≡ record { tick = Tick.Byte 0; machine = movedOf m (m .at) (m .remainder + a .feed) (Work.Arc a) }
-  pub cycles : capacityOf (m .settings) ≤ m .remainder + a .feed → ArcCycle m a r
+  pub step : ArcStep m a
+  pub waits : arcSum m a < arcDue step → r ≡ record { tick = Tick.Byte 0; machine = movedOf m (m .at) (arcSum m a) (Work.Arc a) }
+  -- ".. one a cycle, to the end."
+  pub going : arcDue step ≤ arcSum m a → step .at ≢ a .end → r ≡ arcCycled step false (Work.Arc a)
+  pub last : arcDue step ≤ arcSum m a → step .at ≡ a .end → r ≡ arcCycled step true Work.Nothing
+
+-- what the next c cycles of an arc are charged adds up along the paper's walk, each step by its pulses
+pub record ArcCharges (m : Machine) (a : Arc) : Type 0 where
+  pub none : chargesFor (m .at) (Work.Arc a) 0 ≡ 0
+  pub more : (c : ℕ) (u v : Point) → Walk (a .square) (a .turn) (seenFrom (a .centre) (m .at)) c (seenFrom (a .centre) u)
+      → Next (a .square) (a .turn) (seenFrom (a .centre) u) (seenFrom (a .centre) v)
+      → chargesFor (m .at) (Work.Arc a) (c + 1) ≡ chargesFor (m .at) (Work.Arc a) c + arcStepCharge (pulsesBetween u v)
 
 pub record EveryArc : Type 0 where
   -- "a circle point .. is the nearest point along the longer coordinate", and every such point but the centre is one
@@ -102,6 +113,8 @@ pub record EveryArc : Type 0 where
   -- the cycles left, which the feed divider counts, are those of the paper's walk to the end
   pub cycles-left : (m : Machine) (a : Arc) → Sound m → m .work ≡ Work.Arc a
       → Ends (a .square) (a .turn) (seenFrom (a .centre) (m .at)) (seenFrom (a .centre) (a .end)) (cyclesLeft (m .at) (m .work))
+  -- and so are their charges, by which a run and a block's end tick go
+  pub charges : (m : Machine) (a : Arc) → Sound m → m .work ≡ Work.Arc a → ArcCharges m a
   -- "The arc visits the circle points after the start in order of angle, one a cycle": after ticks whose bytes mark c cycles the walk has
   -- come c points on
   pub walk : (m m′ : Machine) (a : Arc) (bytes : List ℕ) → Sound m → m .work ≡ Work.Arc a → TicksTo m bytes m′

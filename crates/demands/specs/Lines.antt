@@ -1,7 +1,7 @@
 -- Demand 2, lines: "The pulses of an accepted line are those of Koren's DDA with its register sized to the move and half filled."
 use mathlib.Core.Path.{_≡_}
 use mathlib.Core.Bool.{false}
-use Prim.Native.Nat.{ℕ, _+_, _-_, _≤_, _<_, max}
+use Prim.Native.Nat.{ℕ, _+_, _-_, _*_, _≤_, _<_, max}
 use lib.Dec.{eqb}
 use lib.IntN.{natAbs}
 use Rattle.whole.specs.Sign.{isNegative}
@@ -10,6 +10,7 @@ use Rattle.plane.specs.declared.point.Point.{Point}
 use Rattle.plane.specs.declared.pulse.Pulses.{Pulses}
 use Rattle.plane.specs.Pulse.{codeOf, shiftedOf}
 use Rattle.plane.specs.Byte.{cycleByte}
+use Rattle.circle.specs.Charge.{straight}
 use Rattle.line.specs.declared.line.Line.{Line}
 use Rattle.line.specs.Line.{incrementX, incrementY, cyclesOf, lineOf}
 use Rattle.line.specs.Register.{pulsesOf}
@@ -42,17 +43,17 @@ registerPulses start end c =
 abbrev pub oneMore : Line → Line
 oneMore l = record { start = l .start; end = l .end; feed = l .feed; cycles = l .cycles; done = l .done + 1 }
 
--- a working tick of a record with a line in work
+-- a working tick of a record with a line in work. 02 §2: "Line cycles are charged 1,000.", whatever pulses they send
 pub record LineTick (m : Machine) (l : Line) (r : Ticked) : Type 0 where
-  -- "Each working tick .. adds f to the remainder."
-  pub waits : m .remainder + l .feed < capacityOf (m .settings)
-      → r ≡ record { tick = Tick.Byte 0; machine = movedOf m (m .at) (m .remainder + l .feed) (Work.Line l) }
-  -- "If it then reaches or passes q0, q0 is taken off and one cycle is done." The byte tells the registers' pulses, the cycle, and the end
-  -- after q cycles.
-  pub cycles : capacityOf (m .settings) ≤ m .remainder + l .feed
+  -- 02 §2: "A tick adds 1,000 × f."
+  pub waits : m .remainder + 1000 * l .feed < straight * capacityOf (m .settings)
+      → r ≡ record { tick = Tick.Byte 0; machine = movedOf m (m .at) (m .remainder + 1000 * l .feed) (Work.Line l) }
+  -- 02 §2: "A cycle is due when the remainder reaches its charge times q0": as 01 has it, that "is taken off and one cycle is done". The
+  -- byte tells the registers' pulses, the cycle, and the end after q cycles.
+  pub cycles : straight * capacityOf (m .settings) ≤ m .remainder + 1000 * l .feed
       → (let pulses = registerPulses (l .start) (l .end) (l .done) in
       let last = eqb (l .done + 1) (cyclesOf (l .start) (l .end)) in
-      let rest = m .remainder + l .feed - capacityOf (m .settings) in
+      let rest = m .remainder + 1000 * l .feed - straight * capacityOf (m .settings) in
       r ≡ record {
         tick = Tick.Byte (cycleByte pulses last);
         machine = movedOf m (shiftedOf (m .at) pulses) rest (following last (Work.Line (oneMore l)));

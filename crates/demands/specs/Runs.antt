@@ -3,18 +3,20 @@ use mathlib.Core.Path.{_≡_}
 use mathlib.Core.Bool.{true, false}
 use mathlib.Core.Logic.{_≢_, _↔_}
 use mathlib.Core.List.{List, [], _∷_}
-use Prim.Native.Nat.{ℕ, _≤_, _<_, min}
+use Prim.Native.Nat.{ℕ, _+_, _-_, _*_, _/_, _≤_, _<_, min, max}
 use lib.ListN.{length, take, drop}
 use denote.Ref.{RefT, now}
 use contract.Lifetimes.{Lfts}
 use Rattle.work.specs.declared.Work.{Work}
-use Rattle.work.specs.Work.{endOf}
+use Rattle.circle.specs.Charge.{mostPaid}
+use Rattle.work.specs.Work.{addedOf, cyclesLeft, chargesFor, chargesLeft, endOf}
+use Rattle.settings.specs.Settings.{capacityOf}
 use Rattle.machine.specs.declared.Machine.{Machine}
 use Rattle.machine.specs.declared.Tick.{Tick}
 use Rattle.machine.specs.declared.Ticked.{Ticked}
 use Rattle.machine.specs.declared.Ran.{Ran}
-use Rattle.finish.specs.Finish.{lastTick}
 use Rattle.book.specs.Book.{Report, Reply}
+use Rattle.book.specs.Sums.{cyclesMarked}
 use Rattle.history.specs.Contracts.{Ticks, Runs}
 use Rattle.demands.specs.Sound.{Sound}
 use Rattle.demands.specs.Answers.{ranReply}
@@ -29,21 +31,39 @@ pub data TicksTo : Machine → List ℕ → Machine → Type 0 where
 abbrev pub Reports : Ran → (new : List ℕ) → Report → Type 0
 Reports r new report = ranReply r new ≡ Reply.ran report (r .ticks) (take (r .ticks) new)
 
--- a run lent the buffer old, which it leaves as new; `lastTick m` is the working tick on which the block in work ends
+-- the working ticks to the block's end: each cycle left has one, and by the last of them the remainder and 1,000 × f a tick reach the
+-- charges left times q0. 02 §2: "A block ends on the tick that stepping by this rule gives; in a history that is its working tick
+-- ⌈(C × q0 - r) / (1,000 × f)⌉, C being the sum of its charges."
+abbrev pub ticksLeft : Machine → ℕ
+ticksLeft m =
+    let w = m .work in
+    let due = chargesLeft (m .at) w * capacityOf (m .settings) in
+    max (cyclesLeft (m .at) w) ((due - m .remainder + (addedOf w - 1)) / addedOf w)
+
+-- the cycles that n of these ticks do: the most, at most n and at most those left, whose charges times q0 are paid by the remainder and
+-- 1,000 × f a tick. 02 §2: "A cycle is due when the remainder reaches its charge times q0, at most one a tick."
+abbrev pub cyclesIn : Machine → (n : ℕ) → ℕ
+cyclesIn m n =
+    let w = m .work in
+    mostPaid (λ c. chargesFor (m .at) w c * capacityOf (m .settings)) (m .remainder + n * addedOf w) (min n (cyclesLeft (m .at) w))
+
+-- a run lent the buffer old, which it leaves as new
 pub record Running (m : Machine) (budget : ℕ) (old new : List ℕ) (r : Ran) : Type 0 where
   -- "It does the least of its tick budget, the buffer length and the ticks to the block's end"
-  pub ticks : r .ticks ≡ min budget (min (length old) (lastTick m))
+  pub ticks : r .ticks ≡ min budget (min (length old) (ticksLeft m))
   -- "A run writes tick bytes into a lent buffer": they are its ticks' answers one by one, and it leaves the record that they leave
   pub bytes : TicksTo m (take (r .ticks) new) (r .machine)
+  -- and they mark as many cycles as are paid, "at most one a tick"
+  pub cycles : cyclesMarked (take (r .ticks) new) ≡ cyclesIn m (r .ticks)
   -- "later bytes keep their contents"
   pub later : drop (r .ticks) new ≡ drop (r .ticks) old
   pub long : length new ≡ length old
   -- "else ended, spent or full, the first that is true"
-  pub ended : Reports r new Report.ended ↔ (lastTick m ≤ r .ticks)
-  pub spent : Reports r new Report.spent ↔ ((r .ticks < lastTick m) × (budget ≤ r .ticks))
-  pub full : Reports r new Report.full ↔ ((r .ticks < lastTick m) × (r .ticks < budget))
+  pub ended : Reports r new Report.ended ↔ (ticksLeft m ≤ r .ticks)
+  pub spent : Reports r new Report.spent ↔ ((r .ticks < ticksLeft m) × (budget ≤ r .ticks))
+  pub full : Reports r new Report.full ↔ ((r .ticks < ticksLeft m) × (r .ticks < budget))
   -- at the block's end nothing is in work, and the point is the commanded end
-  pub over : lastTick m ≤ r .ticks → (r .machine .work ≡ Work.Nothing) × (r .machine .at ≡ endOf (m .at) (m .work))
+  pub over : ticksLeft m ≤ r .ticks → (r .machine .work ≡ Work.Nothing) × (r .machine .at ≡ endOf (m .at) (m .work))
 
 -- a run without a tick
 pub record Resting (m : Machine) (old new : List ℕ) (r : Ran) (report : Report) : Type 0 where

@@ -1,12 +1,13 @@
 -- 01, Job and machine: "A record is sound if ..", sentence by sentence and without a test.
 use mathlib.Core.Path.{_≡_}
 use mathlib.Core.Logic.{_≢_}
-use Prim.Native.Nat.{ℕ, _≤_, _<_}
+use Prim.Native.Nat.{ℕ, _*_, _≤_, _<_}
 use lib.IntN.{ℤ, pos, negsuc}
 use lib.Signed.{_≤ℤ_}
 use Rattle.plane.specs.declared.point.Point.{Point}
 use Rattle.plane.specs.declared.travel.Range.{Range}
 use Rattle.plane.specs.declared.travel.Travel.{Travel}
+use Rattle.circle.specs.Charge.{diagonal}
 use Rattle.circle.specs.declared.plane.Offset.{Offset}
 use Rattle.circle.specs.Circle.{Circle}
 use Rattle.circle.specs.Next.{ToVisit}
@@ -89,9 +90,10 @@ WorkSound q0 t at Work.Nothing = Unit {0}
 WorkSound q0 t at (Work.Line l) = LineSound q0 t at l
 WorkSound q0 t at (Work.Arc a) = ArcSound q0 t at a
 
--- "A record is sound if settings pass questions 1 to 3; the point is in travel; the remainder is below q0;" and what is in work is sound
+-- "A record is sound if settings pass questions 1 to 3; the point is in travel; the remainder is below q0;" and what is in work is sound.
+-- 02 §2: "A sound remainder is below 1,414 × q0."
 pub record Sound (m : Machine) : Type 0 where
   pub settings : AllYes (settingsQuestions (m .settings))
   pub point : InTravel (m .settings .travel) (m .at)
-  pub remainder : m .remainder < capacityOf (m .settings)
+  pub remainder : m .remainder < diagonal * capacityOf (m .settings)
   pub work : WorkSound (capacityOf (m .settings)) (m .settings .travel) (m .at) (m .work)

@@ -16,7 +16,6 @@ use Rattle.machine.specs.declared.Answered.{Answered}
 use Rattle.machine.specs.Machine.{freshOf}
 use Rattle.book.specs.Sums.{cyclesMarked}
 use Rattle.history.specs.Contracts.{Loads}
-use Rattle.finish.specs.Finish.{lastTick}
 use Rattle.job.specs.Job.{Made, jobOf}
 use Rattle.job.specs.Listing.{allCycles, allTicks}
 use Rattle.tape.specs.declared.Tape.{Tape}
@@ -25,7 +24,7 @@ use Rattle.tape.proofs.Tape.start.Reads as start-reads
 use Rattle.tape.proofs.Tape.fill.Reads as fill-reads
 use Rattle.demands.specs.Asked.{AllYes}
 use Rattle.demands.specs.Sound.{settingsQuestions}
-use Rattle.demands.specs.Runs.{TicksTo}
+use Rattle.demands.specs.Runs.{TicksTo, ticksLeft}
 use Rattle.demands.specs.Texts.{Filling, FrontOf}
 
 -- blocks loaded from the record m on, each at the record that the one before it left, accepted with its width, and ticked to its end, by
@@ -34,7 +33,7 @@ pub data BlocksTick : Machine → List Made → List ℕ → Type 0 where
   none : {m : Machine} → BlocksTick m [] []
   block : {m m′ : Machine} {later : List Made} {bytes rest : List ℕ} (made : Made) (r : Answered) → made .start ≡ m .at
       → Loads m (made .block) r → r .answer ≡ Answer.Width (blockWidth (made .start) (made .block))
-      → TicksTo (r .machine) bytes m′ → length bytes ≡ lastTick (r .machine) → m′ .work ≡ Work.Nothing
+      → TicksTo (r .machine) bytes m′ → length bytes ≡ ticksLeft (r .machine) → m′ .work ≡ Work.Nothing
       → BlocksTick m′ later rest → BlocksTick m (made ∷ later) (bytes ++ rest)
 
 -- the tick bytes of a text's job

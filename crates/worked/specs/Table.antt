@@ -1,7 +1,8 @@
--- 01, "Pulses worked by hand": the starred rows, each as document 01 has it, and what it is for a row to hold.
+-- 01, "Pulses worked by hand": the starred rows, each as document 01 has it, and what it is for a row to hold. After them examples of 02
+-- §2, worked out by hand: an arc, a line with a diagonal cycle, and a remainder that no history leaves.
 use mathlib.Core.Bool.{Bool, true, false, _&&_, Bool·beq}
 use mathlib.Core.List.{List, [], _∷_}
-use Prim.Native.Nat.{ℕ, zero, suc}
+use Prim.Native.Nat.{ℕ, zero, suc, _*_}
 use lib.Dec.{eqb}
 use lib.IntN.{ℤ, pos, negsuc}
 use lib.ListN.{length}
@@ -16,12 +17,16 @@ use Rattle.circle.specs.declared.plane.Turn.the-variants.{Clockwise, Counterclo
 use Rattle.circle.specs.Circle.{excess, onCircle}
 use Rattle.circle.specs.Step.{offset, afterOf}
 use Rattle.circle.specs.Count.{cyclesOf as cycles}
-use Rattle.divider.specs.Divider.{endTick}
+use Rattle.divider.specs.Divider.{addedAt, endTick, lastTick}
 use Rattle.arc.specs.declared.arc.Arc.{Arc}
 use Rattle.arc.specs.Arc.{arcAfter, arcCycles}
 use Rattle.line.specs.Line.{cyclesOf, pointOf}
 use Rattle.block.specs.declared.Block.{Block}
 use Rattle.block.specs.declared.Path.{Path}
+use Rattle.block.specs.Block.{blockCycles}
+use Rattle.block.specs.Charge.{blockCharge}
+use Rattle.work.specs.Work.{workAlong}
+use Rattle.run.specs.Run.{Strip, stripOf}
 use Rattle.settings.specs.declared.Settings.{Settings}
 use Rattle.machine.specs.declared.Answer.{Answer}
 use Rattle.machine.specs.Machine.{freshOf}
@@ -43,8 +48,14 @@ pub data Row : Type 0 where
   endTest : (N : ℕ) (end : Offset) (F : ℤ) (accepted : Bool) → Row
   -- an arc from a position takes so many cycles, and question 16 says yes or no under this upper X bound, the other bounds being widest
   bounded : Arc → (start : Point) (cycles upper : ℕ) (accepted : Bool) → Row
-  -- at capacity q0 a block of k cycles and feed f, loaded at remainder r, ends on this working tick
-  ends : (q0 f r k tick : ℕ) → Row
+  -- at capacity q0 a block of k cycles, charged C together, and of feed f, that begins at remainder r, ends on this working tick
+  ends : (q0 f r C k tick : ℕ) → Row
+  -- the document's number, ⌈(C × q0 - r) / (1,000 × f)⌉, is this
+  gives : (q0 f r C tick : ℕ) → Row
+  -- the cycles of a block from (0, 0) are charged this, one by one
+  charged : Block → (charges : List ℕ) → Row
+  -- at q0 300,000 the working ticks of a block from (0, 0), begun at remainder r, give these bytes, to its end, and leave this remainder
+  ticked : Block → (r : ℕ) (bytes : List ℕ) (left : ℕ) → Row
 
 -- the points of a line from (0, 0): n of them, the first after cycle c
 unfoldable pub points : (end : Point) (n c : ℕ) → List Point
@@ -81,12 +92,34 @@ numberOf (Answer.Refused number) = number
 abbrev pub boundedBy : (upper : ℕ) → Settings
 boundedBy upper = record { scale = 50; clock = 5000; travel = record { x = record { lower = widest .lower; upper = pos upper }; y = widest } }
 
+abbrev pub lineBy : (end : Point) (feed : ℕ) → Block
+lineBy end f = record { path = Path.Line; end = end; feed = f }
+
+-- from (0, 0) round the centre (-5, 0), so from (5, 0) to (0, 5) as the centre sees it
+abbrev pub quarter : (feed : ℕ) → Block
+quarter f = record { path = Path.Arc Counterclockwise (offset (negsuc 4) (pos 0)); end = at (negsuc 4) (pos 5); feed = f }
+
 -- blocks with feed 1
 abbrev pub lineTo : (end : Point) → Block
-lineTo end = record { path = Path.Line; end = end; feed = 1 }
+lineTo end = lineBy end 1
 
 abbrev pub arcTo : Turn → (centre : Offset) (end : Point) → Block
 arcTo turn centre end = record { path = Path.Arc turn centre; end = end; feed = 1 }
+
+-- the charges of n cycles, the first after c
+unfoldable pub chargesFrom : Block → (n c : ℕ) → List ℕ
+chargesFrom b zero c = []
+chargesFrom b (suc n) c = blockCharge (at (pos 0) (pos 0)) b c ∷ chargesFrom b n (suc c)
+
+unfoldable pub sameNumbers : (ns ms : List ℕ) → Bool
+sameNumbers [] [] = true
+sameNumbers [] (m ∷ ms) = false
+sameNumbers (n ∷ ns) [] = false
+sameNumbers (n ∷ ns) (m ∷ ms) = eqb n m && sameNumbers ns ms
+
+-- so many ticks of the block, at most to its end
+abbrev pub stripFrom : Block → (r n : ℕ) → Strip
+stripFrom b r n = let o = at (pos 0) (pos 0) in stripOf 300000 n o r (workAlong o b (b .path))
 
 unfoldable pub holds : Row → Bool
 holds (line a b q ps) = eqb (cyclesOf (at (pos 0) (pos 0)) (at a b)) q && same (points (at a b) q 1) ps
@@ -97,7 +130,11 @@ holds (endTest N end F accepted) = equalZ (excess N end) F && Bool·beq (onCircl
 holds (bounded a start k upper accepted) =
     eqb (arcCycles a start) k
     && Bool·beq (visitsInside (record { x = record { lower = widest .lower; upper = pos upper }; y = widest }) (arcAfter a start) (arcCycles a start)) accepted
-holds (ends q0 f r k tick) = eqb (endTick q0 f r k) tick
+holds (ends q0 f r C k tick) = eqb (lastTick (C * q0) (addedAt f) r k) tick
+holds (gives q0 f r C tick) = eqb (endTick (C * q0) (addedAt f) r) tick
+holds (charged b cs) = sameNumbers (chargesFrom b (blockCycles (at (pos 0) (pos 0)) b) 0) cs
+holds (ticked b r bytes left) =
+    let s = stripFrom b r (length bytes) in s .ended && (sameNumbers (s .bytes) bytes && eqb (s .remainder) left)
 
 unfoldable pub allHold : List Row → Bool
 allHold [] = true
@@ -138,7 +175,25 @@ table =
     -- a clockwise arc that is not a full turn: the first one back
     ∷ arc 25 Clockwise (offset (pos 0) (pos 5)) (offset (pos 5) (pos 0))
     (offset (pos 1) (pos 5) ∷ offset (pos 2) (pos 5) ∷ offset (pos 3) (pos 4) ∷ offset (pos 4) (pos 3) ∷ offset (pos 5) (pos 2) ∷ offset (pos 5) (pos 1) ∷ offset (pos 5) (pos 0) ∷ [])
-    -- "q0 300,000, r 0, k 1: f 150,000 ends on tick 2, 149,999 on tick 3."
-    ∷ ends 300000 150000 0 1 2
-    ∷ ends 300000 149999 0 1 3
+    -- "q0 300,000, r 0, k 1: f 150,000 ends on tick 2, 149,999 on tick 3.": one cycle, charged 1,000
+    ∷ ends 300000 150000 0 1000 1 2
+    ∷ ends 300000 149999 0 1000 1 3
+    ∷ gives 300000 150000 0 1000 2
+    ∷ gives 300000 149999 0 1000 3
+    -- 02 §2. The first arc of N 25 again, seen from its start: of its seven steps the third, fourth and fifth are diagonal. C = 4 × 1,000 +
+    -- 3 × 1,414 = 8,242. At f 150,000, half of q0, a tick adds 500 q0; the sums of charges, 1,000, 2,000, 3,414, 4,828, 6,242, 7,242,
+    -- 8,242, are reached on the ticks 2, 4, 7, 10, 13, 15, 17, and 17 × 500 - 8,242 = 258 q0 are left.
+    ∷ charged (quarter 150000) (1000 ∷ 1000 ∷ 1414 ∷ 1414 ∷ 1414 ∷ 1000 ∷ 1000 ∷ [])
+    ∷ ends 300000 150000 0 8242 7 17
+    ∷ gives 300000 150000 0 8242 17
+    ∷ ticked (quarter 150000) 0
+    (0 ∷ 20 ∷ 0 ∷ 20 ∷ 0 ∷ 0 ∷ 22 ∷ 0 ∷ 0 ∷ 22 ∷ 0 ∷ 0 ∷ 22 ∷ 0 ∷ 18 ∷ 0 ∷ 50 ∷ []) 77400000
+    -- The line (1, 1): its first cycle sends a pulse on both axes, its second none, and each is charged 1,000.
+    ∷ charged (lineTo (at (pos 1) (pos 1))) (1000 ∷ 1000 ∷ [])
+    ∷ ticked (lineBy (at (pos 1) (pos 1)) 150000) 0 (0 ∷ 21 ∷ 0 ∷ 48 ∷ []) 0
+    -- The line (3, 0) at f = q0, with a remainder of 1,400 q0, which is sound but which no history leaves: 1,400 + 1,000 × 2 would pay its
+    -- 3,000 on tick 2, but a tick does one cycle at most, so it ends on tick 3, and 1,400 q0 are left.
+    ∷ gives 300000 300000 420000000 3000 2
+    ∷ ends 300000 300000 420000000 3000 3 3
+    ∷ ticked (lineBy (at (pos 3) (pos 0)) 300000) 420000000 (17 ∷ 17 ∷ 49 ∷ []) 420000000
     ∷ []

@@ -3,12 +3,13 @@ use mathlib.Core.Path.{_≡_, refl, sym, ap, subst, _∙_}
 use mathlib.Core.Bool.{Bool, true, false, cond, _||_}
 use mathlib.Core.Logic.{_≢_, _⊎_, inl, inr}
 use mathlib.Core.List.{List}
-use Prim.Native.Nat.{ℕ, zero, suc, _+_, _-_, _≤_}
+use Prim.Native.Nat.{ℕ, zero, suc, _+_, _-_, _*_, _≤_}
 use native.Mathlib.Omega.{arith}
 use lib.Dec.{T, leb}
 use borrow.Author.Tests.{leb-true, leb-false}
 use lib.IntN.{ℤ, pos, negsuc, natAbs, _+ℤ_, _-ℤ_}
 use Rattle.whole.specs.Root.{nearestRoot}
+use Rattle.whole.specs.laws.Test.{refuted}
 use Rattle.whole.specs.laws.Difference.{ring, var, _⊕_, _⊖_}
 use Rattle.plane.specs.declared.point.Point.{Point}
 use Rattle.plane.specs.declared.pulse.Pulses.{Pulses}
@@ -23,19 +24,24 @@ use Rattle.circle.specs.declared.plane.Turn.{Turn}
 use Rattle.circle.specs.Circle.{Circle}
 use Rattle.circle.specs.Next.{Next, Walk, Ends}
 use Rattle.circle.specs.Step.{stepOf, afterOf}
+use Rattle.circle.specs.Charge.{chargesIn}
 use Rattle.circle.specs.laws.Circle.{axis-circle}
 use Rattle.circle.specs.laws.Next.{step-close, sole}
-use Rattle.circle.specs.laws.Walk.{ends}
+use Rattle.circle.specs.laws.Walk.{after-circle, walk-to, ends}
 use Rattle.arc.specs.declared.arc.Arc.{Arc}
-use Rattle.arc.specs.Centre.{seenFrom}
+use Rattle.arc.specs.Centre.{seenFrom, backFrom}
 use Rattle.arc.specs.Arc.{arcAfter, arcCycles, arcWidth, arcStepped}
 use Rattle.arc.specs.laws.Step.{seen-after}
+use Rattle.arc.specs.Charge.{arcCharge, arcChargesIn}
+use Rattle.arc.specs.laws.Centre.{back-seen}
+use Rattle.arc.specs.laws.Charge.{charge-codes, charges-next}
 use Rattle.block.specs.declared.Block.{Block}
 use Rattle.block.specs.declared.Path.{Path}
 use Rattle.block.specs.Block.{squareOf, arcOf}
+use Rattle.block.specs.Charge.{arcStepCharge}
 use Rattle.block.specs.laws.Begin.{offset-right, square-some}
 use Rattle.work.specs.declared.Work.{Work}
-use Rattle.work.specs.Work.{isNothing, following, arcCycle, cycleOf, cyclesLeft, advanceOf}
+use Rattle.work.specs.Work.{isNothing, following, arcCycle, cycleOf, dueOf, cyclesLeft, advanceOf}
 use Rattle.run.specs.laws.Idle.{idle-tick, cycle-tick}
 use Rattle.settings.specs.Settings.{capacityOf}
 use Rattle.machine.specs.declared.Machine.{Machine}
@@ -51,7 +57,7 @@ use Rattle.demands.specs.Asked.{AllYes}
 use Rattle.demands.specs.Sound.{Sound}
 use Rattle.demands.specs.Questions.{CentreRight, pathQuestions, loadQuestions}
 use Rattle.demands.specs.Runs.{TicksTo}
-use Rattle.demands.specs.Arcs.{ArcLoaded, arcCycled, ArcCycle, ArcTick, EveryArc}
+use Rattle.demands.specs.Arcs.{ArcLoaded, ArcStep, arcSum, arcDue, arcCycled, ArcTick, ArcCharges, EveryArc}
 use Rattle.demands.specs.laws.Sound.{sound-is}
 use Rattle.demands.specs.laws.Answers.{centre-is}
 use Rattle.demands.specs.laws.Nearest.{least-error}
@@ -123,45 +129,45 @@ module _ (m : Machine) (a : Arc) (here : Circle (a .square) (seenFrom (a .centre
   abbrev there : Point
   there = arcAfter a (m .at) 1
 
-  -- what a cycle that ends the block, or does not, makes of the record
-  abbrev given : (ended : Bool) → Ticked
-  given ended =
-      record {
-        tick = Tick.Byte (cycleByte (pulsesBetween (m .at) there) ended);
-        machine = movedOf m there (m .remainder + a .feed - q0) (following ended (Work.Arc a));
-      }
+  abbrev step : ArcStep m a
+  step = record {
+    at = there;
+    next = next-is a (m .at) here;
+    pulses = pulsesBetween (m .at) there;
+    small = (change-small _ _, change-small _ _);
+    moved = next-moved a (m .at) here;
+  }
 
-  cycle-given : (ended : Bool) → equalPoint there (a .end) ≡ ended → ArcCycle m a (given ended)
-  cycle-given ended e =
-      record {
-        at = there;
-        next = next-is a (m .at) here;
-        pulses = pulsesBetween (m .at) there;
-        small = (change-small _ _, change-small _ _);
-        moved = next-moved a (m .at) here;
-        going = λ f. by ended e f;
-        last = λ q. ap given (sym e ∙ ap (λ (p : Point). equalPoint p (a .end)) q ∙ equal-itself (a .end));
-      }
-    where
-      by : (ended : Bool) → equalPoint there (a .end) ≡ ended → there ≢ a .end → given ended ≡ given false
-      by true e f = absurd (f (equal-point there (a .end) e))
-      by false e f = refl
+  -- the due goes by the pulses of the step
+  due-is : dueOf q0 (m .at) (Work.Arc a) ≡ arcDue step
+  due-is = ap (λ (c : ℕ). c * q0) (charge-codes a (m .at))
 
-  tick-given : q0 ≤ m .remainder + a .feed
-      → working m (advanceOf q0 (m .at) (m .remainder) (Work.Arc a)) ≡ given (equalPoint there (a .end))
-  unfolding cycleOf arcCycle arcStepped
-  tick-given over =
-      ap (working m) (sym (cycle-tick q0 (m .at) (m .remainder) (Work.Arc a) {rest = m .remainder + a .feed - q0} over (omega arith) refl))
+  module _ (over : arcDue step ≤ arcSum m a) where
+    tick-given : working m (advanceOf q0 (m .at) (m .remainder) (Work.Arc a))
+        ≡ arcCycled step (equalPoint there (a .end)) (following (equalPoint there (a .end)) (Work.Arc a))
+    unfolding cycleOf arcCycle arcStepped
+    tick-given =
+        let fed : dueOf q0 (m .at) (Work.Arc a) + (arcSum m a - arcDue step) ≡ arcSum m a = omega (arith, due-is) in
+        ap (working m) (sym (cycle-tick q0 (m .at) (m .remainder) (Work.Arc a) {rest = arcSum m a - arcDue step} fed refl))
+
+    tick-ended : (ended : Bool) → equalPoint there (a .end) ≡ ended
+        → working m (advanceOf q0 (m .at) (m .remainder) (Work.Arc a)) ≡ arcCycled step ended (following ended (Work.Arc a))
+    tick-ended ended e = tick-given ∙ ap (λ (b : Bool). arcCycled step b (following b (Work.Arc a))) e
 
 pub arc-tick : (m : Machine) (a : Arc) (r : Ticked) → Ticks m r → Sound m → m .work ≡ Work.Arc a → m .held ≡ false → ArcTick m a r
 arc-tick m a r h s work free =
     let t = tick-of m (Work.Arc a) r h s work refl free in
-    let w = work-of m (Work.Arc a) s work in
+    let here = work-of m (Work.Arc a) s work .point in
     record {
-      waits = λ below. t ∙ ap (working m) (idle-tick (capacityOf (m .settings)) (m .at) (m .remainder) (Work.Arc a) below);
-      cycles = λ over. subst (ArcCycle m a) (sym (t ∙ tick-given m a (w .point) over))
-          (cycle-given m a (w .point) (equalPoint (arcAfter a (m .at) 1) (a .end)) refl);
+      step = step m a here;
+      waits = λ below.
+          t ∙ ap (working m) (idle-tick (capacityOf (m .settings)) (m .at) (m .remainder) (Work.Arc a) (omega (arith, due-is m a here)));
+      going = λ over f. t ∙ tick-ended m a here over false (differ (arcAfter a (m .at) 1) (a .end) f);
+      last = λ over e. t ∙ tick-ended m a here over true (ap (λ (p : Point). equalPoint p (a .end)) e ∙ equal-itself (a .end));
     }
+  where
+    differ : (p q : Point) → p ≢ q → equalPoint p q ≡ false
+    differ p q f = refuted (equalPoint p q) (λ e. f (equal-point p q e))
 
 -- ---- the cycles left
 
@@ -172,6 +178,29 @@ arc-left m a s work =
     let w = work-of m (Work.Arc a) s work in
     subst (Ends (a .square) (a .turn) (seenFrom (a .centre) (m .at)) (seenFrom (a .centre) (a .end))) (sym (ap (cyclesLeft (m .at)) work))
     (ends (a .turn) (seenFrom (a .centre) (a .end)) (w .end) (seenFrom (a .centre) (m .at)) (w .point))
+
+-- ---- and their charges
+
+pub arc-charges : (m : Machine) (a : Arc) → Sound m → m .work ≡ Work.Arc a → ArcCharges m a
+unfolding chargesIn arcAfter afterOf
+arc-charges m a s work =
+    let here = work-of m (Work.Arc a) s work .point in
+    let from = seenFrom (a .centre) (m .at) in
+    record {
+      none = refl;
+      more = λ c u v walk next.
+          let seen-u = walk-to (a .turn) from c (seenFrom (a .centre) u) here walk in
+          let on-u : Circle (a .square) (seenFrom (a .centre) u) = rw seen-u (after-circle (a .turn) from c here) in
+          let at-u : u ≡ arcAfter a (m .at) c = sym (back-seen (a .centre) u) ∙ ap (backFrom (a .centre)) seen-u in
+          let seen-v = sole (a .turn) (seenFrom (a .centre) u) on-u .only (seenFrom (a .centre) v) next in
+          let at-v : v ≡ arcAfter a u 1 = sym (back-seen (a .centre) v) ∙ ap (backFrom (a .centre)) seen-v in
+          let one : c + 1 ≡ suc c = omega arith in
+          rw one
+          (charges-next a (m .at) c
+          ∙ ap (λ (p : Point). arcChargesIn a (m .at) c + arcCharge a p) (sym at-u)
+          ∙ ap (λ (n : ℕ). arcChargesIn a (m .at) c + n)
+          (charge-codes a u ∙ ap (λ (p : Point). arcStepCharge (pulsesBetween u p)) (sym at-v)));
+    }
 
 -- ---- the walk
 
@@ -216,26 +245,26 @@ marks p ended small = told-codes p ended (small .0) (small .1) .cycle
 -- a working tick of an arc
 working-step : (m : Machine) (a : Arc) (r : Ticked) (byte : ℕ) → ArcTick m a r → r .tick ≡ Tick.Byte byte → Steps a m byte (r .machine)
 unfolding movedOf
-working-step m a r byte t b = by (leb (capacityOf (m .settings)) (m .remainder + a .feed)) refl
+working-step m a r byte t b = by (leb (arcDue (t .step)) (arcSum m a)) refl
   where
-    stepped : (c : ArcCycle m a r) (ended : Bool) (work : Work) → r ≡ arcCycled m (a .feed) (c .at) (c .pulses) ended work
-        → (work ≡ Work.Arc a) ⊎ (work ≡ Work.Nothing) → Steps a m byte (r .machine)
-    stepped c ended work k going =
-        let mark = ap cycleMark (ap byteOf (sym b ∙ ap (λ (r : Ticked). r .tick) k)) ∙ marks (c .pulses) ended (c .small) in
-        subst (λ (r : Ticked). Steps a m byte (r .machine)) (sym k) (steps mark (c .next) going)
+    stepped : (ended : Bool) (work : Work) → r ≡ arcCycled (t .step) ended work → (work ≡ Work.Arc a) ⊎ (work ≡ Work.Nothing)
+        → Steps a m byte (r .machine)
+    stepped ended work k going =
+        let mark = ap cycleMark (ap byteOf (sym b ∙ ap (λ (r : Ticked). r .tick) k)) ∙ marks (t .step .pulses) ended (t .step .small) in
+        subst (λ (r : Ticked). Steps a m byte (r .machine)) (sym k) (steps mark (t .step .next) going)
 
-    cycled : (c : ArcCycle m a r) (end : Bool) → equalPoint (c .at) (a .end) ≡ end → Steps a m byte (r .machine)
-    cycled c true f = stepped c true Work.Nothing (c .last (equal-point _ _ f)) (inr refl)
-    cycled c false f =
-        stepped c false (Work.Arc a)
-        (c .going (λ q. subst T (sym (equal-itself (a .end)) ∙ ap (λ (p : Point). equalPoint p (a .end)) (sym q) ∙ f) tt)) (inl refl)
+    cycled : arcDue (t .step) ≤ arcSum m a → (end : Bool) → equalPoint (t .step .at) (a .end) ≡ end → Steps a m byte (r .machine)
+    cycled due true f = stepped true Work.Nothing (t .last due (equal-point _ _ f)) (inr refl)
+    cycled due false f =
+        stepped false (Work.Arc a)
+        (t .going due (λ q. subst T (sym (equal-itself (a .end)) ∙ ap (λ (p : Point). equalPoint p (a .end)) (sym q) ∙ f) tt)) (inl refl)
 
-    by : (due : Bool) → leb (capacityOf (m .settings)) (m .remainder + a .feed) ≡ due → Steps a m byte (r .machine)
+    by : (due : Bool) → leb (arcDue (t .step)) (arcSum m a) ≡ due → Steps a m byte (r .machine)
     by false e =
         let k = t .waits (leb-false _ _ e) in
         let none : 0 ≡ byte = ap byteOf (sym (ap (λ (r : Ticked). r .tick) k) ∙ b) in
         stays (sym (ap cycleMark none)) (ap (λ (r : Ticked). r .machine .at) k) (inl (ap (λ (r : Ticked). r .machine .work) k))
-    by true e = let c = t .cycles (leb-true _ _ e) in cycled c (equalPoint (c .at) (a .end)) refl
+    by true e = cycled (leb-true _ _ e) (equalPoint (t .step .at) (a .end)) refl
 
 one-step : (a : Arc) (m : Machine) (r : Ticked) (byte : ℕ) → Ticks m r → Sound m → r .tick ≡ Tick.Byte byte → Going a m
     → Steps a m byte (r .machine)
@@ -279,4 +308,11 @@ arc-walk m m′ a bytes s work t =
     (walks a (seenFrom (a .centre) (m .at)) t 0 s (inl work) refl)
 
 pub every-arc : EveryArc
-every-arc = record { least-error = least-error; load = arc-loaded; tick = arc-tick; cycles-left = arc-left; walk = arc-walk }
+every-arc = record {
+  least-error = least-error;
+  load = arc-loaded;
+  tick = arc-tick;
+  cycles-left = arc-left;
+  charges = arc-charges;
+  walk = arc-walk;
+}

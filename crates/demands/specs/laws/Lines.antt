@@ -2,13 +2,14 @@
 use mathlib.Core.Path.{_≡_, refl, sym, ap, subst, _∙_}
 use mathlib.Core.Bool.{false}
 use mathlib.Core.Logic.{_≢_}
-use Prim.Native.Nat.{ℕ, _+_, _-_}
+use Prim.Native.Nat.{ℕ, _+_, _-_, _*_}
 use native.Mathlib.Omega.{arith}
 use lib.Dec.{eqb}
 use Rattle.plane.specs.declared.point.Point.{Point}
 use Rattle.plane.specs.declared.pulse.Pulses.{Pulses}
 use Rattle.plane.specs.Pulse.{shiftedOf}
 use Rattle.plane.specs.Byte.{cycleByte}
+use Rattle.circle.specs.Charge.{straight}
 use Rattle.line.specs.declared.line.Line.{Line}
 use Rattle.line.specs.Line.{cyclesOf, pointOf, lineWidth, steppedOf}
 use Rattle.line.specs.laws.Cycles.{cycles-some}
@@ -92,7 +93,7 @@ every-line =
             waits = λ below. t ∙ ap (working m) (idle-tick q0 (m .at) (m .remainder) (Work.Line l) below);
             cycles = λ over.
                 t ∙ ap (working m)
-                (sym (cycle-tick q0 (m .at) (m .remainder) (Work.Line l) {rest = m .remainder + l .feed - q0} over (omega arith)
-                (sym (line-cycle (m .at) l (w .different) (w .point) (w .cycles)))));
+                (sym (cycle-tick q0 (m .at) (m .remainder) (Work.Line l) {rest = m .remainder + 1000 * l .feed - straight * q0}
+                (omega arith) (sym (line-cycle (m .at) l (w .different) (w .point) (w .cycles)))));
           };
     }

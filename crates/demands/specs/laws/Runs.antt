@@ -3,8 +3,7 @@ use mathlib.Core.Path.{_≡_, refl, sym, ap, subst, _∙_}
 use mathlib.Core.Bool.{Bool, true, false}
 use mathlib.Core.Logic.{_≢_, _↔_}
 use mathlib.Core.List.{List}
-use Prim.Native.Nat.{ℕ, zero, suc, _≤_, _<_, min}
-use native.Mathlib.Nat.{lt-of-not-le}
+use Prim.Native.Nat.{ℕ, zero, suc, _*_, _≤_, _<_, min}
 use native.Mathlib.Omega.{arith}
 use lib.Dec.{leb}
 use lib.ListN.{length, take, drop, length-append, length-drop}
@@ -13,12 +12,14 @@ use borrow.Author.Tests.{leb-true, leb-false, le-leb, lt-leb}
 use denote.Ref.{now}
 use Rattle.whole.specs.laws.Test.{refuted}
 use Rattle.plane.specs.declared.point.Point.{Point}
-use Rattle.divider.specs.laws.End.{Ends}
+use Rattle.divider.specs.Divider.{endTick, lastTick}
+use Rattle.divider.specs.laws.Last.{Ends, unique}
 use Rattle.work.specs.declared.Work.{Work}
 use Rattle.work.specs.declared.Advance.{Advance}
-use Rattle.work.specs.Work.{isNothing, feedOf, cyclesLeft, endOf, advanceOf}
+use Rattle.work.specs.Work.{isNothing, addedOf, cyclesLeft, chargesLeft, endOf, advanceOf}
 use Rattle.run.specs.Run.{Strip, inFront, stripOf, written, SoundIn}
-use Rattle.run.specs.laws.Strip.{strip-ends, last-tick, strip-early}
+use Rattle.run.specs.laws.Strip.{strip-ends, end-tick, strip-early}
+use Rattle.run.specs.laws.Paid.{strip-pays}
 use Rattle.settings.specs.Settings.{capacityOf}
 use Rattle.machine.specs.declared.Machine.{Machine}
 use Rattle.machine.specs.declared.Ticked.{Ticked}
@@ -28,13 +29,15 @@ use Rattle.machine.specs.Calls.{working, tickOf}
 use Rattle.machine.specs.Run.{reportOf, ranOver, noTick, runOf}
 use Rattle.machine.specs.laws.Calls.{tick-works}
 use Rattle.keeps.specs.laws.Calls.{tick-keeps}
-use Rattle.finish.specs.Finish.{lastTick}
+use Rattle.finish.specs.Finish.{lastTickOf}
 use Rattle.finish.specs.laws.Record.{AtWork, at-work}
+use Rattle.finish.specs.laws.Strip.{strip-marks}
 use Rattle.book.specs.Book.{Reply, Report as BookReport}
+use Rattle.book.specs.Sums.{cyclesMarked}
 use Rattle.tape.specs.laws.Pieces.{runs}
 use Rattle.history.specs.Reply.{runReply}
 use Rattle.history.specs.laws.Run.{first-bytes}
-use Rattle.demands.specs.Runs.{TicksTo, Running, EveryRun}
+use Rattle.demands.specs.Runs.{TicksTo, cyclesIn, Running, EveryRun}
 use Rattle.demands.specs.laws.Sound.{sound-is}
 use Rattle.demands.specs.laws.Answers.{nothing-is}
 
@@ -44,8 +47,8 @@ pub record Counted (n t : ℕ) (s : Strip) : Type 0 where
   pub ticks : length (s .bytes) ≡ min n t
   pub ended : s .ended ≡ leb t (min n t)
 
-pub strip-counts : {q0 : ℕ} (n t : ℕ) {at : Point} {r : ℕ} {w : Work} → SoundIn q0 at r w → Ends q0 (feedOf w) r (cyclesLeft at w) t
-    → Counted n t (stripOf q0 n at r w)
+pub strip-counts : {q0 : ℕ} (n t : ℕ) {at : Point} {r : ℕ} {w : Work} → SoundIn q0 at r w
+    → Ends (chargesLeft at w * q0) (addedOf w) r (cyclesLeft at w) t → Counted n t (stripOf q0 n at r w)
 strip-counts {q0} n t {at} {r} {w} i e = by (leb t n) refl
   where
     by : (all : Bool) → leb t n ≡ all → Counted n t (stripOf q0 n at r w)
@@ -55,7 +58,7 @@ strip-counts {q0} n t {at} {r} {w} i e = by (leb t n) refl
         record { ticks = s .ticks ∙ (omega arith); ended = s .ended ∙ sym (le-leb t (min n t) (omega arith)) }
     by false h =
         let less = leb-false t n h in
-        let s = strip-early i n (lt-of-not-le (λ g. let f = e .first n g in omega arith)) in
+        let s = strip-early i n (rw (unique e (end-tick i)) at less) in
         record { ticks = s .ticks ∙ (omega arith); ended = s .ended ∙ sym (lt-leb t (min n t) (omega arith)) }
 
 -- ---- one by one
@@ -158,33 +161,40 @@ module _ (m : Machine) (budget : ℕ) (old : List ℕ) (a : AtWork m) where
   abbrev strip : Strip
   strip = stripOf (capacityOf (m .settings)) (min budget (length old)) (m .at) (m .remainder) (m .work)
 
-  counted : Counted (min budget (length old)) (lastTick m) strip
-  counted = strip-counts (min budget (length old)) (lastTick m) (at-work a) (last-tick (at-work a))
+  counted : Counted (min budget (length old)) (lastTickOf m) strip
+  counted = strip-counts (min budget (length old)) (lastTickOf m) (at-work a) (end-tick (at-work a))
 
   run-over : strip .ended ≡ true → (strip .work ≡ Work.Nothing) × (strip .at ≡ endOf (m .at) (m .work))
   run-over e =
-      let most = leb-true (lastTick m) (min (min budget (length old)) (lastTick m)) (sym (counted .ended) ∙ e) in
-      let s = strip-ends (min budget (length old)) (lastTick m) (at-work a) (last-tick (at-work a)) (omega arith) in
+      let most = leb-true (lastTickOf m) (min (min budget (length old)) (lastTickOf m)) (sym (counted .ended) ∙ e) in
+      let s = strip-ends (min budget (length old)) (lastTickOf m) (at-work a) (end-tick (at-work a)) (omega arith) in
       (s .idle, s .reached)
 
+  -- the bytes mark the cycles that so many ticks pay
+  paid : cyclesMarked (strip .bytes) ≡ cyclesIn m (length (strip .bytes))
+  paid =
+      let n = min budget (length old) in
+      omega (arith, strip-marks n (at-work a) .up, strip-pays (at-work a) n)
+
   running : Running m budget old (written (strip .bytes) old) (ranOver m budget strip .ran)
-  unfolding movedOf
+  unfolding movedOf endTick lastTick
   running =
       let n = length (strip .bytes) in
       let count = counted .ticks in
-      let is : strip .ended ≡ leb (lastTick m) n = counted .ended ∙ ap (leb (lastTick m)) (sym count) in
+      let is : strip .ended ≡ leb (lastTickOf m) n = counted .ended ∙ ap (leb (lastTickOf m)) (sym count) in
       let new = take n (written (strip .bytes) old) in
-      let r : Reported (lastTick m) n budget new (runReply (reportOf (strip .ended) (leb budget n)) n new) = rw is
-      (reported (lastTick m) n budget new) in
+      let r : Reported (lastTickOf m) n budget new (runReply (reportOf (strip .ended) (leb budget n)) n new) = rw is
+      (reported (lastTickOf m) n budget new) in
       record {
         ticks = omega arith;
         bytes = rw (first-bytes (strip .bytes) old) (strip-ticks (min budget (length old)) m a);
+        cycles = rw (first-bytes (strip .bytes) old) paid;
         later = written-later (strip .bytes) old;
         long = written-long (strip .bytes) old (omega arith);
         ended = r .ended;
         spent = r .spent;
         full = r .full;
-        over = λ e. run-over (is ∙ le-leb (lastTick m) n e);
+        over = λ e. run-over (is ∙ le-leb (lastTickOf m) n e);
       }
 
 pub every-run : EveryRun

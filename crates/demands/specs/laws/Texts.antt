@@ -10,9 +10,6 @@ use borrow.Author.Tests.{leb-true, leb-false, le-leb, lt-leb}
 use denote.Ref.{now}
 use Rattle.plane.specs.declared.point.Point.{Point}
 use Rattle.circle.specs.laws.Circle.{on-circle-to}
-use Rattle.circle.specs.laws.Walk.{ends}
-use Rattle.arc.specs.Centre.{seenFrom, backFrom}
-use Rattle.arc.specs.Arc.{arcCycles}
 use Rattle.block.specs.declared.Block.{Block}
 use Rattle.block.specs.declared.Path.{Path}
 use Rattle.block.specs.Block.{arcOf}
@@ -22,6 +19,7 @@ use Rattle.settings.specs.declared.Settings.{Settings}
 use Rattle.settings.specs.Settings.{capacityOf}
 use Rattle.machine.specs.declared.Machine.{Machine}
 use Rattle.book.specs.Ledger.{CountedAlong}
+use Rattle.book.specs.laws.Counts.{counted-arc}
 use Rattle.words.specs.declared.line.Line.{Line}
 use Rattle.words.specs.Meaning.{Means}
 use Rattle.words.specs.laws.Scan.{lineOf}
@@ -184,12 +182,11 @@ block-yes none false bs e all = absurd (false≢true e)
 block-yes (question number holds qs) block bs e all = block-yes qs block bs e (all .1)
 
 path-counted : (m : Machine) (b : Block) (p : Path) → AllYes (pathQuestions m b p) → CountedAlong (m .at) b p
-unfolding arcOf arcCycles
+unfolding arcOf
 path-counted m b Path.Line all = tt
 path-counted m b (Path.Arc turn centre) all =
     let right = offset-right centre (centre-is centre .1 (all .0)) in
-    let here = on-circle-to _ _ (start-on (m .at) centre right) .circle in
-    ends turn (seenFrom (backFrom (m .at) centre) (b .end)) (all .1 .0) (seenFrom (backFrom (m .at) centre) (m .at)) here
+    counted-arc (m .at) b turn centre (on-circle-to _ _ (start-on (m .at) centre right) .circle) (all .1 .0)
 
 lines-counted : (s : Settings) {n : ℕ} {at : Point} {k : Reader} {lines : List (List ℕ)} {made : List Made} {end : End}
     → LinesMean s n at k lines made end → EveryCounted made

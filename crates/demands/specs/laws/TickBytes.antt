@@ -11,6 +11,7 @@ use denote.Ref.{now}
 use Rattle.block.specs.declared.Block.{Block}
 use Rattle.block.specs.Block.{blockWidth}
 use Rattle.work.specs.Work.{begunOf}
+use Rattle.divider.specs.Divider.{endTick, lastTick}
 use Rattle.settings.specs.declared.Settings.{Settings}
 use Rattle.settings.specs.Settings.{settingsNo}
 use Rattle.machine.specs.declared.Machine.{Machine}
@@ -20,10 +21,10 @@ use Rattle.machine.specs.declared.Ran.{Ran}
 use Rattle.machine.specs.Machine.{movedOf, freshOf}
 use Rattle.machine.specs.Calls.{loadOf}
 use Rattle.machine.specs.Run.{Run, runOf}
-use Rattle.run.specs.laws.Cycles.{end-range}
-use Rattle.run.specs.laws.Strip.{last-tick}
-use Rattle.finish.specs.Finish.{lastTick}
-use Rattle.finish.specs.laws.Record.{AtWork, AtRest, at-work}
+use Rattle.run.specs.laws.Strip.{end-tick}
+use Rattle.finish.specs.Finish.{lastTickOf}
+use Rattle.finish.specs.declared.Finished.{Finished}
+use Rattle.finish.specs.laws.Record.{AtWork, AtRest, at-work, finishes, ticks-most}
 use Rattle.finish.specs.laws.Loaded.{loaded-at-work}
 use Rattle.reader.specs.declared.Reader.{Reader}
 use Rattle.reader.specs.declared.«text_line».ReadLine.{ReadLine}
@@ -48,13 +49,14 @@ use Rattle.demands.specs.laws.Runs.{strip-counts, strip-ticks}
 
 record ToEnd (m : Machine) (x : Run) : Type 0 where
   ticks : TicksTo m (x .bytes) (x .ran .machine)
-  many : length (x .bytes) ≡ lastTick m
+  many : length (x .bytes) ≡ lastTickOf m
 
 run-to-end : (m : Machine) → AtWork m → ToEnd m (runOf m enough enough)
 run-to-end m a =
-    let c = strip-counts enough (lastTick m) (at-work a) (last-tick (at-work a)) in
+    let c = strip-counts enough (lastTickOf m) (at-work a) (end-tick (at-work a)) in
+    let finished = ap (λ (f : Finished). f .ticks) (finishes m a) in
     subst (ToEnd m) (sym (runs m a enough enough))
-    (record { ticks = strip-ticks enough m a; many = omega (arith, c .ticks, end-range (at-work a) .1) })
+    (record { ticks = strip-ticks enough m a; many = omega (arith, c .ticks, ticks-most m, finished) })
 
 -- ---- the blocks of a job
 
@@ -66,7 +68,7 @@ module _ (m : Machine) (n : ℕ) (b : Block) (i : AtRest m) (ok : Accepted m b) 
 
   block-ticks : {later : List Made} → BlocksTick (endedOf m b .machine) later (rest (endedOf m b .machine))
       → BlocksTick m (record { textLine = n; start = m .at; block = b } ∷ later) (runThen (loadOf m b .machine) rest)
-  unfolding movedOf
+  unfolding movedOf endTick lastTick
   block-ticks later =
       let x = runOf (loadOf m b .machine) enough enough in
       let left : x .ran .machine ≡ endedOf m b .machine = ap (λ (r : Ran). r .machine) (ended-run m i b ok) in
