@@ -25,12 +25,13 @@
  *     vz_make, vz_hold, vz_release, vz_stop, vz_tick   no loop, no root, no division
  *     vz_load_cw, vz_load_ccw                          the same
  *     vz_load_line                                     one root: one division of doubles and, where its guess fails, 32 halvings
- *     vz_run                                           on a line five divisions, on an arc three and one such root; a turn a cycle, and the
+ *     vz_run                                           on a line five divisions, on an arc four and two such roots; a turn a cycle, and the
  *                                                      bytes of its ticks cleared once
- *     vz_ahead                                         whatever the ticks: on a line four divisions, on an arc four and three such roots
+ *     vz_ahead                                         whatever the ticks: on a line four divisions, on an arc three and five such roots,
+ *                                                      and one of each for each place that it tries: two as measured, 38 at most
  *     vz_read_line                                     a turn for each byte of the line, then a load
  *     vz_check_start                                   as vz_make
- *     vz_check_fill                                    for each text line it lists: vz_read_line, of an arc one such root, a division, the
+ *     vz_check_fill                                    for each text line it lists: vz_read_line, of an arc two such roots, a division, the
  *                                                      row's digits
  * Whole numbers confirm the guess, so no setting of the floating-point unit makes an answer another; a program that has unmasked its
  * exceptions masks them again before it calls.
@@ -38,8 +39,12 @@
  * Units
  *   length   whole pulses. A millimetre is p pulses. X points right, Y up; the machine starts at (0, 0).
  *   time     clock ticks. A second is w ticks.
- *   feed     pulses per minute: millimetres per minute times p. A working tick, with a block in work and not held, adds the feed
- *            to the remainder; where that reaches 60 * w, 60 * w comes off and a cycle is done. So 60 * w is the fastest.
+ *   feed     pulses per minute: millimetres per minute times p. A working tick, with a block in work and not held, adds 1,000 * feed
+ *            to the remainder; where that reaches the charge of the next cycle times 60 * w, this comes off and the cycle is done. A
+ *            diagonal step of an arc is charged 1,414, every other cycle 1,000. A tick does at most one, so 60 * w is the fastest.
+ *            So a line keeps the feed, and an arc where it runs along an axis or at 45 degrees; between these it is up to 8 percent
+ *            slower. A block whose cycles are charged C together and that is loaded at remainder r ends on its working tick
+ *            (C * 60 * w - r) / (1,000 * feed), rounded up; an arc of k cycles and n pulses is charged 586 * k + 414 * n.
  *   cycle    the step from one point of the path to the next: one pulse or none on each axis. A line of a by b pulses takes
  *            the root of a * a + b * b, rounded up, of them; an arc one for each point that it visits.
  */
@@ -65,10 +70,11 @@ extern "C" {
 
 /* ---- the record */
 
-/* The number of this layout of words. Every record has it in its first word, so one that was saved under another layout gets 9
- * and is not misread. A program can ask at its start whether archive and header belong together: after a vz_make that word is
- * VZ_ABI. */
-#define VZ_ABI 1
+/* The number of this layout of words, and of what they mean. Every record has it in its first word, so one that was saved under
+ * another layout gets 9 and is not misread. Under 1 the remainder was a thousandth of what it is now: a record of layout 1 is one
+ * of layout 2 once its first word is 2 and its remainder is multiplied by 1,000. A program can ask at its start whether archive and
+ * header belong together: after a vz_make that word is VZ_ABI. */
+#define VZ_ABI 2
 
 #define VZ_RECORD_WORDS 19
 
@@ -91,7 +97,8 @@ enum vz_word {
     VZ_WORD_X = 7,          /* where the machine stands, in pulses */
     VZ_WORD_Y = 8,
     VZ_WORD_HELD = 9,       /* 1 held, 0 not */
-    VZ_WORD_REMAINDER = 10, /* what the feed has left over, below 60 * w; it goes on to the next block */
+    VZ_WORD_REMAINDER = 10, /* what the feed has left over, below 1,414 * 60 * w: a tick adds 1,000 times the feed, and a cycle
+                               takes its charge times 60 * w off. It goes on to the next block. */
     VZ_WORD_WORK = 11,      /* what is in work: 0 nothing, 1 a line, 2 an arc clockwise, 3 an arc counterclockwise */
     VZ_WORD_NUMBERS = 12    /* seven words. Line: start x, start y, end x, end y, feed, cycles, cycles done.
                                Arc: centre x, centre y, square of the radius, end x, end y, feed, 0. Nothing: all 0. */
@@ -187,7 +194,7 @@ VZ_ANSWERS int64_t vz_stop(vz_record *record);
 
 /* ---- ahead: where will it be? The record, and the sum of the pulses on each axis, plus ones less minus ones, that so many vz_tick
  * would give on a copy, if no other call comes between them. The sums are the X and Y of the record ahead less the record's own. No tick
- * is done, so a look takes no longer for VZ_AHEAD_TICKS than for 1. Ticks while held or idle change nothing, and so do those after the
+ * is done, so a look of VZ_AHEAD_TICKS takes about as long as one of 1. Ticks while held or idle change nothing, and so do those after the
  * block's end.
  * Answers 0; or minus the first refusal, -9, then -38 for more than VZ_AHEAD_TICKS: *then is the record as it stands, and both sums are 0.
  * *then and *sums are always written, record never is; the three don't overlap, so then is not the record itself. Of a sound record *then

@@ -65,35 +65,40 @@ mod tests {
         assert_eq!(seen(&book, MOST_TICKS), (Point::new(-3, 4), Point::new(-3, 4), 0, false));
     }
 
-    /// 40,000 a tick: 2 cycles in 3 ticks; 5 cycles are 300,000, so the 8th tick ends the line with 20,000 left over.
+    /// 40,000 thousands a tick: 2 cycles in 3 ticks; 5 cycles are 300,000, so the 8th tick ends the line with 20,000 left over.
     #[test]
     fn a_line_with_ticks_between_its_cycles() {
         let book = line(40_000);
         let at = |x, y| Point::new(x, y);
-        assert_eq!(seen(&book, 1), (ORIGIN, ORIGIN, 40_000, true));
-        assert_eq!(seen(&book, 2), (at(-1, 1), at(-1, 1), 20_000, true));
-        assert_eq!(seen(&book, 7), (at(-2, 3), at(-2, 3), 40_000, true));
-        assert_eq!(seen(&book, 8), (at(-3, 4), at(-3, 4), 20_000, false));
-        assert_eq!(seen(&book, 9), (at(-3, 4), at(-3, 4), 20_000, false));
+        assert_eq!(seen(&book, 1), (ORIGIN, ORIGIN, 40_000_000, true));
+        assert_eq!(seen(&book, 2), (at(-1, 1), at(-1, 1), 20_000_000, true));
+        assert_eq!(seen(&book, 7), (at(-2, 3), at(-2, 3), 40_000_000, true));
+        assert_eq!(seen(&book, 8), (at(-3, 4), at(-3, 4), 20_000_000, false));
+        assert_eq!(seen(&book, 9), (at(-3, 4), at(-3, 4), 20_000_000, false));
     }
 
-    /// Sums count from where the machine stands, and an arc's too: a full turn about (0, 5) sums to 0.
+    /// Sums count from where the machine stands, and an arc's too: a full turn about (0, 5) sums to 0. Each quarter is charged 8,242: its
+    /// cycles sum up to 1,000, 2,000, 3,414, 4,828, 6,242, 7,242, 8,242, all four to 32,968, of which a tick pays 1,000. So tick 3 waits
+    /// for a diagonal step, tick 7 has 758 left over, and tick 33 ends the turn with 32.
     #[test]
     fn an_arc_from_its_middle() {
         let mut book = with(Load::Arc { kind: Kind::OtherWay, end: ORIGIN, f: 60_000, i: 0, j: 5 });
         book.tick();
         assert_eq!(book.point, Point::new(1, 0));
         assert_eq!(seen(&book, 1), (Point::new(1, 0), Point::new(2, 0), 0, true));
-        assert_eq!(seen(&book, 6), (Point::new(4, 5), Point::new(5, 5), 0, true));
-        assert_eq!(seen(&book, 27), (Point::new(-1, 0), ORIGIN, 0, false));
+        assert_eq!(seen(&book, 2), (Point::new(1, 0), Point::new(2, 0), 1_000 * 60_000, true));
+        assert_eq!(seen(&book, 6), (Point::new(4, 3), Point::new(5, 3), 758 * 60_000, true));
+        assert_eq!(seen(&book, 8), (Point::new(4, 5), Point::new(5, 5), 758 * 60_000, true));
+        assert_eq!(seen(&book, 31), (Point::new(-2, 0), Point::new(-1, 0), 32 * 60_000, true));
+        assert_eq!(seen(&book, 32), (Point::new(-1, 0), ORIGIN, 32 * 60_000, false));
     }
 
-    /// A million ticks of feed 1 at q0 60,000 do 16 cycles and leave 40,000.
+    /// A million ticks of feed 1 at q0 60,000 do 16 cycles and leave 40,000 thousands.
     #[test]
     fn the_most_ticks() {
         let book = with(Load::Line { end: Point::new(0, -17), f: 1 });
         let at = Point::new(0, -16);
-        assert_eq!(seen(&book, MOST_TICKS), (at, at, 40_000, true));
+        assert_eq!(seen(&book, MOST_TICKS), (at, at, 40_000_000, true));
         assert_eq!(ahead(&book, MOST_TICKS + 1).map(|_| ()), Err(38));
         assert_eq!(ahead(&book, u64::MAX).map(|_| ()), Err(38));
     }

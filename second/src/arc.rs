@@ -3,6 +3,7 @@
 
 use std::collections::HashMap;
 
+use crate::charge;
 use crate::point::Point;
 use crate::root::{bits_that_hold, root_up};
 
@@ -123,10 +124,11 @@ impl Circle {
     }
 }
 
-/// What a walk over the visited points tells: their number and the least box that holds them.
+/// What a walk over the visited points tells: their number, the sum of the steps' charges and the least box that holds them.
 #[derive(Clone, Copy, PartialEq, Eq, Debug)]
 pub struct Walk {
     pub cycles: u64,
+    pub charges: u64,
     pub lowest: Point,
     pub highest: Point,
 }
@@ -138,15 +140,17 @@ pub struct Walk {
 pub fn walk(n: i64, kind: Kind, start: Point, end: Point, mut visit: impl FnMut(Point)) -> Option<Walk> {
     let circle = Circle::of(n);
     let mut here = circle.next(kind, start)?;
-    let mut told = Walk { cycles: 1, lowest: here, highest: here };
+    let mut told = Walk { cycles: 1, charges: charge::of_arc_step(start, here), lowest: here, highest: here };
     visit(here);
     while here != end {
         if here == start {
             return None;
         }
-        here = circle.next(kind, here)?;
+        let stood = here;
+        here = circle.next(kind, stood)?;
         visit(here);
         told.cycles += 1;
+        told.charges += charge::of_arc_step(stood, here);
         told.lowest = Point::new(told.lowest.x.min(here.x), told.lowest.y.min(here.y));
         told.highest = Point::new(told.highest.x.max(here.x), told.highest.y.max(here.y));
     }
@@ -218,6 +222,22 @@ mod tests {
     fn the_clockwise_way_is_clockwise() {
         assert_eq!(visited(1, Kind::Clockwise, (1, 0), (0, -1)), [(0, -1)]);
         assert_eq!(visited(1, Kind::OtherWay, (1, 0), (0, 1)), [(0, 1)]);
+    }
+
+    /// The quarter has 4 straight steps and 3 diagonal ones, 4,000 + 4,242, and the full turn four such quarters. All steps of N 1
+    /// are diagonal, all of N 2 straight.
+    #[test]
+    fn charges_worked_by_hand() {
+        let charges = |n, start: (i64, i64), end: (i64, i64)| {
+            let (start, end) = (Point::new(start.0, start.1), Point::new(end.0, end.1));
+            walk(n, Kind::OtherWay, start, end, |_| ()).unwrap().charges
+        };
+        assert_eq!(charges(25, (5, 0), (0, 5)), 8_242);
+        assert_eq!(charges(25, (5, 0), (5, 1)), 1_000);
+        assert_eq!(charges(25, (5, 2), (4, 3)), 1_414);
+        assert_eq!(charges(25, (5, 0), (5, 0)), 32_968);
+        assert_eq!(charges(1, (1, 0), (1, 0)), 5_656);
+        assert_eq!(charges(2, (1, 1), (1, 1)), 8_000);
     }
 
     /// docs/DECISIONS.md, "Register width of an arc".

@@ -1,6 +1,8 @@
-//! "The book of a history", with load's questions 10 to 16. Question 9 is in machine.rs.
+//! "The book of a history", with load's questions 10 to 16 and the charges of 02 §2: "A rule changed later changes in the book too."
+//! Question 9 is in machine.rs.
 
 use crate::arc::{self, Circle, Kind, Walker};
+use crate::charge;
 use crate::line;
 use crate::point::{Point, ORIGIN};
 use crate::settings::{Settings, USUAL};
@@ -33,7 +35,7 @@ pub enum Path {
 }
 
 /// "the block in work with its start and its cycles done c"; k is all its cycles, "q for a line,
-/// the number of visited points for an arc".
+/// the number of visited points for an arc". Of both the charges: C, "the sum of its charges", and that of the cycles done.
 #[derive(Clone, Copy, PartialEq, Eq, Debug)]
 pub struct Block {
     pub path: Path,
@@ -42,6 +44,8 @@ pub struct Block {
     pub f: u64,
     pub k: u64,
     pub c: u64,
+    pub charges: u64,
+    pub charged: u64,
 }
 
 impl Block {
@@ -52,15 +56,29 @@ impl Block {
         }
     }
 
-    /// "the point becomes the one of "Lines" or "Arcs" after c cycles"; c has just grown, so on
-    /// an arc it is the point next to the one where the machine stood.
-    fn point_of_cycle(&self, stood: Point) -> Point {
+    /// A line not begun: "Line cycles are charged 1,000."
+    pub fn line(start: Point, end: Point, f: u64) -> Block {
+        let k = line::cycles(start, end);
+        Block { path: Path::Line, start, end, f, k, c: 0, charges: charge::LINE_CYCLE * k, charged: 0 }
+    }
+
+    /// "the point becomes the one of "Lines" or "Arcs" after c cycles": the one of the cycle about to be done. On an arc it is the
+    /// point next to the one where the machine stands.
+    fn next_point(&self, stands: Point) -> Point {
         match self.path {
-            Path::Line => line::point_after(self.start, self.end, self.k, self.c),
+            Path::Line => line::point_after(self.start, self.end, self.k, self.c + 1),
             Path::Arc { kind, centre, n } => {
-                let next = Circle::of(n).next(kind, stood.seen_from(centre));
-                next.map_or(stood, |next| next.moved_by(centre))
+                let next = Circle::of(n).next(kind, stands.seen_from(centre));
+                next.map_or(stands, |next| next.moved_by(centre))
             }
+        }
+    }
+
+    /// What the step between these points is charged.
+    fn charge_of(&self, from: Point, to: Point) -> u64 {
+        match self.path {
+            Path::Line => charge::LINE_CYCLE,
+            Path::Arc { .. } => charge::of_arc_step(from, to),
         }
     }
 }
@@ -105,7 +123,7 @@ impl Book {
         }
     }
 
-    /// A book opened in the middle, for a sound made-up record. The cycles of an arc are then
+    /// A book opened in the middle, for a sound made-up record. The cycles and charges of an arc are then
     /// counted from where it stands.
     pub fn opened(settings: Settings, point: Point, held: bool, remainder: u64, block: Option<Block>) -> Book {
         Book { settings, point, held, remainder, block, walker: Walker::default() }
@@ -144,7 +162,7 @@ impl Book {
         if start == end {
             return Err(13);
         }
-        Ok(Block { path: Path::Line, start, end, f, k: line::cycles(start, end), c: 0 })
+        Ok(Block::line(start, end, f))
     }
 
     fn asked_arc(&mut self, kind: Kind, end: Point, f: u64, i: i64, j: i64) -> Result<Block, u32> {
@@ -168,7 +186,8 @@ impl Book {
         if !(self.settings.in_travel(lowest) && self.settings.in_travel(highest)) {
             return Err(16);
         }
-        Ok(Block { path: Path::Arc { kind, centre, n }, start, end, f, k: walked.cycles, c: 0 })
+        let path = Path::Arc { kind, centre, n };
+        Ok(Block { path, start, end, f, k: walked.cycles, c: 0, charges: walked.charges, charged: 0 })
     }
 
     /// "Hold sets the mark, release takes it off."
@@ -193,15 +212,22 @@ impl Book {
         let Some(block) = self.block.as_mut().filter(|_| !self.held) else {
             return 0;
         };
-        // "The remainder grows by f. If it is then q0 or more, q0 comes off, c grows by 1"
-        self.remainder += block.f;
-        if self.remainder < q0 {
+        // "A tick adds 1,000 × f." No step is charged less than a straight one, so below that the next point need not be looked for.
+        self.remainder += charge::PAID_PER_FEED * block.f;
+        if self.remainder < charge::STRAIGHT * q0 {
             return 0;
         }
-        self.remainder -= q0;
-        block.c += 1;
+        // "A cycle is due when the remainder reaches its charge times q0, at most one a tick."
         let stood = self.point;
-        self.point = block.point_of_cycle(stood);
+        let next = block.next_point(stood);
+        let charge = block.charge_of(stood, next);
+        if self.remainder < charge * q0 {
+            return 0;
+        }
+        self.remainder -= charge * q0;
+        block.charged += charge;
+        block.c += 1;
+        self.point = next;
         // "At c = k the block has ended and nothing is in work."
         let ended = block.c == block.k;
         if ended {
@@ -236,20 +262,22 @@ impl Book {
         }
     }
 
-    /// "A block of k cycles ..., loaded at remainder r, ends on its working tick
-    /// ⌈(k × q0 - r) / f⌉, its first being 1"; in the middle of a block k is what is left of it.
+    /// "A block ends on the tick that stepping by this rule gives; in a history that is its working tick
+    /// ⌈(C × q0 - r) / (1,000 × f)⌉, C being the sum of its charges." In the middle of a block C is what is left of it. A made-up
+    /// record may have so great a remainder that one cycle a tick is later: from then on every tick does one.
     pub fn ticks_to_the_end(&self) -> u128 {
         let Some(block) = self.block else { return 0 };
-        let left = u128::from(block.k - block.c) * u128::from(self.settings.q0()) - u128::from(self.remainder);
-        left.div_ceil(u128::from(block.f.max(1)))
+        let due = u128::from(block.charges - block.charged) * u128::from(self.settings.q0());
+        let by_feed = due.saturating_sub(self.remainder.into()).div_ceil(u128::from(charge::PAID_PER_FEED * block.f.max(1)));
+        by_feed.max(u128::from(block.k - block.c))
     }
 
     /// Does all working ticks to the block's end at once and answers their number.
     pub fn finish_at_once(&mut self) -> u128 {
         let ticks = self.ticks_to_the_end();
         if let Some(block) = self.block.take() {
-            let fed = u128::from(self.remainder) + ticks * u128::from(block.f);
-            let taken = u128::from(block.k - block.c) * u128::from(self.settings.q0());
+            let fed = u128::from(self.remainder) + ticks * u128::from(charge::PAID_PER_FEED * block.f);
+            let taken = u128::from(block.charges - block.charged) * u128::from(self.settings.q0());
             self.remainder = u64::try_from(fed - taken).unwrap_or(u64::MAX);
             self.point = block.end;
         }
@@ -327,7 +355,7 @@ mod tests {
         let half = arc(3, 0, 10, 300_000, 0, 5);
         let mut book = Book::make(Settings { x_upper: 5, ..USUAL }).0;
         assert_eq!(book.load(&half), Ok(3));
-        assert_eq!(bytes(&mut book).len(), 14);
+        assert_eq!(bytes(&mut book).into_iter().filter(|byte| byte & 16 != 0).count(), 14);
         assert_eq!(book.point, Point::new(0, 10));
         assert_eq!(Book::make(Settings { x_upper: 4, ..USUAL }).0.load(&half), Err(16));
     }
@@ -350,6 +378,76 @@ mod tests {
             assert_eq!(sent.len() as u128, expected);
             assert_eq!(sent.last(), Some(&(8 + 16 + 32)));
         }
+    }
+
+    /// N 25 from (5, 0) kind 3 to (0, 5), at f = q0. The steps to (5, 1), (5, 2) are straight, to (4, 3), (3, 4), (2, 5) diagonal, to
+    /// (1, 5), (0, 5) straight: their charges sum up to 1,000, 2,000, 3,414, 4,828, 6,242, 7,242, 8,242. A tick adds 1,000 × q0, so
+    /// that the cycles come on ticks 1, 2, 4, 5, 7, 8, 9, and 9,000 - 8,242 = 758 × q0 are left over.
+    #[test]
+    fn the_quarter_of_n_25() {
+        let mut book = usual();
+        book.load(&arc(3, -5, 5, 300_000, -5, 0)).unwrap();
+        assert_eq!(book.ticks_to_the_end(), 9);
+        let (up, diagonal, left) = (16 + 4, 16 + 4 + 2, 16 + 2);
+        assert_eq!(bytes(&mut book), [up, up, 0, diagonal, diagonal, 0, diagonal, left, left + 32]);
+        assert_eq!((book.point, book.remainder), (Point::new(-5, 5), 758 * 300_000));
+        // The other way at half the feed, 500 × q0 a tick. With 758 at its start the sums 242, 1,242, 2,656, 4,070, 5,484, 6,484, 7,484
+        // are to be fed: ticks 1, 3, 6, 9, 11, 13, 15.
+        book.load(&arc(2, 0, 0, 150_000, 0, -5)).unwrap();
+        assert_eq!(book.ticks_to_the_end(), 15);
+        let cycles: Vec<usize> = bytes(&mut book).iter().enumerate().filter(|(_, byte)| *byte & 16 != 0).map(|(at, _)| at + 1).collect();
+        assert_eq!(cycles, [1, 3, 6, 9, 11, 13, 15]);
+        assert_eq!((book.point, book.remainder), (ORIGIN, (7_500 - 7_484) * 300_000));
+    }
+
+    /// Reaching counts for a diagonal step too: here N 1, where each step is one.
+    #[test]
+    fn a_diagonal_step_is_due_at_its_charge() {
+        let q0 = 300_000;
+        for (remainder, byte, after) in [(1_414 * q0 - 1_000 * q0, 21, 0), (1_414 * q0 - 1_000 * q0 - 1, 0, 1_414 * q0 - 1)] {
+            let mut book = Book { remainder, ..usual() };
+            book.load(&arc(3, 0, 0, q0, 0, 1)).unwrap();
+            assert_eq!((book.tick(), book.remainder), (byte, after));
+        }
+    }
+
+    /// "Line cycles are charged 1,000": (2, 2) has q 3 and the points (1, 1), (1, 1), (2, 2), two cycles with both pulses and one with
+    /// none, and ends on tick 3.
+    #[test]
+    fn diagonal_cycles_of_a_line() {
+        let mut book = usual();
+        book.load(&line(2, 2, 300_000)).unwrap();
+        assert_eq!(book.ticks_to_the_end(), 3);
+        assert_eq!(bytes(&mut book), [16 + 5, 16, 48 + 5]);
+        assert_eq!(book.remainder, 0);
+    }
+
+    /// "at most one a tick": 3 line cycles, f = q0, r = 1,400 × q0. The ceiling says ⌈(3,000 - 1,400) / 1,000⌉ = 2, and it is tick 3.
+    #[test]
+    fn a_made_up_remainder() {
+        let mut book = Book { remainder: 1_400 * 300_000, ..usual() };
+        book.load(&line(3, 0, 300_000)).unwrap();
+        assert_eq!(book.ticks_to_the_end(), 3);
+        let mut at_once = book.clone();
+        assert_eq!(at_once.finish_at_once(), 3);
+        assert_eq!(bytes(&mut book), [17, 17, 49]);
+        assert_eq!((book.point, book.remainder), (Point::new(3, 0), 1_400 * 300_000));
+        assert_eq!((at_once.point, at_once.remainder), (book.point, book.remainder));
+    }
+
+    /// Over a block's end too: the tick that ends a block does nothing for the next one, though its cycle could be paid.
+    #[test]
+    fn one_cycle_a_tick_over_an_end() {
+        let mut book = Book { remainder: 1_400 * 300_000, ..usual() };
+        book.load(&line(1, 0, 300_000)).unwrap();
+        assert_eq!(book.ticks_to_the_end(), 1);
+        assert_eq!((book.tick(), book.tick()), (49, 0));
+        assert_eq!((book.point, book.remainder), (Point::new(1, 0), 1_400 * 300_000));
+        // A third of q0: 1,400 and 333 pay the first cycle and leave 733, with 333 more the second.
+        book.load(&line(3, 0, 100_000)).unwrap();
+        assert_eq!(book.ticks_to_the_end(), 2);
+        assert_eq!((book.tick(), book.remainder), (17, 220_000_000));
+        assert_eq!((book.tick(), book.remainder), (49, 20_000_000));
     }
 
     /// A cycle without a pulse (docs/DECISIONS.md, "Tick bytes"): (1, 1) has the bytes 21, 48.
@@ -385,7 +483,7 @@ mod tests {
         let mut book = usual();
         book.load(&line(1, 0, 200_000)).unwrap();
         bytes(&mut book);
-        assert_eq!(book.remainder, 100_000);
+        assert_eq!(book.remainder, 100_000_000);
         book.load(&line(2, 0, 200_000)).unwrap();
         assert_eq!(book.ticks_to_the_end(), 1);
         assert_eq!(book.tick(), 1 + 16 + 32);
@@ -396,5 +494,11 @@ mod tests {
         book.stop();
         assert_eq!((book.point, book.held, book.remainder), (Point::new(2, 0), true, 0));
         assert!(book.block.is_none());
+        // Also while a diagonal step waits with more than a straight one is charged.
+        book.release();
+        book.load(&arc(3, 2, 0, 300_000, 0, 1)).unwrap();
+        assert_eq!((book.tick(), book.remainder), (0, 300_000_000));
+        book.stop();
+        assert_eq!((book.point, book.remainder), (Point::new(2, 0), 0));
     }
 }

@@ -289,9 +289,11 @@ mod tests {
             ("run 9 9 7", "ended 2 1530 | 1 1 0 0 0"),
             ("make 0 1 2 3 4 5", "refused 1 | 0 0 0 0 0"),
             ("load A 3 0 0 300000 0 1", "bits 1 | 0 0 0 0 1"),
-            ("tick", "byte 21 | 1 1 0 0 1"),
-            ("hold", "done | 1 1 1 0 1"),
-            ("run 0 0 255", "held 0 - | 1 1 1 0 1"),
+            // A diagonal step is charged 1,414: the second tick leaves 586 × 300,000.
+            ("tick", "byte 0 | 0 0 0 300000000 1"),
+            ("tick", "byte 21 | 1 1 0 175800000 1"),
+            ("hold", "done | 1 1 1 175800000 1"),
+            ("run 0 0 255", "held 0 - | 1 1 1 175800000 1"),
             ("stop", "done | 1 1 1 0 0"),
         ]);
         assert_eq!(answers("# a comment\n#\n> tick").unwrap(), "# a comment\n#\n> tick\n< byte 0 | 0 0 0 0 0\n");
@@ -392,7 +394,7 @@ mod tests {
     fn what_is_known_after_a_jump() {
         all_answered(&[
             ("text G1 X0.04 F3000", "bits 2 | 0 0 0 0 1"),
-            ("jump 3", "ahead 1 0 1 0 0 150000 1 | 1 0 0 150000 1"),
+            ("jump 3", "ahead 1 0 1 0 0 150000000 1 | 1 0 0 150000000 1"),
             ("jump 1", "ahead 1 0 2 0 0 0 0 | 2 0 0 0 0"),
             ("ahead 9", "ahead 0 0 2 0 0 0 0 | 2 0 0 0 0"),
             ("text X0", "bits 2 | 2 0 0 0 1"),

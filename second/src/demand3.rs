@@ -8,8 +8,8 @@ use crate::calls::Call;
 use crate::gen;
 use crate::job::{Meaning, Reader};
 use crate::point::{Point, ORIGIN};
-use crate::settings::USUAL;
-use crate::sound::{book_of, record_of};
+use crate::settings::{Settings, USUAL};
+use crate::sound::{book_of, record_of, Record, Work};
 
 /// "less than t half pulses means that 4 × F - t², where positive, has a square below 16 × t² × N, and
 /// -4 × F - t², where positive, one below 16 × t² × (x² + y²)"
@@ -23,17 +23,18 @@ fn less_than_half_pulses(t: i128, n: i128, x: i128, y: i128) -> bool {
 struct Sums {
     sent: Point,
     fed: u128,
-    cycles: u128,
+    charged: u128,
     working_ticks_of_block: u128,
     end_tick_of_block: u128,
 }
 
 impl Sums {
     fn none() -> Sums {
-        Sums { sent: ORIGIN, fed: 0, cycles: 0, working_ticks_of_block: 0, end_tick_of_block: 0 }
+        Sums { sent: ORIGIN, fed: 0, charged: 0, working_ticks_of_block: 0, end_tick_of_block: 0 }
     }
 
-    fn take_byte(&mut self, byte: u8) {
+    /// From the byte alone a line's cycle with two pulses and a diagonal step look alike: what it is charged goes by the block.
+    fn take_byte(&mut self, byte: u8, path: Option<Path>) {
         let pulse = |code: u8| match code & 3 {
             0 => 0,
             1 => 1,
@@ -42,7 +43,12 @@ impl Sums {
         };
         assert!(byte < 64);
         self.sent = self.sent.moved_by(Point::new(pulse(byte), pulse(byte >> 2)));
-        self.cycles += u128::from(byte >> 4 & 1);
+        let diagonal = byte & 3 != 0 && byte & 12 != 0 && matches!(path, Some(Path::Arc { .. }));
+        self.charged += match (byte & 16 != 0, diagonal) {
+            (true, true) => 1_414,
+            (true, false) => 1_000,
+            (false, _) => 0,
+        };
     }
 }
 
@@ -71,11 +77,11 @@ fn one_tick(book: &mut Book, sums: &mut Sums) -> u8 {
     let before = book.block;
     let working = before.is_some() && !book.held;
     if let Some(block) = before.filter(|_| working) {
-        sums.fed += u128::from(block.f);
+        sums.fed += 1_000 * u128::from(block.f);
         sums.working_ticks_of_block += 1;
     }
     let byte = book.tick();
-    sums.take_byte(byte);
+    sums.take_byte(byte, before.map(|block| block.path));
     if working {
         // "A block not stopped has ended exactly when it has had the working ticks that the feed gives; the
         // last of them leaves the point on the block's commanded end."
@@ -94,22 +100,26 @@ fn one_tick(book: &mut Book, sums: &mut Sums) -> u8 {
 fn adds_up(book: &Book, sums: &Sums) {
     assert_eq!(sums.sent, book.point, "pulses sent sum to the point");
     let q0 = u128::from(book.settings.q0());
-    assert_eq!(sums.cycles * q0 + u128::from(book.remainder), sums.fed, "cycles times feed capacity plus remainder");
-    if let Some(block) = &book.block {
-        near_its_path(block, book.point);
+    // "In the feed sum charges replace cycles and 1,000 × f replaces f."
+    assert_eq!(sums.charged * q0 + u128::from(book.remainder), sums.fed, "charges times feed capacity plus remainder");
+    match &book.block {
+        Some(block) => near_its_path(block, book.point),
+        // Between two blocks of a history less is left over than any cycle is charged.
+        None => assert!(u128::from(book.remainder) < 1_000 * q0),
     }
 }
 
 fn after_load(book: &Book, sums: &mut Sums) {
     sums.working_ticks_of_block = 0;
     if let Some(block) = &book.block {
-        let left = u128::from(block.k) * u128::from(book.settings.q0()) - u128::from(book.remainder);
-        sums.end_tick_of_block = left.div_ceil(u128::from(block.f));
+        // "in a history that is its working tick ⌈(C × q0 - r) / (1,000 × f)⌉, C being the sum of its charges"
+        let left = u128::from(block.charges) * u128::from(book.settings.q0()) - u128::from(book.remainder);
+        sums.end_tick_of_block = left.div_ceil(1_000 * u128::from(block.f));
     }
 }
 
 fn stopped(sums: &mut Sums) {
-    (sums.fed, sums.cycles) = (0, 0);
+    (sums.fed, sums.charged) = (0, 0);
 }
 
 /// A sound record's call answers a sound record; asked where the walk is short.
@@ -117,7 +127,8 @@ fn still_sound(book: &Book) {
     if book.block.is_none_or(|block| block.path == Path::Line || block.k < 200) {
         let again = book_of(&record_of(book)).expect("sound");
         assert_eq!((again.point, again.remainder, again.held), (book.point, book.remainder, book.held));
-        assert_eq!(again.block.map(|b| b.k - b.c), book.block.map(|b| b.k - b.c));
+        let left = |block: Block| (block.k - block.c, block.charges - block.charged);
+        assert_eq!(again.block.map(left), book.block.map(left));
     }
 }
 
@@ -203,10 +214,10 @@ fn look(book: &Book, ticks: u64) -> Option<Book> {
         return Some(then);
     };
     let working = book.ticks_to_the_end().min(ticks.into());
-    let done = then.block.map_or(block.k, |block| block.c) - block.c;
+    let charged = then.block.map_or(block.charges, |block| block.charged) - block.charged;
     assert_eq!(then.block.is_none(), working == book.ticks_to_the_end());
-    let fed = u128::from(book.remainder) + working * u128::from(block.f);
-    assert_eq!(u128::from(done) * u128::from(book.settings.q0()) + u128::from(then.remainder), fed);
+    let fed = u128::from(book.remainder) + working * 1_000 * u128::from(block.f);
+    assert_eq!(u128::from(charged) * u128::from(book.settings.q0()) + u128::from(then.remainder), fed);
     still_sound(&then);
     Some(then)
 }
@@ -247,23 +258,67 @@ fn demand_3_on_long_histories() {
     }
 }
 
-/// The end tick ⌈(k q0 - r) / f⌉ and the remainder after it, for all small r, k and edges of f.
+/// The end tick by its number, the end and what is left over, against ticking. Whether the ceiling alone would say fewer ticks.
+fn ends_as_ticked(mut ticked: Book) -> bool {
+    let block = ticked.block.expect("a block in work");
+    let due = u128::from(block.charges - block.charged) * u128::from(ticked.settings.q0());
+    let ceiling = due.saturating_sub(ticked.remainder.into()).div_ceil(1_000 * u128::from(block.f));
+    let mut at_once = ticked.clone();
+    let (_, ticks) = ticked.run(u64::MAX, u64::MAX, |_| ());
+    assert_eq!(u128::from(ticks), at_once.finish_at_once());
+    assert_eq!(record_of(&ticked), record_of(&at_once));
+    still_sound(&ticked);
+    ceiling < ticks.into()
+}
+
+/// For remainders up to the greatest sound one, lines and arcs of few cycles and edges of f.
 #[test]
 fn the_end_tick_formula() {
-    let settings = crate::settings::Settings { w: 1_000, ..USUAL };
+    let settings = Settings { w: 1_000, ..USUAL };
     let q0 = settings.q0();
-    for f in [1, 2, 3, 7, 29_999, 30_000, 30_001, q0 - 1, q0].into_iter().filter(|f| q0 / f < 9_000) {
-        for r in [0, 1, 2, 29_999, 30_000, q0 - f, q0 - 2, q0 - 1].into_iter().filter(|&r| r < q0) {
-            for k in 1..=4 {
-                let block = Block { path: Path::Line, start: ORIGIN, end: Point::new(k as i64, 0), f, k, c: 0 };
-                let mut ticked = Book::opened(settings, ORIGIN, false, r, Some(block));
-                let mut at_once = ticked.clone();
-                let (_, ticks) = ticked.run(u64::MAX, u64::MAX, |_| ());
-                assert_eq!(u128::from(ticks), at_once.finish_at_once());
-                assert_eq!(record_of(&ticked), record_of(&at_once));
+    let (mut tried, mut later) = (0, 0);
+    for f in [7, 29_999, 30_000, 30_001, 42_420, q0 - 1, q0] {
+        let lines = [(1, 0), (0, -2), (2, 2), (-3, 0), (3, 4)].map(|(x, y)| Work::Line { start: ORIGIN, end: Point::new(x, y), f, c: 0 });
+        // (0, 0) is a point of both circles; the second is one that no load gives.
+        let arcs = [(Point::new(0, 5), 25), (Point::new(-1, 1), 3)].into_iter().flat_map(|(centre, n)| {
+            let ends = crate::arc::all_circle_points(n).into_iter().map(move |at| at.moved_by(centre));
+            ends.map(move |end| Work::Arc { kind: Kind::Clockwise, centre, n: n as u64, end, f })
+        });
+        let few = if f == 7 { 3 } else { 40 };
+        for work in lines.into_iter().chain(arcs.take(few)) {
+            for charges in [0, 1_000, 1_400, 1_414, 2_000, 2_414] {
+                for less in [0, 1, 1_000 * f, 1_000 * f + 1] {
+                    let Some(remainder) = (charges * q0).checked_sub(less) else { continue };
+                    let Some(book) = book_of(&Record { settings, point: ORIGIN, held: false, remainder, work }) else {
+                        assert!(remainder >= 1_414 * q0);
+                        continue;
+                    };
+                    tried += 1;
+                    later += u64::from(ends_as_ticked(book));
+                }
             }
         }
     }
+    assert!(tried > 3_000 && later > 100, "{tried} {later}");
+}
+
+/// Made-up records that are sound: they end on their tick, and every call on them leaves a sound one.
+#[test]
+fn made_up_records_end_on_their_tick() {
+    let (mut tried, mut later) = (0, 0);
+    for index in 0..6_000 {
+        let calls = gen::history(2, index);
+        let Some(Call::Record(record)) = calls.first() else { continue };
+        let Some(mut book) = book_of(record).filter(|book| book.block.is_some() && book.ticks_to_the_end() < 50_000) else { continue };
+        book.release();
+        tried += 1;
+        later += u64::from(ends_as_ticked(book.clone()));
+        for _ in 0..20 {
+            book.tick();
+            still_sound(&book);
+        }
+    }
+    assert!(tried > 300 && later > 10, "{tried} {later}");
 }
 
 /// Circle points are less than half a pulse from the circle. The root-free form is exact for odd t and says "less" for an

@@ -7,17 +7,18 @@ use crate::ahead::MOST_TICKS;
 use crate::arc::{is_circle_point, Circle, Kind, LARGEST_N};
 use crate::book::{Book, Load};
 use crate::calls::{Call, Runner};
+use crate::charge::{self, DIAGONAL, LINE_CYCLE, PAID_PER_FEED, STRAIGHT};
 use crate::gen_jobs;
 use crate::job::Reader;
 use crate::line;
 use crate::point::{Point, ORIGIN};
 use crate::rng::Rng;
 use crate::root::root_up;
-use crate::settings::Settings;
+use crate::settings::{Settings, USUAL};
 use crate::sound::{Record, Work};
 
-/// The level of call files that has every call below.
-const LEVEL: u32 = 1;
+/// The level of call files that these are written for: that of the charges.
+const LEVEL: u32 = 2;
 
 pub fn write_calls(seed: u64, count: u64, out: &mut impl Write) -> io::Result<()> {
     writeln!(out, "# level {LEVEL}")?;
@@ -33,7 +34,7 @@ pub fn write_calls(seed: u64, count: u64, out: &mut impl Write) -> io::Result<()
 /// One history: a make or a made-up record, then up to 40 calls.
 pub fn history(seed: u64, index: u64) -> Vec<Call> {
     let rng = &mut Rng::new(seed, index);
-    let first = if rng.percent(75) { Call::Make(settings(rng)) } else { Call::Record(record(rng)) };
+    let first = if rng.percent(70) { Call::Make(settings(rng)) } else { Call::Record(record(rng)) };
     let mut runner = Runner::fresh();
     runner.answer(&first);
     let mut calls = vec![first];
@@ -120,8 +121,23 @@ const EDGES: [i64; 16] = [
     -3_037_000_500,
 ];
 
-const UNSIGNED_EDGES: [u64; 12] =
-    [0, 1, 2, 59_999, 60_000, 1_200_000, 1_200_001, 2_000_000_000_000, 2_000_000_000_001, u64::MAX, 1 << 63, 1 << 32];
+/// Among them the least and the greatest q0 there may be, and these by the charge of a diagonal step.
+const UNSIGNED_EDGES: [u64; 14] = [
+    0,
+    1,
+    2,
+    59_999,
+    60_000,
+    1_200_000,
+    1_200_001,
+    DIAGONAL * 60_000,
+    DIAGONAL * 1_200_000,
+    2_000_000_000_000,
+    2_000_000_000_001,
+    u64::MAX,
+    1 << 63,
+    1 << 32,
+];
 
 fn edge(rng: &mut Rng) -> i64 {
     rng.one_of(&EDGES, 0)
@@ -389,25 +405,43 @@ pub fn point_at_the_ends_of_f(rng: &mut Rng, n: i64) -> Option<Point> {
 /// A made-up record: a sound one as far as its arc stays in travel, or one with a number or two wrong.
 fn record(rng: &mut Rng) -> Record {
     let settings = sound_settings(rng);
-    let q0 = settings.q0();
-    let remainder = match rng.below(5) {
-        0 => 0,
-        1 => q0 - 1,
-        _ => rng.below(q0),
-    };
+    let remainder = remainder(rng, settings.q0());
     let idle = Record { settings, point: in_travel(rng, &settings), held: rng.percent(20), remainder, work: Work::Nothing };
     let mut made = match rng.below(10) {
         0..=1 => idle,
         2..=5 => with_line(rng, idle),
         _ => with_arc(rng, idle),
     };
-    if rng.percent(45) {
+    if rng.percent(40) {
         damage(rng, &mut made);
         if rng.percent(10) {
             damage(rng, &mut made);
         }
     }
     made
+}
+
+/// Any sound one, those that no history leaves between two blocks as often as others, and at times one beyond.
+fn remainder(rng: &mut Rng, q0: u64) -> u64 {
+    let (straight, diagonal) = (STRAIGHT * q0, DIAGONAL * q0);
+    match rng.below(20) {
+        0..=1 => 0,
+        2 => straight - 1,
+        3 => straight,
+        4..=9 => straight + rng.below(diagonal - straight),
+        10..=11 => diagonal - 1,
+        12 => diagonal,
+        13 => diagonal + rng.below(straight),
+        _ => rng.below(straight),
+    }
+}
+
+/// At times one that a tick or some of this feed bring to the charge of the next step exactly, or to one less: "reaching counts", and
+/// by chance a diagonal step is hardly ever just reached.
+fn nearly_due(rng: &mut Rng, idle: &Record, f: u64, charge: u64) -> u64 {
+    let ticks = rng.one_of(&[1, 1, 1, 1, 3], 1);
+    let found = (charge * idle.settings.q0()).checked_sub(PAID_PER_FEED * f * ticks + rng.below(2));
+    found.filter(|_| rng.percent(60)).unwrap_or(idle.remainder)
 }
 
 fn in_travel(rng: &mut Rng, settings: &Settings) -> Point {
@@ -435,7 +469,8 @@ fn with_line(rng: &mut Rng, idle: Record) -> Record {
         _ => rng.below(q),
     };
     let f = sound_feed(rng, idle.settings.q0());
-    Record { point: line::point_after(start, end, q, c), work: Work::Line { start, end, f, c }, ..idle }
+    let remainder = nearly_due(rng, &idle, f, LINE_CYCLE);
+    Record { point: line::point_after(start, end, q, c), remainder, work: Work::Line { start, end, f, c }, ..idle }
 }
 
 /// Also circles that no load gives: N no sum of two squares, points with any F, full turns from them.
@@ -448,6 +483,8 @@ fn with_arc(rng: &mut Rng, idle: Record) -> Record {
         _ => rng.between(1, LARGEST_N),
     };
     let Some(here) = circle_point(rng, n) else { return idle };
+    // In a narrow travel hardly any circle has room.
+    let settings = if rng.percent(60) { Settings { p: idle.settings.p, w: idle.settings.w, ..USUAL } } else { idle.settings };
     let kind = kind(rng);
     let centre = idle.point.seen_from(here);
     let end = match rng.below(5) {
@@ -457,7 +494,9 @@ fn with_arc(rng: &mut Rng, idle: Record) -> Record {
         _ => point_at_the_ends_of_f(rng, n).unwrap_or(here),
     };
     let f = sound_feed(rng, idle.settings.q0());
-    Record { work: Work::Arc { kind, centre, n: n.unsigned_abs(), end: end.moved_by(centre), f }, ..idle }
+    let charge = Circle::of(n).next(kind, here).map_or(STRAIGHT, |next| charge::of_arc_step(here, next));
+    let remainder = nearly_due(rng, &idle, f, charge);
+    Record { settings, remainder, work: Work::Arc { kind, centre, n: n.unsigned_abs(), end: end.moved_by(centre), f }, ..idle }
 }
 
 /// One number of the record off by one, or at an edge.
@@ -526,12 +565,15 @@ fn hurt_unsigned(rng: &mut Rng, number: &mut u64) {
 mod tests {
     use super::*;
     use crate::book::{Block, Path};
+    use crate::sound::book_of;
     use std::collections::HashMap;
     use std::sync::OnceLock;
 
-    /// Which counts a call goes into: that of all, and those of lines of text and of looks by where they are asked.
+    /// Which counts a call goes into: that of all, those of what is left over, and those of lines of text and of looks by where they
+    /// are asked.
     fn counts(call: &Call, runner: &Runner) -> Vec<&'static str> {
         let mut all = vec!["any"];
+        all.extend(runner.machine.book().into_iter().flat_map(counts_of_remainder));
         match (call, runner.machine.book()) {
             (Call::Text(_), book) => {
                 all.push("text");
@@ -543,6 +585,29 @@ mod tests {
             (Call::Ahead(ticks), Some(book)) => all.extend(["ahead"].into_iter().chain(counts_of_look(book, *ticks))),
             (Call::Jump(ticks), Some(book)) => all.extend(["jump"].into_iter().chain(counts_of_look(book, *ticks))),
             _ => (),
+        }
+        all
+    }
+
+    /// Whether more is left over than a straight step is charged, and whether a diagonal step of an arc is just due on the next tick,
+    /// or one short of it.
+    fn counts_of_remainder(book: &Book) -> Vec<&'static str> {
+        let (q0, mut all) = (book.settings.q0(), Vec::new());
+        let path = book.block.map(|block| block.path);
+        if book.remainder >= 1_000 * q0 {
+            all.push(match path {
+                None => "much left over, idle",
+                Some(Path::Line) => "much left over, on a line",
+                Some(Path::Arc { .. }) => "much left over, on an arc",
+            });
+        }
+        if let (Some(Path::Arc { .. }), false) = (path, book.held) {
+            let mut next = book.clone();
+            match (next.tick(), next.remainder) {
+                (byte, 0) if byte & 3 != 0 && byte & 12 != 0 => all.push("a diagonal step just due"),
+                (0, left) if left == 1_414 * q0 - 1 => all.push("a diagonal step one short of due"),
+                _ => (),
+            }
         }
         all
     }
@@ -640,13 +705,62 @@ mod tests {
         assert!(times("ahead of an unsound record", "refused 9") > 50 && times("jump of an unsound record", "refused 9") > 20);
     }
 
+    /// Calls of all kinds where more is left over than a straight step is charged, and where a diagonal one is just due or just not.
+    #[test]
+    fn histories_hold_what_is_left_over() {
+        let met = met();
+        let times = |count, key: &str| met.get(&(count, key.to_string())).copied().unwrap_or(0);
+        for count in ["much left over, on a line", "much left over, on an arc"] {
+            for word in ["byte", "ended", "spent", "full", "ahead"] {
+                assert!(times(count, word) > 10, "{count} {word}");
+            }
+            assert!(times(count, "done") > 10 && times(count, "refused 10") > 10, "{count}");
+        }
+        assert!(times("much left over, idle", "bits") > 50 && times("much left over, idle", "done") > 5);
+        for count in ["a diagonal step just due", "a diagonal step one short of due"] {
+            let ticking = ["byte", "ended", "spent", "full", "ahead"].map(|word| times(count, word));
+            assert!(ticking.iter().sum::<u64>() > 10, "{count} {ticking:?}");
+        }
+    }
+
+    /// Made-up remainders of every size, with nothing, a line and an arc in work: sound below what a straight step is charged and from
+    /// there on, and beyond, where 9 is answered for that alone.
+    #[test]
+    fn made_up_remainders() {
+        let mut met: HashMap<(&str, &str), u64> = HashMap::new();
+        let records = (0..3_000).flat_map(|index| history(1, index)).filter_map(|call| match call {
+            Call::Record(record) => Some(record),
+            _ => None,
+        });
+        // What else may be wrong with a record is not counted.
+        for record in records.filter(|&record| book_of(&Record { remainder: 0, ..record }).is_some()) {
+            let work = match record.work {
+                Work::Nothing => "idle",
+                Work::Line { .. } => "line",
+                Work::Arc { .. } => "arc",
+            };
+            let q0 = record.settings.q0();
+            let size = match record.remainder {
+                small if small < 1_000 * q0 => "small",
+                great if great < 1_414 * q0 => "great",
+                _ => "beyond",
+            };
+            assert_eq!(size != "beyond", book_of(&record).is_some());
+            *met.entry((work, size)).or_default() += 1;
+        }
+        println!("{met:?}");
+        for work in ["idle", "line", "arc"] {
+            assert!(["small", "great"].iter().all(|size| met[&(work, *size)] > 30) && met[&(work, "beyond")] > 10, "{work}");
+        }
+    }
+
     /// What is generated says of which level it is.
     #[test]
     fn the_level_stands_first() {
         let mut out = Vec::new();
         write_calls(1, 2, &mut out).unwrap();
         let text = String::from_utf8(out).unwrap();
-        assert!(text.starts_with("# level 1\n# history 0 of seed 1\n> "));
+        assert!(text.starts_with("# level 2\n# history 0 of seed 1\n> "));
         assert_eq!(text.matches("# level").count(), 1);
     }
 

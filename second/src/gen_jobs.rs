@@ -304,8 +304,8 @@ fn pulses(rng: &mut Rng) -> i64 {
 /// Mostly small; 0 once in a while, a very great circle hardly ever.
 fn radius(rng: &mut Rng) -> i64 {
     let most = match rng.below(10_000) {
-        0..=99 => 0,
-        100..=4_999 => 9,
+        0..=399 => 0,
+        400..=4_999 => 9,
         5_000..=7_999 => 90,
         8_000..=9_799 => 900,
         9_800..=9_998 => 9_000,
@@ -356,10 +356,10 @@ fn arc_end(rng: &mut Rng, n: i64, start: Point, step: i64) -> Point {
     match rng.below(10) {
         0..=3 => start,
         // Of the points of the circle a coarse step says hardly any but the mirror images of the start.
-        4..=8 if step > 1 => turned(rng, start),
-        4..=8 => circle_point(rng, n.max(1)).unwrap_or(start),
-        9 if rng.percent(50) => point_at_the_ends_of_f(rng, n.max(1)).unwrap_or(start),
-        _ if rng.percent(60) => start,
+        4..=7 if step > 1 => turned(rng, start),
+        4..=7 => circle_point(rng, n.max(1)).unwrap_or(start),
+        8..=9 if rng.percent(50) => point_at_the_ends_of_f(rng, n.max(1)).unwrap_or(start),
+        _ if rng.percent(20) => start,
         _ => Point::new(start.x + rng.between(-1, 1), start.y + rng.between(-1, 1)),
     }
 }

@@ -161,6 +161,16 @@ mod tests {
         assert_eq!(fast(b"G1F1\n\nX1\nX2I1"), format!("{HEADER}1 3 L 50 50 0 6\nline 4 refused 37\n"));
     }
 
+    /// Half a circle of N 25 has 14 cycles, 8 straight and 6 diagonal: 8,000 + 8,484 = 16,484, so that at f = q0 it ends on tick 17 and
+    /// leaves 516. The next half needs 16,484 - 516 more, 16 ticks; a line's cycle after it 1,000 - 32.
+    #[test]
+    fn ticks_of_arcs() {
+        let text = b"G3 Y0.2 J0.1 F6000\nY0 J-0.1\nG1 X0.02";
+        let expected = format!("{HEADER}1 1 A 14 0 10 3\n2 2 A 14 0 0 3\n3 3 L 1 1 0 1\ntotal 3 29 34\n");
+        assert_eq!(fast(text), expected);
+        assert_eq!(listing(text, Pace::TickByTick), expected);
+    }
+
     /// "Text of 65,536 bytes read; 65,537 gives 30."
     #[test]
     fn long_texts_and_lines() {
@@ -211,7 +221,7 @@ mod tests {
         let end = |text: &[u8]| check(text, &USUAL, Pace::AtOnce, &mut Vec::new()).unwrap().to_string();
         let usual = "50 5000 -1000000 1000000 -1000000 1000000";
         assert_eq!(end(b""), format!("{usual} 0 0 0 0 none known 0 -1 done 0 0 0"));
-        assert_eq!(end(b"G1X0.02F7\nG2F8\nG3F9X1"), format!("{usual} 1 0 0 300 none known 2 8 done 1 1 858"));
+        assert_eq!(end(b"G1X0.02F7\nG2F8\nG3F9X1"), format!("{usual} 1 0 0 300000 none known 2 8 done 1 1 858"));
         assert_eq!(end(&[b'\n'; 65_537]), format!("{usual} 0 0 0 0 none known 0 -1 done 0 0 0"));
     }
 

@@ -1,9 +1,10 @@
-//! A second opinion on the pulse core, written from document 01's words alone. See README.md.
+//! A second opinion on the pulse core, written from the words of documents 01 and 02 alone. See README.md.
 
 mod ahead;
 mod arc;
 mod book;
 mod calls;
+mod charge;
 mod circles;
 mod crc;
 #[cfg(test)]

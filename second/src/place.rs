@@ -28,7 +28,7 @@ impl fmt::Display for Place {
 fn in_work(block: Option<Block>) -> String {
     match block {
         None => "0 0 0 0 0 0 0 0".to_string(),
-        Some(Block { path: Path::Line, start, end, f, k, c }) => format!("1 {start} {end} {f} {k} {c}"),
+        Some(Block { path: Path::Line, start, end, f, k, c, .. }) => format!("1 {start} {end} {f} {k} {c}"),
         Some(Block { path: Path::Arc { kind, centre, n }, end, f, .. }) => format!("{} {centre} {n} {end} {f} 0", kind.number()),
     }
 }
@@ -69,16 +69,19 @@ mod tests {
     fn the_job_of_the_paper() {
         let at = |ticks| after(b"N20 G01 X20 Y40 F100\nN30 X50 Y80\n", &USUAL, ticks).to_string();
         assert_eq!(at(720), "1 1 1 720 2225 5 11 0 1 0 0 1000 2000 5000 2237 12");
-        assert_eq!(at(134_219), "1 1 1 134219 1 1000 1999 295000 1 0 0 1000 2000 5000 2237 2236");
+        assert_eq!(at(134_219), "1 1 1 134219 1 1000 1999 295000000 1 0 0 1000 2000 5000 2237 2236");
         assert_eq!(at(134_220), "1 2 2 0 2500 1000 2000 0 1 1000 2000 2500 4000 5000 2500 0");
         assert_eq!(at(284_225), "0 2 2 5 0 2500 4000 0 0 0 0 0 0 0 0 0");
     }
 
+    /// The half circle of N 25 has its cycles on ticks 1, 2, 4, 5, 7, .. and ends on tick 17 with 17,000 - 16,484 = 516 × q0.
     #[test]
     fn an_arc_and_a_refusal() {
         let at = |ticks| after(b"G3 X0 Y0.2 J0.1 F6000\n\nX1", &USUAL, ticks).to_string();
-        assert_eq!(at(3), "1 1 1 3 11 3 1 0 3 0 5 25 0 10 300000 0");
-        assert_eq!(at(16), "-37 1 3 2 0 0 10 0 0 0 0 0 0 0 0 0");
+        assert_eq!(at(3), "1 1 1 3 12 2 0 300000000 3 0 5 25 0 10 300000 0");
+        assert_eq!(at(4), "1 1 1 4 11 3 1 175800000 3 0 5 25 0 10 300000 0");
+        assert_eq!(at(16), "1 1 1 16 1 1 10 154800000 3 0 5 25 0 10 300000 0");
+        assert_eq!(at(19), "-37 1 3 2 0 0 10 154800000 0 0 0 0 0 0 0 0");
         assert_eq!(after(&[b'\n'; 65_537], &USUAL, 4).to_string(), "-30 0 1 4 0 0 0 0 0 0 0 0 0 0 0 0");
     }
 }

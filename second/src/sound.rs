@@ -2,6 +2,7 @@
 
 use crate::arc::{self, is_circle_point, Kind, LARGEST_N};
 use crate::book::{Block, Book, Path};
+use crate::charge;
 use crate::line;
 use crate::point::Point;
 use crate::settings::Settings;
@@ -24,12 +25,11 @@ pub struct Record {
 }
 
 /// The book of a sound record, none for an unsound one.
-/// "A record is sound if settings pass questions 1 to 3; the point is in travel; the remainder is
-/// below q0;" and what is in work is sound.
+/// "A record is sound if settings pass questions 1 to 3; the point is in travel;" the remainder is sound (02 §2) and so is
+/// what is in work.
 pub fn book_of(record: &Record) -> Option<Book> {
     let Record { settings, point, held, remainder, work } = *record;
-    let sound = settings.refusal().is_none() && settings.in_travel(point) && remainder < settings.q0();
-    if !sound {
+    if settings.refusal().is_some() || !settings.in_travel(point) || !charge::is_sound_remainder(remainder, settings.q0()) {
         return None;
     }
     let block = match work {
@@ -48,11 +48,11 @@ fn sound_line(record: &Record, start: Point, end: Point, f: u64, c: u64) -> Opti
     if !in_travel || start == end || !(1..=settings.q0()).contains(&f) {
         return None;
     }
-    let q = line::cycles(start, end);
-    if c >= q || record.point != line::point_after(start, end, q, c) {
+    let line = Block::line(start, end, f);
+    if c >= line.k || record.point != line::point_after(start, end, line.k, c) {
         return None;
     }
-    Some(Block { path: Path::Line, start, end, f, k: q, c })
+    Some(Block { c, charged: charge::LINE_CYCLE * c, ..line })
 }
 
 /// "an arc in work has feed in 1..q0, N in 1..2,000,000,000,000, point and end both circle points of
@@ -74,7 +74,8 @@ fn sound_arc(record: &Record, kind: Kind, centre: Point, n: u64, end: Point, f: 
     if !in_travel {
         return None;
     }
-    Some(Block { path: Path::Arc { kind, centre, n }, start: record.point, end, f, k: walked.cycles, c: 0 })
+    let path = Path::Arc { kind, centre, n };
+    Some(Block { path, start: record.point, end, f, k: walked.cycles, c: 0, charges: walked.charges, charged: 0 })
 }
 
 /// The record of a book, as the machine would hold it.
@@ -104,11 +105,29 @@ mod tests {
     #[test]
     fn idle_records() {
         assert!(sound(idle()));
-        assert!(sound(Record { remainder: 299_999, ..idle() }));
-        assert!(!sound(Record { remainder: 300_000, ..idle() }));
         assert!(!sound(Record { point: Point::new(1_000_001, 0), ..idle() }));
         assert!(!sound(Record { settings: Settings { p: 0, ..USUAL }, ..idle() }));
         assert!(!sound(Record { settings: Settings { w: u64::MAX, ..USUAL }, ..idle() }));
+    }
+
+    /// "A sound remainder is below 1,414 × q0": 424,200,000 at w 5,000, whatever is in work.
+    #[test]
+    fn remainders() {
+        let line = Work::Line { start: ORIGIN, end: Point::new(3, 4), f: 60_000, c: 0 };
+        let arc = Work::Arc { kind: Kind::Clockwise, centre: Point::new(0, 5), n: 25, end: ORIGIN, f: 1 };
+        for work in [Work::Nothing, line, arc] {
+            let with = |settings, remainder| sound(Record { settings, remainder, work, ..idle() });
+            for remainder in [0, 299_999, 300_000, 299_999_999, 300_000_000, 424_199_999] {
+                assert!(with(USUAL, remainder), "{remainder}");
+            }
+            for remainder in [424_200_000, 424_200_001, 1 << 32, 1 << 63, u64::MAX] {
+                assert!(!with(USUAL, remainder), "{remainder}");
+            }
+            for w in [1_000, 20_000] {
+                let settings = Settings { w, ..USUAL };
+                assert!(with(settings, 1_414 * 60 * w - 1) && !with(settings, 1_414 * 60 * w));
+            }
+        }
     }
 
     #[test]

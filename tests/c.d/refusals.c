@@ -235,6 +235,13 @@ static void ahead_of_line(void)
     is("sum", sums.y, -2);
 }
 
+/* The same with the greatest remainder of a sound record, below 1,414 * 60 * w: at most one cycle is done on each tick. */
+static void ahead_of_much(vz_record m)
+{
+    m.word[VZ_WORD_REMAINDER] = INT64_C(1414) * 300000 - 1;
+    ahead(m);
+}
+
 /* Idle, on slow and fast lines and arcs, and in the midst of one. */
 static void everywhere(void)
 {
@@ -242,19 +249,22 @@ static void everywhere(void)
     ahead(m);
     is("a slow line", vz_load_line(&m, 3, 4, 1), 3);
     ahead(m);
+    ahead_of_much(m);
     is("a line", vz_load_line(&line, -3, 4, 300000), 3);
     ahead(line);
+    ahead_of_much(line);
     is("a tick", vz_tick(&line), 2 + 4 + 16);
     ahead(line);
     is("an arc", vz_load_ccw(&arc, 4, 2, 200000, 4, -3), 3);
     ahead(arc);
+    ahead_of_much(arc);
     is("stop", vz_stop(&arc), 0);
     is("a full turn", vz_load_cw(&arc, 0, 0, 7, 5, 0), 3);
     ahead(arc);
 }
 
-/* The largest circle there may be, N 2,000,000,000,000, both ways round: a million cycles, and a look for most of them. No setting of the
- * floating-point unit makes an answer another, nor does a look change one. */
+/* The largest circle there may be, N 2,000,000,000,000, both ways round: a million cycles in 1,171,485 ticks, and looks to the end. No
+ * setting of the floating-point unit makes an answer another, nor does a look change one. */
 static void largest(void)
 {
     static const int modes[] = {FE_TONEAREST, FE_UPWARD, FE_DOWNWARD, FE_TOWARDZERO};
@@ -271,6 +281,14 @@ static void largest(void)
         is("rounding after looks", fegetround(), modes[i]);
     }
     fesetround(FE_TONEAREST);
+    const vz_record begun[] = {cw, ccw};
+    for (int i = 0; i < 2; i++) {
+        vz_record then;
+        vz_sums sums;
+        is("a million ticks on", vz_ahead(&begun[i], VZ_AHEAD_TICKS, &then, &sums), 0);
+        looks(&then, 171484);
+        looks(&then, 171485);
+    }
 }
 
 /* One word of a sound record changed. */
@@ -295,10 +313,13 @@ int main(void)
     is("an arc", vz_load_cw(&arc, 0, 0, 1, 5, 0), 3);
     is("ABI of a record", idle.word[VZ_WORD_ABI], VZ_ABI);
     changed("another layout", idle, VZ_WORD_ABI, VZ_ABI + 1);
+    changed("the layout before", idle, VZ_WORD_ABI, VZ_ABI - 1);
     changed("p", idle, VZ_WORD_P, -50);
     changed("x outside", idle, VZ_WORD_X, 101);
     changed("held 2", idle, VZ_WORD_HELD, 2);
-    changed("remainder", idle, VZ_WORD_REMAINDER, 300000);
+    changed("remainder", idle, VZ_WORD_REMAINDER, INT64_C(1414) * 300000);
+    changed("remainder of a line", line, VZ_WORD_REMAINDER, INT64_C(1414) * 300000);
+    changed("remainder of an arc", arc, VZ_WORD_REMAINDER, INT64_C(1414) * 300000);
     changed("kind 4", idle, VZ_WORD_WORK, 4);
     changed("a number of nothing", idle, VZ_RECORD_WORDS - 1, 1);
     changed("a line's point", line, VZ_WORD_X, 1);

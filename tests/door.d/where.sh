@@ -43,14 +43,17 @@ at 3 'tick 3 of 5' "block 2, text line 2: $slow" 'tick 0 of the block, 0 of 1 cy
 at 4 'tick 4 of 5' "block 2, text line 2: $slow" 'tick 1 of the block, 0 of 1 cycles done' 'X 1 Y 0 pulses, X 0.02 Y 0.00 mm'
 at 5 'tick 5 of 5' 'job over: blocks 2, text lines 2, ticks past its end 0' 'X 2 Y 0 pulses, X 0.04 Y 0.00 mm'
 
-# 01's arc of 14 cycles, N 25, and back: (1, 0), (2, 0), (3, 1), ..
+# 01's arc of 14 cycles, N 25, and back: (1, 0), (2, 0), (3, 1), .. The third cycle is diagonal and charged 1,414, so that it waits for tick
+# 4. The 14 are charged 16,484: the first arc ends on tick 17 and leaves 516, of which the second has its third cycle on its tick 3.
 printf 'G3 X0 Y0.2 J0.1 F6000\nG2 X0 Y0 J-0.1\n' >"$job"
-at 3 'tick 3 of 28' 'block 1, text line 1: arc counterclockwise about X 0.00 Y 0.10 to X 0.00 Y 0.20 mm, feed 6000 mm/min' \
-    'tick 3 of the block, 3 of 14 cycles done' 'X 3 Y 1 pulses, X 0.06 Y 0.02 mm'
-at 17 'tick 17 of 28' 'block 2, text line 2: arc clockwise about X 0.00 Y 0.10 to X 0.00 Y 0.00 mm, feed 6000 mm/min' \
+at 3 'tick 3 of 33' 'block 1, text line 1: arc counterclockwise about X 0.00 Y 0.10 to X 0.00 Y 0.20 mm, feed 6000 mm/min' \
+    'tick 3 of the block, 2 of 14 cycles done' 'X 2 Y 0 pulses, X 0.04 Y 0.00 mm'
+at 4 'tick 4 of 33' 'block 1, text line 1: arc counterclockwise about X 0.00 Y 0.10 to X 0.00 Y 0.20 mm, feed 6000 mm/min' \
+    'tick 4 of the block, 3 of 14 cycles done' 'X 3 Y 1 pulses, X 0.06 Y 0.02 mm'
+at 20 'tick 20 of 33' 'block 2, text line 2: arc clockwise about X 0.00 Y 0.10 to X 0.00 Y 0.00 mm, feed 6000 mm/min' \
     'tick 3 of the block, 3 of 14 cycles done' 'X 3 Y 9 pulses, X 0.06 Y 0.18 mm'
-at 27 'tick 27 of 28' 'block 2, text line 2: arc clockwise about X 0.00 Y 0.10 to X 0.00 Y 0.00 mm, feed 6000 mm/min' \
-    'tick 13 of the block, 13 of 14 cycles done' 'X 1 Y 0 pulses, X 0.02 Y 0.00 mm'
+at 32 'tick 32 of 33' 'block 2, text line 2: arc clockwise about X 0.00 Y 0.10 to X 0.00 Y 0.00 mm, feed 6000 mm/min' \
+    'tick 15 of the block, 13 of 14 cycles done' 'X 1 Y 0 pulses, X 0.02 Y 0.00 mm'
 
 : >"$job"
 at 7 'tick 7 of 0' 'job over: blocks 0, text lines 0, ticks past its end 7' 'X 0 Y 0 pulses, X 0.00 Y 0.00 mm'
@@ -145,18 +148,19 @@ ok "where, nobody reads: the exit status is neither 0 nor 2" nobody_reads
 row() { [[ $(printf '%s\n%b' "$1" "$2" | target/bin/jobwhere) == "$3" ]]; }
 # rows TICKS JOB ROW: counts it
 rows() { ok "jobwhere does not say '$3' after $1 ticks of '$2'" row "$@"; }
-# f 149,950 of 300,000: 299,900 are left over after 2 ticks, and 149,850 once a cycle is done.
+# f 149,950 of 300,000: 299,900 thousands are left over after 2 ticks, and 149,850 once a cycle is done.
 slow='G1 X0.02 F2999\nX0.04\n'
 rows 0 "$slow" '1 1 1 0 1 0 0 0 1 0 0 1 0 149950 1 0'
-rows 2 "$slow" '1 1 1 2 1 0 0 299900 1 0 0 1 0 149950 1 0'
-rows 3 "$slow" '1 2 2 0 1 1 0 149850 1 1 0 2 0 149950 1 0'
-rows 5 "$slow" '0 2 2 0 0 2 0 149750 0 0 0 0 0 0 0 0'
-rows 0000000000000000005 "$slow" '0 2 2 0 0 2 0 149750 0 0 0 0 0 0 0 0'
-rows 9223372036854775807 "$slow" '0 2 2 9223372036854775802 0 2 0 149750 0 0 0 0 0 0 0 0'
+rows 2 "$slow" '1 1 1 2 1 0 0 299900000 1 0 0 1 0 149950 1 0'
+rows 3 "$slow" '1 2 2 0 1 1 0 149850000 1 1 0 2 0 149950 1 0'
+rows 5 "$slow" '0 2 2 0 0 2 0 149750000 0 0 0 0 0 0 0 0'
+rows 0000000000000000005 "$slow" '0 2 2 0 0 2 0 149750000 0 0 0 0 0 0 0 0'
+rows 9223372036854775807 "$slow" '0 2 2 9223372036854775802 0 2 0 149750000 0 0 0 0 0 0 0 0'
 # An arc: its kind, centre, N, end and f.
 arcs='G3 X0 Y0.2 J0.1 F6000\nG2 X-0.06 Y0.02 J-0.1\n'
-rows 3 "$arcs" '1 1 1 3 11 3 1 0 3 0 5 25 0 10 300000 0'
-rows 16 "$arcs" '1 2 2 2 15 2 10 0 2 0 5 25 -3 1 300000 0'
+rows 3 "$arcs" '1 1 1 3 12 2 0 300000000 3 0 5 25 0 10 300000 0'
+rows 4 "$arcs" '1 1 1 4 11 3 1 175800000 3 0 5 25 0 10 300000 0'
+rows 19 "$arcs" '1 2 2 2 15 2 10 154800000 2 0 5 25 -3 1 300000 0'
 # A refused line: minus its number, the blocks before it, its own line and the ticks that are left.
 rows 7 'G1 X0.02 F6000\n\nG3 X1 Y0.5 I1\n' '-15 1 3 6 0 1 0 0 0 0 0 0 0 0 0 0'
 rows 0 'X1\n' '-36 0 1 0 0 0 0 0 0 0 0 0 0 0 0 0'

@@ -18,7 +18,7 @@ pub const PROGRESS_WORDS: usize = 8;
 pub const AHEAD_TICKS: u64 = 1_000_000;
 
 /// Word 0 of every record: the layout that this file knows. Words with another number there are no record.
-pub const ABI: i64 = 1;
+pub const ABI: i64 = 2;
 
 /// Which word is what, as `include/verdaizka.h` says it.
 pub mod word {
@@ -295,6 +295,7 @@ impl Machine {
         self.words[word::HELD] != 0
     }
 
+    /// What the feed has left over, in thousandths of a feed number: of a sound record below 1,414 times 60 times w.
     pub fn remainder(&self) -> i64 {
         self.words[word::REMAINDER]
     }

@@ -2,7 +2,7 @@
 
 use verdaizka::{word, Ahead, Block, Machine, Refused, Settings, Turn, Work, AHEAD_TICKS, USUAL};
 
-/// A cycle is 60,000, so that feed 60,000 does one on each tick.
+/// Feed 60,000 pays 1,000 charges a tick, a line's cycle or a straight step of an arc.
 const SETTINGS: Settings = Settings { p: 50, w: 1_000, x: (-20, 20), y: (-20, 20) };
 
 fn busy(block: Block) -> Machine {
@@ -23,6 +23,13 @@ fn turn(feed: i64) -> Block {
 fn held(mut machine: Machine) -> Machine {
     machine.hold().expect("sound");
     machine
+}
+
+/// The machine with this remainder, as none is after a load of a history.
+fn left_over(machine: &Machine, remainder: i64) -> Machine {
+    let mut words = *machine.words();
+    words[word::REMAINDER] = remainder;
+    Machine::from_words(words)
 }
 
 fn accepted(machine: &Machine, ticks: u64) -> Ahead {
@@ -61,21 +68,49 @@ fn a_look_is_its_ticks() {
     let idle = Machine::make(SETTINGS).0;
     let begun = [line(60_000), turn(40_000)].map(|block| ticked(&busy(block), 3).then);
     let others = [idle.clone(), held(idle), busy(line(40_000)), held(busy(line(60_000))), busy(turn(59_999)), held(busy(turn(7)))];
-    for machine in begun.into_iter().chain(others) {
+    let rich = [line(60_000), line(7), turn(60_000), turn(7)].map(|block| left_over(&busy(block), 1_414 * 60_000 - 1));
+    for machine in begun.into_iter().chain(others).chain(rich) {
         for ticks in (0..60).chain([999, 60_001, AHEAD_TICKS - 1, AHEAD_TICKS]) {
             assert_eq!(accepted(&machine, ticks), ticked(&machine, ticks), "{ticks} from {machine:?}");
         }
     }
 }
 
-/// A look from the record ahead goes on where the first one ended: a million ticks of feed 1 do 16 cycles and leave 40,000.
+/// N 25, clockwise about (0, 5): (-1, 0) and (-2, 0) are straight steps, (-3, 1), (-4, 2) and (-5, 3) diagonal ones of 1,414; then (-5, 4).
+/// So they come on ticks 1, 2, 4, 5, 7 and 8, and the whole turn, of 32,968, ends on tick 33 with 32 left over.
+#[test]
+fn an_arc_waits_for_its_diagonal_steps() {
+    let machine = busy(turn(60_000));
+    let ways = [(0, 0), (-1, 0), (-2, 0), (-2, 0), (-3, 1), (-4, 2), (-4, 2), (-5, 3), (-5, 4)];
+    for (ticks, at) in ways.into_iter().enumerate() {
+        let ahead = accepted(&machine, ticks as u64);
+        assert_eq!((ahead.sums, ahead.then.position(), ahead.then.is_busy()), (at, at, true), "{ticks}");
+    }
+    assert_eq!(accepted(&machine, 3).then.remainder(), 1_000 * 60_000);
+    assert_eq!(accepted(&machine, 6).then.remainder(), 1_172 * 60_000);
+    let (last, end) = (accepted(&machine, 32), accepted(&machine, 33));
+    assert_eq!((last.then.position(), last.then.is_busy()), ((1, 0), true));
+    assert_eq!((end.then.position(), end.then.is_busy(), end.then.remainder()), ((0, 0), false, 32 * 60_000));
+}
+
+/// At most one cycle a tick, however much is left over: 5 cycles end on tick 5, and the remainder stays.
+#[test]
+fn a_great_remainder() {
+    let machine = left_over(&busy(line(60_000)), 1_400 * 60_000);
+    for (ticks, busy) in [(4, true), (5, false), (6, false)] {
+        let ahead = accepted(&machine, ticks);
+        assert_eq!((ahead.then.is_busy(), ahead.then.remainder()), (busy, 1_400 * 60_000), "{ticks}");
+    }
+}
+
+/// A look from the record ahead goes on where the first one ended: a million ticks of feed 1 do 16 cycles and leave 40,000 thousands.
 #[test]
 fn looks_one_after_the_other() {
     let machine = busy(Block::Line { x: 0, y: 17, feed: 1 });
     let first = accepted(&machine, AHEAD_TICKS);
-    assert_eq!((first.sums, first.then.remainder(), first.then.is_busy()), ((0, 16), 40_000, true));
+    assert_eq!((first.sums, first.then.remainder(), first.then.is_busy()), ((0, 16), 40_000_000, true));
     let second = accepted(&first.then, 19_999);
-    assert_eq!((second.sums, second.then.remainder(), second.then.is_busy()), ((0, 0), 59_999, true));
+    assert_eq!((second.sums, second.then.remainder(), second.then.is_busy()), ((0, 0), 59_999_000, true));
     let third = accepted(&second.then, 1);
     assert_eq!((third.sums, third.then.position(), third.then.remainder(), third.then.is_busy()), ((0, 1), (0, 17), 0, false));
 }

@@ -3,6 +3,8 @@
 use verdaizka::{word, Ahead, Block, Check, Known, Machine, Refused, Settings, Turn, ABI, AHEAD_TICKS, PROGRESS_WORDS, USUAL, WORDS};
 
 const LINE: Block = Block::Line { x: 300, y: -400, feed: 60_000 };
+/// The greatest remainder of a sound record at 5,000 ticks a second: below a diagonal step's charge times 300,000.
+const MOST: i64 = 1_414 * 300_000 - 1;
 
 fn arc(x: i64, i: i64, j: i64) -> Block {
     Block::Arc { turn: Turn::Counterclockwise, x, y: 0, feed: 60_000, i, j }
@@ -34,7 +36,7 @@ fn another_layout_is_no_record() {
     busy.load(LINE).expect("accepted");
     idle.hold().expect("sound");
     for machine in [idle, busy] {
-        for abi in [0, 2, -1, 50, i64::MAX, i64::MIN] {
+        for abi in [0, 1, 3, -1, 50, i64::MAX, i64::MIN] {
             let mut words = *machine.words();
             words[word::ABI] = abi;
             no_record(words);
@@ -51,10 +53,24 @@ fn words_that_are_no_record() {
     let sound = *machine.words();
     // A line's stored cycles are its own alone; a mark is 0 or 1, a kind at most 3; nothing is negative that counts.
     let cycles = word::NUMBERS + 5;
-    for (at, value) in [(cycles, 501), (cycles, 0), (word::HELD, 2), (word::WORK, 4), (word::WORK, -1), (word::REMAINDER, -1), (word::P, 0)]
-    {
+    let bad = [(cycles, 501), (cycles, 0), (word::HELD, 2), (word::WORK, 4), (word::WORK, -1), (word::P, 0)];
+    for (at, value) in bad.into_iter().chain([-1, MOST + 1, i64::MAX].map(|remainder| (word::REMAINDER, remainder))) {
         let mut words = sound;
         words[at] = value;
+        no_record(words);
+    }
+}
+
+#[test]
+fn the_greatest_remainder() {
+    let (idle, _) = Machine::make(USUAL);
+    let mut busy = idle.clone();
+    busy.load(LINE).expect("accepted");
+    for machine in [idle, busy] {
+        let mut words = *machine.words();
+        words[word::REMAINDER] = MOST;
+        assert_eq!(Machine::from_words(words).hold(), Ok(()));
+        words[word::REMAINDER] = MOST + 1;
         no_record(words);
     }
 }
@@ -106,7 +122,7 @@ fn a_refused_make_is_the_usual_machine() {
 fn words_that_are_no_check() {
     let sound = Check::start(USUAL).0;
     let mut bad = vec![([7; WORDS], [7; PROGRESS_WORDS]), (*sound.machine(), [7; PROGRESS_WORDS]), ([7; WORDS], *sound.progress())];
-    for abi in [0, 2] {
+    for abi in [0, 1] {
         let mut machine = *sound.machine();
         machine[word::ABI] = abi;
         bad.push((machine, *sound.progress()));

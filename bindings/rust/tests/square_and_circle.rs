@@ -40,9 +40,11 @@ fn square_and_circle() {
     }
     let circle = Block::Arc { turn: Turn::Counterclockwise, x: 0, y: 0, feed: FEED, i: 250, j: 0 };
     assert_eq!(machine.load(circle), Ok(8));
+    // A tick pays 200 charges. Of the 1,416 cycles 584 are diagonal, since the axes have 2,000 pulses together: 1,657,776 charges, so that
+    // tick 8,289 leaves 24 of them.
     let (x, y, ticks) = cut(&mut machine);
-    assert_eq!((x, y, ticks), (0, 0, 1_416 * 5));
-    assert_eq!((machine.position(), machine.is_busy(), machine.remainder()), ((0, 0), false, 0));
+    assert_eq!((x, y, ticks), (0, 0, 8_289));
+    assert_eq!((machine.position(), machine.is_busy(), machine.remainder()), ((0, 0), false, 24 * 300_000));
 }
 
 #[test]

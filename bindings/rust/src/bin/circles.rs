@@ -1,4 +1,4 @@
-//! All arcs of all small circles, cut by the core: `circles MAXN` writes a line `N POINTS ARCS CYCLES CRC` for each N, as
+//! All arcs of all small circles, cut by the core: `circles MAXN` writes a line `N POINTS ARCS CYCLES TICKS CRC` for each N, as
 //! `second circles MAXN totals` does. The circle points of N are those at which the core calls an arc in work sound.
 
 use std::io::{self, BufWriter, Write};
@@ -7,7 +7,7 @@ use verdaizka::crc::Crc;
 use verdaizka::{word, Machine, Why, ABI, WORDS};
 
 const CLOCK: i64 = 1_000;
-/// A feed number at the capacity: every tick is a cycle.
+/// The fastest feed number: a tick pays 1,000, all of a straight step's charge and the greater part of a diagonal one's.
 const FEED: i64 = 60 * CLOCK;
 
 type Point = (i64, i64);
@@ -34,22 +34,23 @@ fn pulse(code: u8) -> i64 {
     }
 }
 
-/// The cycles of an arc, and the CRC over the points that it visits, x and y in 4 bytes each, low byte first.
-fn cut(n: i64, kind: i64, start: Point, end: Point) -> (u64, u32) {
+/// The cycles and the ticks of an arc, and the CRC over the points that it visits, x and y in 4 bytes each, low byte first.
+fn cut(n: i64, kind: i64, start: Point, end: Point) -> (u64, u64, u32) {
     let mut machine = arc(n, kind, start, end);
-    let (mut at, mut cycles, mut crc) = (start, 0, Crc::new());
+    let (mut at, mut cycles, mut all, mut crc) = (start, 0, 0, Crc::new());
     let mut out = [0; 256];
     loop {
         let (why, ticks) = machine.run(u64::MAX, &mut out).expect("a sound record");
-        for &byte in &out[..ticks as usize] {
+        for &byte in out[..ticks as usize].iter().filter(|&byte| byte & 16 != 0) {
             at = (at.0 + pulse(byte), at.1 + pulse(byte >> 2));
             crc.add(&(at.0 as i32).to_le_bytes());
             crc.add(&(at.1 as i32).to_le_bytes());
+            cycles += 1;
         }
-        cycles += ticks;
+        all += ticks;
         if why == Why::Ended {
             assert!(at == end && machine.position() == end, "not at the end");
-            return (cycles, crc.value());
+            return (cycles, all, crc.value());
         }
     }
 }
@@ -57,18 +58,19 @@ fn cut(n: i64, kind: i64, start: Point, end: Point) -> (u64, u32) {
 fn write_totals(most: i64, out: &mut impl Write) -> io::Result<()> {
     for n in 1..=most {
         let all = points(n);
-        let (mut arcs, mut cycles, mut crc) = (0u64, 0u64, Crc::new());
+        let (mut arcs, mut cycles, mut ticks, mut crc) = (0u64, 0u64, 0u64, Crc::new());
         for kind in [word::KIND_CW, word::KIND_CCW] {
             for &start in &all {
                 for &end in &all {
-                    let (of_arc, visited) = cut(n, kind, start, end);
-                    crc.add(format!("{n} {kind} {} {} {} {} {of_arc} {visited:08x}\n", start.0, start.1, end.0, end.1).as_bytes());
+                    let (done, took, visited) = cut(n, kind, start, end);
+                    crc.add(format!("{n} {kind} {} {} {} {} {done} {took} {visited:08x}\n", start.0, start.1, end.0, end.1).as_bytes());
                     arcs += 1;
-                    cycles += of_arc;
+                    cycles += done;
+                    ticks += took;
                 }
             }
         }
-        writeln!(out, "{n} {} {arcs} {cycles} {:08x}", all.len(), crc.value())?;
+        writeln!(out, "{n} {} {arcs} {cycles} {ticks} {:08x}", all.len(), crc.value())?;
     }
     out.flush()
 }
