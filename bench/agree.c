@@ -93,13 +93,15 @@ static struct plain_block drawn_block(const int64_t *words, int64_t reach)
     return b;
 }
 
-/* What a word is changed to: a number near it, one with a bit turned over, another word's, or one near the capacity. */
+/* What a word is changed to: a number near it, one with a bit turned over, another word's, or one at the end of the feeds or of the
+ * remainders of a sound record. */
 static int64_t spoil(const int64_t *words, int64_t at)
 {
-    switch (drawn(4)) {
+    switch (drawn(5)) {
     case 0: return words[at] + drawn(5) - 2;
     case 1: return (int64_t)((uint64_t)words[at] ^ (uint64_t)1 << drawn(64));
     case 2: return words[drawn(WORDS)];
+    case 3: return 1414 * 60 * words[WORD_W] - 1 + drawn(2);
     default: return 60 * words[WORD_W] + drawn(2);
     }
 }

@@ -2,6 +2,7 @@
 #ifndef ARC_H
 #define ARC_H
 
+#include "cycle.h"
 #include "machine.h"
 #include "root.h"
 
@@ -57,12 +58,26 @@ static inline int64_t rank(int64_t quarter, struct plain_arc p)
     return (int64_t)p.quadrant * quarter + (p.across <= p.along ? p.across : quarter - p.along);
 }
 
-/* The cycles from here to the end; a whole turn where the arc is already there. */
-static inline int64_t cycles_left(const struct arc *a, bool clockwise, struct point at)
+/* The pulses on both axes up to a place: in each quadrant twice as many as the radius has. */
+static inline int64_t pulses_to(int64_t radius, struct plain_arc p)
 {
-    const int64_t quarter = nearest_root(2 * a->square);
-    int64_t n = rank(quarter, place_of(a, clockwise, a->end)) - rank(quarter, place_of(a, clockwise, at));
-    return n <= 0 ? n + 4 * quarter : n;
+    return 2 * radius * (int64_t)p.quadrant + radius - p.along + p.across;
+}
+
+/* What so many cycles of an arc with so many pulses are charged: a diagonal step has two of them, a straight one has one. */
+static inline int64_t charge(int64_t cycles, int64_t pulses) { return STRAIGHT * cycles + (DIAGONAL - STRAIGHT) * (pulses - cycles); }
+
+struct rest {
+    int64_t cycles, charges;
+};
+
+/* From here to the end; a whole turn where the arc is already there. */
+static inline struct rest rest_of(const struct arc *a, bool clockwise, struct point at)
+{
+    const struct plain_arc from = place_of(a, clockwise, at), to = place_of(a, clockwise, a->end);
+    const int64_t quarter = nearest_root(2 * a->square), radius = nearest_root(a->square);
+    const int64_t n = rank(quarter, to) - rank(quarter, from), pulses = pulses_to(radius, to) - pulses_to(radius, from);
+    return n <= 0 ? (struct rest){ n + 4 * quarter, charge(n + 4 * quarter, pulses + 8 * radius) } : (struct rest){ n, charge(n, pulses) };
 }
 
 #endif

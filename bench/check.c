@@ -153,10 +153,10 @@ static int64_t pulses(const struct words *w, enum letter k, int64_t missing)
 /* ---- blocks */
 
 /* An accepted block: its row, and the feed to its end. */
-static void block(struct job *j, char kind, int64_t cycles, struct point end, int64_t feed, int bits)
+static void block(struct job *j, char kind, struct rest all, struct point end, int64_t feed, int bits)
 {
-    const int64_t ticks = (cycles * CAPACITY - j->remainder + feed - 1) / feed;
-    j->remainder += ticks * feed - cycles * CAPACITY;
+    const int64_t cycles = all.cycles, due = all.charges * CAPACITY, fed = PER_FEED * feed, ticks = (due - j->remainder + fed - 1) / fed;
+    j->remainder += ticks * fed - due;
     j->blocks++;
     j->cycles += cycles;
     j->ticks += ticks;
@@ -176,7 +176,8 @@ static void block(struct job *j, char kind, int64_t cycles, struct point end, in
 static int line_block(struct job *j, struct point end, int64_t feed)
 {
     const int64_t a = llabs(end.x - j->at.x), b = llabs(end.y - j->at.y);
-    block(j, 'L', least_root(a * a + b * b), end, feed, width(a < b ? b : a));
+    const int64_t cycles = least_root(a * a + b * b);
+    block(j, 'L', (struct rest){ cycles, STRAIGHT * cycles }, end, feed, width(a < b ? b : a));
     return 0;
 }
 
@@ -189,7 +190,7 @@ static int arc_block(struct job *j, struct point end, int64_t feed, bool clockwi
         return 15;
     if (!stays(&table, &a, clockwise, j->at))
         return 16;
-    block(j, 'A', cycles_left(&a, clockwise, j->at), end, feed, width(nearest_root(a.square)));
+    block(j, 'A', rest_of(&a, clockwise, j->at), end, feed, width(nearest_root(a.square)));
     return 0;
 }
 

@@ -5,6 +5,10 @@ use std::io::{self, Read, Write};
 const P: i64 = 50;
 const TRAVEL: i64 = 1_000_000;
 const CAPACITY: i64 = 300_000;
+/// Charges, and what a tick pays for each unit of feed.
+const STRAIGHT: i64 = 1_000;
+const DIAGONAL: i64 = 1_414;
+const PER_FEED: i64 = 1_000;
 const PIECE: usize = 8192;
 const LETTERS: &[u8; 7] = b"NGFXYIJ";
 
@@ -101,6 +105,17 @@ impl Place {
     fn rank(&self, quarter: i64) -> i64 {
         self.quadrant * quarter + if self.across <= self.along { self.across } else { quarter - self.along }
     }
+
+    /// The pulses on both axes up to here: in each quadrant twice as many as the radius has.
+    fn pulses(&self, radius: i64) -> i64 {
+        2 * radius * self.quadrant + radius - self.along + self.across
+    }
+}
+
+/// What a block takes.
+struct Rest {
+    cycles: i64,
+    charges: i64,
 }
 
 struct Arc {
@@ -130,15 +145,13 @@ impl Arc {
         })
     }
 
-    /// The cycles from one place to another, a whole turn where they are the same.
-    fn cycles(&self, from: &Place, to: &Place) -> i64 {
-        let quarter = nearest_root(2 * self.square);
-        let n = to.rank(quarter) - from.rank(quarter);
-        if n <= 0 {
-            n + 4 * quarter
-        } else {
-            n
-        }
+    /// The cycles from one place to another, a whole turn where they are the same, and what they are charged: a diagonal step has two
+    /// pulses, a straight one has one.
+    fn rest(&self, from: &Place, to: &Place) -> Rest {
+        let (quarter, radius) = (nearest_root(2 * self.square), nearest_root(self.square));
+        let (n, pulses) = (to.rank(quarter) - from.rank(quarter), to.pulses(radius) - from.pulses(radius));
+        let (cycles, pulses) = if n <= 0 { (n + 4 * quarter, pulses + 8 * radius) } else { (n, pulses) };
+        Rest { cycles, charges: STRAIGHT * cycles + (DIAGONAL - STRAIGHT) * (pulses - cycles) }
     }
 }
 
@@ -222,9 +235,10 @@ fn pulses(word: Option<i64>, missing: i64) -> i64 {
 
 impl Job {
     /// An accepted block: its row, and the feed to its end.
-    fn block(&mut self, kind: u8, cycles: i64, end: Point, feed: i64, bits: i64, out: &mut Listing) {
-        let ticks = (cycles * CAPACITY - self.remainder + feed - 1) / feed;
-        self.remainder += ticks * feed - cycles * CAPACITY;
+    fn block(&mut self, kind: u8, all: Rest, end: Point, feed: i64, bits: i64, out: &mut Listing) {
+        let (cycles, due, fed) = (all.cycles, all.charges * CAPACITY, PER_FEED * feed);
+        let ticks = (due - self.remainder + fed - 1) / fed;
+        self.remainder += ticks * fed - due;
         self.blocks += 1;
         self.cycles += cycles;
         self.ticks += ticks;
@@ -254,7 +268,7 @@ impl Job {
         if !a.stays(&from, &to) {
             return Err(16);
         }
-        self.block(b'A', a.cycles(&from, &to), end, feed, width(nearest_root(a.square)), out);
+        self.block(b'A', a.rest(&from, &to), end, feed, width(nearest_root(a.square)), out);
         Ok(())
     }
 
@@ -274,7 +288,8 @@ impl Job {
             return self.arc_block(end, feed, motion == 2, [pulses(words[5], 0), pulses(words[6], 0)], out);
         }
         let [a, b] = [0, 1].map(|k| (end[k] - self.at[k]).abs());
-        self.block(b'L', least_root(a * a + b * b), end, feed, width(a.max(b)), out);
+        let cycles = least_root(a * a + b * b);
+        self.block(b'L', Rest { cycles, charges: STRAIGHT * cycles }, end, feed, width(a.max(b)), out);
         Ok(())
     }
 

@@ -4,7 +4,10 @@
 
 #include "plain.h"
 
+#include <stdbool.h>
+
 enum { CYCLE = 16, LAST = 32 };
+enum { STRAIGHT = 1000, DIAGONAL = 1414, PER_FEED = 1000 }; /* charges, and what a tick pays for each unit of feed */
 
 static inline uint8_t line_cycle(struct plain_line *l)
 {
@@ -28,6 +31,26 @@ static inline uint8_t line_cycle(struct plain_line *l)
  * mirror of the X axis. */
 static const uint8_t rises[2][4] = { { 4, 2, 8, 1 }, { 8, 2, 4, 1 } };
 static const uint8_t falls[2][4] = { { 2, 8, 1, 4 }, { 2, 4, 1, 8 } };
+
+/* Whether the next step goes on both axes. */
+static inline bool arc_diagonal(const struct plain_arc *a)
+{
+    if (a->across < a->along)
+        return a->excess + 2 * a->across + 1 >= a->along;
+    return a->excess + 1 - 2 * a->along + a->across < 0;
+}
+
+/* What the next cycle takes off, where a straight step takes so much. */
+static inline uint64_t line_due(const struct plain_line *l, uint64_t straight)
+{
+    (void)l;
+    return straight;
+}
+
+static inline uint64_t arc_due(const struct plain_arc *a, uint64_t straight)
+{
+    return arc_diagonal(a) ? straight / STRAIGHT * DIAGONAL : straight;
+}
 
 static inline uint8_t arc_cycle(struct plain_arc *a)
 {

@@ -61,12 +61,6 @@ static bool arc_sound(const struct machine *m)
     return stays(&m->settings, a, clockwise, m->at);
 }
 
-static uint8_t arc_step(struct machine *m)
-{
-    struct plain_arc p = place_of(&m->arc, m->kind == CLOCKWISE, m->at);
-    return arc_cycle(&p);
-}
-
 /* ---- calls */
 
 static int64_t feed_of(const struct machine *m) { return m->kind == LINE ? m->line.feed : m->arc.feed; }
@@ -76,7 +70,7 @@ static bool sound(const struct machine *m)
     if (!settings_right(&m->settings))
         return false;
     const int64_t capacity = 60 * m->settings.w;
-    if (!inside(&m->settings, m->at) || !within(0, m->remainder, capacity - 1))
+    if (!inside(&m->settings, m->at) || !within(0, m->remainder, DIAGONAL * capacity - 1))
         return false;
     if (m->kind == NOTHING)
         return true;
@@ -91,12 +85,22 @@ int64_t c_tick_in(struct machine *m)
         return UNSOUND;
     if (m->held || m->kind == NOTHING)
         return 0;
-    const int64_t capacity = 60 * m->settings.w;
-    m->remainder += feed_of(m);
-    if (m->remainder < capacity)
+    const int64_t straight = STRAIGHT * 60 * m->settings.w;
+    m->remainder += PER_FEED * feed_of(m);
+    if (m->remainder < straight)
         return 0;
-    m->remainder -= capacity;
-    uint8_t byte = m->kind == LINE ? line_step(m) : arc_step(m);
+    uint8_t byte;
+    if (m->kind == LINE) {
+        m->remainder -= straight;
+        byte = line_step(m);
+    } else {
+        struct plain_arc p = place_of(&m->arc, m->kind == CLOCKWISE, m->at);
+        const int64_t due = (int64_t)arc_due(&p, (uint64_t)straight);
+        if (m->remainder < due)
+            return 0;
+        m->remainder -= due;
+        byte = arc_cycle(&p);
+    }
     m->at.x += (byte & 1) - (byte >> 1 & 1);
     m->at.y += (byte >> 2 & 1) - (byte >> 3 & 1);
     if (m->kind != LINE && same(m->at, m->arc.end))

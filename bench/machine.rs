@@ -1,6 +1,6 @@
 //! The machine in plain Rust: the test of the record (01, "sound"), tick, load and stop, by value in and out.
 use crate::path::{Arc, Line, Point, Range, Settings, TRAVEL};
-use crate::{rust_root, Block as _};
+use crate::{rust_root, Block as _, DIAGONAL, PER_FEED, STRAIGHT};
 
 #[derive(Clone, Copy)]
 pub enum Work {
@@ -52,7 +52,7 @@ fn width(v: i64) -> i64 {
 impl Machine {
     fn sound(&self) -> bool {
         let s = &self.settings;
-        if !s.right() || !s.inside(self.at) || !(0..s.capacity()).contains(&self.remainder) {
+        if !s.right() || !s.inside(self.at) || !(0..DIAGONAL as i64 * s.capacity()).contains(&self.remainder) {
             return false;
         }
         let feeds = 1..=s.capacity();
@@ -69,20 +69,28 @@ impl Machine {
 
     /// One working tick: the byte.
     fn work_tick(&mut self, feed: i64) -> u8 {
-        let capacity = self.settings.capacity();
-        self.remainder += feed;
-        if self.remainder < capacity {
+        let straight = STRAIGHT as i64 * self.settings.capacity();
+        self.remainder += PER_FEED as i64 * feed;
+        if self.remainder < straight {
             return 0;
         }
-        self.remainder -= capacity;
         let mut byte = match &mut self.work {
             Work::Nothing => 0,
             Work::Line(l) => {
                 let byte = l.step(self.at);
                 l.done += 1;
+                self.remainder -= straight;
                 byte
             }
-            Work::Arc(a) => a.place(self.at).cycle(),
+            Work::Arc(a) => {
+                let mut place = a.place(self.at);
+                let due = place.due(straight as u64) as i64;
+                if self.remainder < due {
+                    return 0;
+                }
+                self.remainder -= due;
+                place.cycle()
+            }
         };
         self.at.x += i64::from(byte & 1) - i64::from(byte >> 1 & 1);
         self.at.y += i64::from(byte >> 2 & 1) - i64::from(byte >> 3 & 1);

@@ -20,6 +20,7 @@ struct plain_arc {
     uint64_t left, quadrant, clockwise;
 };
 
+/* In thousandths: what a straight step and a line's cycle take off, and what a tick adds. A diagonal step takes 1.414 times as much off. */
 struct plain_feed {
     uint64_t capacity, feed, remainder;
 };

@@ -7,11 +7,16 @@ mod words;
 
 const CYCLE: u8 = 16;
 const LAST: u8 = 32;
+/// Charges, and what a tick pays for each unit of feed.
+const STRAIGHT: u64 = 1_000;
+const DIAGONAL: u64 = 1_414;
+const PER_FEED: u64 = 1_000;
 
 pub trait Block {
     /// One cycle onward: its byte.
     fn cycle(&mut self) -> u8;
-    fn left(&self) -> u64;
+    /// What the next cycle takes off, where a straight step takes so much.
+    fn due(&self, straight: u64) -> u64;
 }
 
 #[repr(C)]
@@ -48,8 +53,9 @@ impl Block for Line {
         byte
     }
 
-    fn left(&self) -> u64 {
-        self.q - self.done
+    #[inline]
+    fn due(&self, straight: u64) -> u64 {
+        straight
     }
 }
 
@@ -69,6 +75,16 @@ const RISES: [[u8; 4]; 2] = [[4, 2, 8, 1], [8, 2, 4, 1]];
 const FALLS: [[u8; 4]; 2] = [[2, 8, 1, 4], [2, 4, 1, 8]];
 
 impl Arc {
+    /// Whether the next step goes on both axes.
+    #[inline]
+    fn diagonal(&self) -> bool {
+        if self.across < self.along {
+            self.excess + 2 * self.across + 1 >= self.along
+        } else {
+            self.excess + 1 - 2 * self.along + self.across < 0
+        }
+    }
+
     #[inline]
     fn step(&mut self) -> u8 {
         let (way, quadrant) = ((self.clockwise & 1) as usize, (self.quadrant & 3) as usize);
@@ -112,8 +128,13 @@ impl Block for Arc {
         byte
     }
 
-    fn left(&self) -> u64 {
-        self.left
+    #[inline]
+    fn due(&self, straight: u64) -> u64 {
+        if self.diagonal() {
+            straight / STRAIGHT * DIAGONAL
+        } else {
+            straight
+        }
     }
 }
 
@@ -126,12 +147,14 @@ pub struct Feed {
 
 fn ticks<B: Block + Copy>(block: &mut B, feed: &mut Feed, out: &mut [u8]) -> u64 {
     let (mut b, mut r, mut done) = (*block, feed.remainder, out.len());
+    let mut due = b.due(feed.capacity);
     for (i, byte) in out.iter_mut().enumerate() {
         r += feed.feed;
         *byte = 0;
-        if r >= feed.capacity {
-            r -= feed.capacity;
+        if r >= due {
+            r -= due;
             *byte = b.cycle();
+            due = b.due(feed.capacity);
             if *byte & LAST != 0 {
                 done = i + 1;
                 break;
@@ -144,10 +167,10 @@ fn ticks<B: Block + Copy>(block: &mut B, feed: &mut Feed, out: &mut [u8]) -> u64
 }
 
 /// After a cycle the remainder is below the feed, so the next comes after one of two numbers of ticks.
-fn cycles<B: Block + Copy>(block: &mut B, feed: &mut Feed, out: &mut [u8]) -> u64 {
+fn line_cycles(block: &mut Line, feed: &mut Feed, out: &mut [u8]) -> u64 {
     let (mut b, f, capacity) = (*block, feed.feed, feed.capacity);
     let (whole, over) = (capacity / f, capacity % f);
-    let end = (b.left() * capacity - feed.remainder).div_ceil(f);
+    let end = ((b.q - b.done) * capacity - feed.remainder).div_ceil(f);
     let n = end.min(out.len() as u64);
     let out = &mut out[..n as usize];
     out.fill(0);
@@ -168,6 +191,38 @@ fn cycles<B: Block + Copy>(block: &mut B, feed: &mut Feed, out: &mut [u8]) -> u6
     n
 }
 
+/// The same, by two such pairs. What is cleared may reach past the block's end: how many of its steps are diagonal is not counted first.
+fn arc_cycles(block: &mut Arc, feed: &mut Feed, out: &mut [u8]) -> u64 {
+    let (mut b, f) = (*block, feed.feed);
+    let due = [feed.capacity, feed.capacity / STRAIGHT * DIAGONAL];
+    let (whole, over) = (due.map(|due| due / f), due.map(|due| due % f));
+    let n = (b.left * due[1]).div_ceil(f).min(out.len() as u64);
+    let out = &mut out[..n as usize];
+    out.fill(0);
+    let mut d = usize::from(b.diagonal());
+    let mut at = (due[d] - feed.remainder).div_ceil(f);
+    let mut r = feed.remainder + at * f - due[d];
+    while let Some(byte) = out.get_mut(at as usize - 1) {
+        *byte = b.cycle();
+        if *byte & LAST != 0 {
+            feed.remainder = r;
+            *block = b;
+            return at;
+        }
+        d = usize::from(b.diagonal());
+        if r >= over[d] {
+            r -= over[d];
+            at += whole[d];
+        } else {
+            r += f - over[d];
+            at += whole[d] + 1;
+        }
+    }
+    feed.remainder = r + due[d] - (at - n) * f;
+    *block = b;
+    n
+}
+
 macro_rules! run {
     ($name:ident, $block:ty, $run:ident) => {
         #[no_mangle]
@@ -179,8 +234,8 @@ macro_rules! run {
 
 run!(rust_line_ticks, Line, ticks);
 run!(rust_arc_ticks, Arc, ticks);
-run!(rust_line_cycles, Line, cycles);
-run!(rust_arc_cycles, Arc, cycles);
+run!(rust_line_cycles, Line, line_cycles);
+run!(rust_arc_cycles, Arc, arc_cycles);
 
 /// The least root by the hardware's, which is never rounded up to a whole number for s below 2^52.
 #[no_mangle]

@@ -18,7 +18,7 @@ enum {
     WORD_NUMBERS, /* the numbers of what is in work */
     NUMBERS = 7,
     WORDS = WORD_NUMBERS + NUMBERS,
-    ABI = 1
+    ABI = 2
 };
 
 #endif

@@ -6,7 +6,7 @@ use crate::path::{Arc, Line, Point, Range, Settings};
 type Words = [i64; 19];
 
 /// The number of this layout.
-const ABI: i64 = 1;
+const ABI: i64 = 2;
 
 /// None where the words are no record at all: of another layout, a mark but 0 and 1, a kind above 3, not 0 in what is not used.
 fn decode(words: &Words) -> Option<Machine> {

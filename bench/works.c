@@ -53,7 +53,7 @@ struct plain_run plain_begun(const struct work *w)
     return (struct plain_run){ w->arc,
                                { q, a, b, q / 2, q / 2, 0, LINE_X < 0 ? 2 : 1, LINE_Y < 0 ? 8 : 4 },
                                { RADIUS, 0, 0, 4 * eighth, 0, 0 },
-                               { CAPACITY, CAPACITY / w->part, 0 } };
+                               { 1000 * CAPACITY, 1000 * (CAPACITY / w->part), 0 } };
 }
 
 uint64_t plain_run_on(struct plain_run *r, plain_run_line *line, plain_run_arc *arc, uint64_t most, uint8_t *to)
@@ -190,7 +190,7 @@ static const struct way run_ways[] = {
     { "Rust cycle to cycle", runs_rust_cycles },
     { "memset", runs_memset },
 };
-static const struct goal line_loop = { "run on a line at q0", LOOP, 1.5 }, arc_loop = { "run on an arc at q0", LOOP, 1.2 };
+static const struct goal line_loop = { "run on a line at q0", LOOP, 1.5 }, arc_loop = { "run on an arc at q0", LOOP, 1.1 };
 static const struct goal slow_loop = { "run at q0/10 and q0/1000", LOOP, 0.4 }, slow_cycles = { "run at q0/10 and q0/1000", CYCLES, 1.25 };
 static const struct goal long_memset = { "run of 64 KiB at q0/1000", MEMSET, 2 }, short_memset = { "run of 4 KiB at q0/1000", MEMSET, 2.5 };
 static const struct work run_works[] = {
