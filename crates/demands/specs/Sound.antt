@@ -2,7 +2,7 @@
 use mathlib.Core.Path.{_≡_}
 use mathlib.Core.Logic.{_≢_}
 use Prim.Native.Nat.{ℕ, _*_, _≤_, _<_}
-use lib.IntN.{ℤ, pos, negsuc}
+use lib.IntN.{pos, negsuc}
 use lib.Signed.{_≤ℤ_}
 use Rattle.plane.specs.declared.point.Point.{Point}
 use Rattle.plane.specs.declared.travel.Range.{Range}

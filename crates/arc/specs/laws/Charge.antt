@@ -18,7 +18,7 @@ use Rattle.circle.specs.Step.{stepOf, afterOf}
 use Rattle.circle.specs.Charge.{chargeBetween, stepCharge, chargesIn, chargesOf, moveCharge}
 use Rattle.circle.specs.laws.Circle.{on-circle-to}
 use Rattle.circle.specs.laws.Charge.{charge-range, charges-range, charges-closed, charges-front, charges-bound, move-charge}
-use Rattle.circle.specs.laws.Paid.{Grows, Most, most-paid, most-unique, charges-grow}
+use Rattle.circle.specs.laws.Paid.{Grows, Most, most-unique, charges-grow}
 use Rattle.arc.specs.declared.arc.Arc.{Arc}
 use Rattle.arc.specs.Centre.{seenFrom}
 use Rattle.arc.specs.Arc.{arcAfter, arcCycles}
@@ -86,11 +86,7 @@ module _ (a : Arc) (at : Point) where
   pub arc-charges-grow : Grows (arcChargesIn a at)
   arc-charges-grow = charges-grow (a .square) (a .turn) (seenFrom (a .centre) at)
 
-  -- the most cycles, at most so many, whose charges the sum holds, and no others are
-  pub arc-paid-most : (most sum : ℕ) → Most (arcChargesIn a at) sum most (arcPaidOf a at most sum .cycles)
-  unfolding arcPaidOf chargesIn
-  arc-paid-most most sum = most-paid (arcChargesIn a at) sum most (omega arith)
-
+  -- the cycles that a sum pays are the only ones that it pays where it does not pay one more
   pub arc-paid-unique : (most sum c : ℕ) → Most (arcChargesIn a at) sum most c → c ≡ arcPaidOf a at most sum .cycles
   unfolding arcPaidOf
   arc-paid-unique most sum c m = most-unique (arcChargesIn a at) arc-charges-grow sum most c m

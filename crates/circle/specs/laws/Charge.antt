@@ -1,6 +1,6 @@
 -- The charges of an arc: each step's from its pulses, and their sum on the way from p to e without a walk.
 use mathlib.Core.Path.{_≡_, refl, sym, ap, ap₂, _∙_}
-use mathlib.Core.Logic.{_⊎_, inl, inr, _≢_}
+use mathlib.Core.Logic.{_⊎_, inl, inr}
 use mathlib.Core.Bool.{Bool, true, false, cond}
 use Prim.Native.Nat.{ℕ, zero, suc, _+_, _-_, _*_, _≤_, _<_}
 use native.Mathlib.Nat.{mul-le-mul-right}
@@ -28,11 +28,11 @@ use Rattle.circle.specs.Asked.{Tolled}
 use Rattle.circle.specs.laws.Octant.{Axis, unique, under-axis, nearest-axis, some}
 use Rattle.circle.specs.laws.Step.{Step, rise, cut, cross, fall, climb, step-is, stays, ahead}
 use Rattle.circle.specs.laws.Circle.{circle-some, on-circle-to, radius-bound, seen-seen}
-use Rattle.circle.specs.laws.Next.{On, first, seen-form, point-placed, step-circle}
+use Rattle.circle.specs.laws.Next.{On, first, seen-form, point-placed}
 use Rattle.circle.specs.laws.Rank.{NextQuadrant, next, home, next-quadrant, axis-point, rank-low, rank-above, rank-step}
 use Rattle.circle.specs.laws.Rank.{place-lt, place-injective, onward-lt, onward-ge, onward-range}
 use Rattle.circle.specs.laws.Walk.{after-front, after-circle, quarter-axis, seen-step}
-use Rattle.circle.specs.laws.Walk.{cycles-range, cycles-one, cycles-step, after-cycles}
+use Rattle.circle.specs.laws.Walk.{cycles-range, after-cycles}
 use Rattle.circle.specs.laws.Count.{quarter-bound, ranked, rank-bound}
 use Rattle.circle.specs.laws.Stepper.{Moves, rises, slants, falls, moves-at}
 
@@ -316,25 +316,6 @@ module _ (n : ℕ) (t : Turn) where
   unfolding chargesIn afterOf
   charges-front p zero = omega arith
   charges-front p (suc c) = let f = after-front n t p c in omega (arith, charges-front p c, ap (stepCharge n t) f)
-
-  -- the last step's charge is all that is left ..
-  pub charges-one : (p e : Offset) → Circle n p → Circle n e → stepOf n t p ≡ e → chargesOf n t p e ≡ stepCharge n t p
-  unfolding chargesIn afterOf
-  charges-one p e o on h = let one = cycles-one t e on p o .1 h in sym (charges-closed p e o on) ∙ ap (chargesIn n t p) one ∙ omega arith
-
-  -- .. and any other leaves the charges from the next point on
-  pub charges-step : (p e : Offset) → Circle n p → Circle n e → stepOf n t p ≢ e
-      → chargesOf n t p e ≡ stepCharge n t p + chargesOf n t (stepOf n t p) e
-  charges-step p e o on h =
-      let q = stepOf n t p in
-      let more : cyclesOf n t p e ≡ suc (cyclesOf n t q e) = cycles-step t e on p o h ∙ omega arith in
-      sym (charges-closed p e o on) ∙ ap (chargesIn n t p) more ∙ charges-front p (cyclesOf n t q e)
-      ∙ ap (λ (c : ℕ). stepCharge n t p + c) (charges-closed q e (step-circle t p o) on)
-
-  -- between 1,000 and 1,414 for each cycle
-  pub charges-cycles : (p e : Offset) → Circle n p → Circle n e
-      → (1000 * cyclesOf n t p e ≤ chargesOf n t p e) × (chargesOf n t p e ≤ 1414 * cyclesOf n t p e)
-  charges-cycles p e o on = rw (← charges-closed p e o on) (charges-range n t p (cyclesOf n t p e))
 
 -- ---- what the code relies on
 

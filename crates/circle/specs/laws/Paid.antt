@@ -75,10 +75,6 @@ module _ (n : ℕ) (t : Turn) (p : Offset) where
   unfolding chargesIn
   charges-grow c = omega arith
 
-  pub paid-most : (most sum : ℕ) → Most (chargesIn n t p) sum most (paidOf n t p most sum .cycles)
-  unfolding paidOf chargesIn
-  paid-most most sum = most-paid (chargesIn n t p) sum most (omega arith)
-
 -- ---- the search
 
 -- some cycles are paid, `high` are not or are more than are asked, and the next to try lie between

@@ -6,7 +6,7 @@ use native.Mathlib.Nat.{le-antisymm, le-of-suc-le-suc, mul-le-mul-right, lt-div-
 use native.Mathlib.Decide.{decLe}
 use native.Mathlib.Omega.{arith}
 use Rattle.divider.specs.Divider.{goneOf, endTick, lastTick}
-use Rattle.divider.specs.laws.Ticks.{total, counts, counts-by, ticked, total-le, total-first, one-more}
+use Rattle.divider.specs.laws.Ticks.{total, counts, counts-by, total-le, total-first, one-more}
 
 -- ---- without division
 
@@ -100,17 +100,6 @@ module _ (d : ℕ → ℕ) (a : ℕ) (some : 1 ≤ a) (each : (c : ℕ) → a �
     pub last-is-end : lastTick (total d k) a r k ≡ endTick (total d k) a r
     unfolding lastTick
     last-is-end = omega (arith, end-enough)
-
-    -- and leaves less than a tick adds: less than the due of any cycle, so the next block begins below its first due
-    pub left-at-end : goneOf d a r (endTick (total d k) a r) .remainder < a
-    left-at-end = by (endTick (total d k) a r) (end-tick (total d k) a r some) (rw last-is-end at at-end) end-enough
-      where
-        by : (t : ℕ) → Reaches (total d k) a r t → goneOf d a r t .cycles ≡ k → k ≤ t → goneOf d a r t .remainder < a
-        by zero e c l = absurd (omega arith)
-        by (suc t) e c l =
-            let before : r + t * a < total d k = lt-of-not-le (λ g. not-le-of-lt (lt-suc-self t) (e .first t g)) in
-            let i = ticked d a some each r (suc t) .adds-up in
-            omega (arith, rw c at i)
 
 -- ---- from cycle to cycle: g ticks without one, and then the cycle of this due, which leaves the remainder `rest`
 

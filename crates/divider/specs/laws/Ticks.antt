@@ -1,8 +1,8 @@
 -- Cycles of different dues: what was done adds up, and the cycles done are the most that the sum pays for, at most one a tick.
-use mathlib.Core.Path.{_≡_, refl, ap, ap₂}
+use mathlib.Core.Path.{_≡_, refl, ap₂}
 use mathlib.Core.Bool.{Bool, true, false, cond}
 use Prim.Native.Nat.{ℕ, zero, suc, _+_, _-_, _*_, _≤_, _<_}
-use native.Mathlib.Nat.{le-antisymm, lt-of-not-le}
+use native.Mathlib.Nat.{le-antisymm}
 use native.Mathlib.Decide.{decLe}
 use native.Mathlib.Omega.{arith}
 use lib.Dec.{leb}
@@ -29,11 +29,6 @@ tick due a r = by (leb due (r + a)) refl
 pub stays-below : {due a r : ℕ} {f : Fed} (M : ℕ) → a ≤ due → due ≤ M → r < M → Tick due a r f → f .remainder < M
 stays-below M l m h (does-one e) = omega arith
 stays-below M l m h (does-none s e) = omega arith
-
--- after a cycle from below its due less is left than a tick adds
-pub after-cycle : {due a r : ℕ} {f : Fed} → r < due → Tick due a r f → f .cycle ≡ true → f .remainder < a
-after-cycle h (does-one e) t = omega arith
-after-cycle h (does-none s e) t = omega (arith, ap {B = ℕ} (λ (b : Bool). cond b 1 0) t)
 
 -- ---- the dues of the first cycles
 

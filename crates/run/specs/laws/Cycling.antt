@@ -11,7 +11,6 @@ use Rattle.plane.specs.declared.point.Point.{Point}
 use Rattle.divider.specs.Divider.{lastTick}
 use Rattle.work.specs.declared.Work.{Work}
 use Rattle.work.specs.declared.Cycle.{Cycle}
-use Rattle.work.specs.laws.Sound.{Feed}
 use Rattle.work.specs.laws.Charge.{due-range}
 use Rattle.work.specs.Work.{isNothing, cycleOf, feedOf, cyclesLeft, chargesLeft, dueOf, addedOf, endOf, advanceOf}
 use Rattle.run.specs.declared.gap.Gap.{Gap}
@@ -22,7 +21,7 @@ use Rattle.run.specs.laws.Sound.{waiting, still-sound}
 use Rattle.run.specs.laws.Gap.{DueGap, gap-due, gap-sound}
 use Rattle.run.specs.laws.Left.{Left, left-start, left-some, left-turn, left-out, left-end}
 use Rattle.run.specs.laws.Cycles.{in-work, cycle-counts, cycle-pays, each-pays, none-pays, added-some}
-use Rattle.run.specs.laws.Cycles.{feed-due, due-most, rest-most, end-range, same-feed, same-end}
+use Rattle.run.specs.laws.Cycles.{feed-due, due-most, end-range, same-feed, same-end}
 use Rattle.run.specs.laws.Idle.{cycle-tick, cleared-length, cleared-twice, going-idle, answer-old}
 
 -- `done` ticks are done, up to a cycle, which left the remainder `rest`; g is the gap to the next; in out₀ the n bytes are cleared

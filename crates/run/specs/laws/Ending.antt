@@ -1,9 +1,9 @@
 -- A run that falls short of the dues left ends before the block does.
-use mathlib.Core.Path.{_≡_, ap, _∙_}
+use mathlib.Core.Path.{_≡_}
 use mathlib.Core.Bool.{true}
-use Prim.Native.Nat.{ℕ, suc, _+_, _-_, _*_, _^_, _≤_, _<_, min}
+use Prim.Native.Nat.{ℕ, _+_, _-_, _*_, _≤_, _<_, min}
 use native.Mathlib.Omega.{arith}
-use native.Mathlib.Nat.{mul-le-mul-left, mul-le-mul-right, lt-of-mul-lt-mul-right}
+use native.Mathlib.Nat.{lt-of-mul-lt-mul-right}
 use lib.Dec.{ltb}
 use borrow.Author.Tests.{ltb-true}
 use Rattle.whole.specs.laws.Test.{both}
@@ -19,7 +19,7 @@ use Rattle.work.specs.declared.Work.{Work}
 use Rattle.work.specs.Work.{addedOf, cyclesLeft, chargesLeft}
 use Rattle.run.specs.Run.{SoundIn}
 use Rattle.run.specs.Ending.{Same, shortOf, longerOf}
-use Rattle.run.specs.laws.Cycles.{in-work, added-some, rest-most, end-asks}
+use Rattle.run.specs.laws.Cycles.{in-work, added-some, rest-most}
 use Rattle.run.specs.laws.Sound.{run-ready}
 
 -- `due` is no more than what is left

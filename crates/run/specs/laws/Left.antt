@@ -1,10 +1,10 @@
 -- The cycles that are left to the block's end, and the ticks that they take: the bytes to write are known before the first.
-use mathlib.Core.Path.{_≡_, ap}
+use mathlib.Core.Path.{_≡_}
 use Prim.Native.Nat.{ℕ, zero, suc, _+_, _-_, _*_, _≤_, _<_, min}
 use native.Mathlib.Nat.{mul-le-mul-right}
 use native.Mathlib.Omega.{arith}
 use Rattle.divider.specs.Divider.{lastTick}
-use Rattle.divider.specs.laws.Last.{Due, Ends, unique, last-tick, end-one, end-more}
+use Rattle.divider.specs.laws.Last.{Ends, unique, last-tick, end-one, end-more}
 use Rattle.run.specs.declared.gap.Gap.{Gap}
 use Rattle.run.specs.laws.Gap.{DueGap}
 

@@ -1,7 +1,7 @@
 -- How many cycles a run of any sound record has done: the most, at most one a tick, whose charges the remainder and what its ticks add pay.
-use mathlib.Core.Path.{_≡_, refl, sym, ap, _∙_}
-use mathlib.Core.Bool.{Bool, true, false}
-use Prim.Native.Nat.{ℕ, zero, suc, _+_, _*_, _≤_, _<_, min}
+use mathlib.Core.Path.{_≡_, sym, ap, _∙_}
+use mathlib.Core.Bool.{false}
+use Prim.Native.Nat.{ℕ, zero, suc, _+_, _*_, _<_, min}
 use native.Mathlib.Decide.{decLt}
 use native.Mathlib.Omega.{arith}
 use lib.ListN.{length}
@@ -11,13 +11,12 @@ use Rattle.circle.specs.Charge.{mostPaid}
 use Rattle.circle.specs.laws.Paid.{Most, Grows, most-unique}
 use Rattle.divider.specs.Divider.{goneOf}
 use Rattle.divider.specs.laws.Ticks.{counts, total-le}
-use Rattle.divider.specs.laws.Last.{Ends}
 use Rattle.work.specs.declared.Work.{Work}
-use Rattle.work.specs.Work.{isNothing, cycleOf, addedOf, cyclesLeft, chargesFor, chargesLeft, lastTickFor}
+use Rattle.work.specs.Work.{isNothing, cycleOf, addedOf, cyclesLeft, chargesFor, lastTickFor}
 use Rattle.work.specs.laws.Keep.{cycle-keeps}
 use Rattle.work.specs.laws.Rest.{Reached, reachedOf, duesOf, reached-none, reached-next, dues-for}
 use Rattle.run.specs.Run.{stripOf, SoundIn}
-use Rattle.run.specs.laws.Cycles.{in-work, cycle-counts, added-some}
+use Rattle.run.specs.laws.Cycles.{cycle-counts, added-some}
 use Rattle.run.specs.laws.Cycling.{some-left}
 use Rattle.run.specs.laws.Strip.{strip-ends, end-tick, each-due, cycles-fewer, strip-early}
 

@@ -2,8 +2,8 @@
 use mathlib.Core.Path.{_≡_, refl, sym, ap, _∙_}
 use mathlib.Core.Bool.{true, false}
 use Prim.Native.Nat.{ℕ, suc, _+_, _-_, _*_, _/_, _^_, _≤_, _<_, min}
-use native.Mathlib.Nat.{mul-le-mul, mul-le-mul-left, mul-le-mul-right, lt-of-mul-lt-mul-right}
-use native.Mathlib.Nat.{lt-div-mul-add, div-mul-le-self, div-lt-iff-lt-mul}
+use native.Mathlib.Nat.{mul-le-mul-right, lt-of-mul-lt-mul-right}
+use native.Mathlib.Nat.{lt-div-mul-add, div-lt-iff-lt-mul}
 use native.Mathlib.Omega.{arith}
 use Rattle.plane.specs.declared.point.Point.{Point}
 use Rattle.plane.specs.laws.Travel.{inside}
@@ -15,23 +15,21 @@ use Rattle.divider.specs.laws.Last.{last-most}
 use Rattle.line.specs.declared.line.Line.{Line}
 use Rattle.line.specs.Line.{pointOf, drawnOf}
 use Rattle.line.specs.laws.Work.{drawn-test}
-use Rattle.circle.specs.Charge.{mostPaid}
-use Rattle.circle.specs.laws.Paid.{Most, most-unique, charges-grow}
+use Rattle.circle.specs.laws.Paid.{Most}
 use Rattle.arc.specs.declared.arc.Arc.{Arc}
 use Rattle.arc.specs.declared.arc.ArcPaid.{ArcPaid}
 use Rattle.arc.specs.Arc.{arcAfter, arcCycles}
-use Rattle.arc.specs.Centre.{seenFrom}
 use Rattle.arc.specs.Charge.{arcChargesIn, arcPaidOf}
+use Rattle.arc.specs.laws.Charge.{arc-paid-unique}
 use Rattle.work.specs.declared.Work.{Work}
 use Rattle.work.specs.declared.rest.Left.{Left}
 use Rattle.work.specs.Work.{workSound, addedOf, cyclesLeft, chargesLeft, lastTickFor}
 use Rattle.work.specs.Rest.{leftOf, Countable}
 use Rattle.work.specs.laws.Sound.{line-work}
 use Rattle.work.specs.laws.Rest.{lineOn, Reached, reachedOf, duesOf, countable, dues-for}
-use Rattle.run.specs.declared.Ran.{Ran}
-use Rattle.run.specs.Run.{Strip, stripOf, ranOf, SoundIn}
+use Rattle.run.specs.Run.{stripOf, ranOf, SoundIn}
 use Rattle.run.specs.laws.Cycles.{in-work, added-some, all-pays, end-fits}
-use Rattle.run.specs.laws.Strip.{Short, strip-ends, end-tick, each-due, cycles-fewer, strip-early}
+use Rattle.run.specs.laws.Strip.{strip-ends, end-tick, each-due, cycles-fewer, strip-early}
 
 module _ {q0 : ℕ} {at : Point} {r : ℕ} {w : Work} (i : SoundIn q0 at r w) where
   pub skip-counts : Countable at w
@@ -141,7 +139,7 @@ module _ {q0 : ℕ} {at : Point} {r : ℕ} (a : Arc) (i : SoundIn q0 at r (Work.
     paid-is : p ≡ record { cycles = done; charges = arcChargesIn a at done; at = arcAfter a at done }
     unfolding arcPaidOf
     paid-is =
-        let c = most-unique (arcChargesIn a at) (charges-grow (a .square) (a .turn) (seenFrom (a .centre) at)) _ _ _ pays in
+        let c = arc-paid-unique a at _ _ done pays in
         paid ∙ ap (λ (n : ℕ). record { cycles = n; charges = arcChargesIn a at n; at = arcAfter a at n }) (sym c)
 
     adds-up : p .charges * q0 + goneOf (duesOf q0 at (Work.Arc a)) (1000 * a .feed) r t .remainder ≡ sum

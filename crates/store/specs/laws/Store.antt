@@ -1,11 +1,8 @@
 -- What a call stores are the words of the record after it.
 use mathlib.Core.Path.{_≡_, refl, sym, ap, _∙_}
 use mathlib.Core.Bool.{Bool, true, false, cond, _||_}
-use mathlib.Core.List.{List}
 use Prim.Native.Nat.{ℕ, zero, suc, _+_, min}
 use lib.Dec.{eqb}
-use lib.IntN.{ℤ, pos}
-use lib.ListN.{set}
 use Rattle.plane.specs.declared.point.Point.{Point}
 use Rattle.plane.specs.Point.{equalPoint}
 use Rattle.line.specs.declared.line.Line.{Line}
@@ -27,7 +24,7 @@ use Rattle.machine.specs.Machine.{soundOf, movedOf}
 use Rattle.machine.specs.Calls.{loadWith, loadOf, ticks, working, tickOf, markedOf}
 use Rattle.machine.specs.Run.{ranOver, noTick, runOf}
 use Rattle.layout.specs.Words.{wordOf, workWordsOf, encodeOf}
-use Rattle.store.specs.Store.{setMark, setPlace, setWork, storedOf, stoppedOf}
+use Rattle.store.specs.Store.{setMark, setWork, storedOf, stoppedOf}
 
 -- what is in work after ticks: nothing any more, or the same but for the cycles done of a line
 abbrev pub Follows : (before after : Work) → Type 0

@@ -8,7 +8,6 @@ use borrow.Author.Tests.{lt-leb}
 use Rattle.plane.specs.declared.point.Point.{Point}
 use Rattle.circle.specs.Charge.{straight, diagonal}
 use Rattle.arc.specs.laws.Charge.{arc-charge-range}
-use Rattle.divider.specs.declared.Fed.{Fed}
 use Rattle.divider.specs.Divider.{fedOf}
 use Rattle.work.specs.declared.Work.{Work}
 use Rattle.work.specs.Work.{chargeOf, dueOf, addedOf, advanceOf}

@@ -1,7 +1,7 @@
 -- So many cycles at once are so many cycles one by one.
 use mathlib.Core.Path.{_≡_, refl, ap, subst}
 use mathlib.Core.Bool.{Bool, true, false}
-use Prim.Native.Nat.{ℕ, zero, suc, _+_, _-_, _*_, _≤_}
+use Prim.Native.Nat.{ℕ, zero, suc, _+_, _-_, _*_}
 use native.Mathlib.Omega.{arith}
 use lib.Dec.{T, eqb}
 use Rattle.plane.specs.declared.point.Point.{Point}
@@ -22,7 +22,7 @@ use Rattle.arc.specs.laws.Work.{on-arc}
 use Rattle.divider.specs.laws.Ticks.{total}
 use Rattle.divider.specs.laws.Closed.{total-same}
 use Rattle.work.specs.declared.Work.{Work}
-use Rattle.work.specs.Work.{isNothing, workSound, following, lineCycle, arcCycle, cycleOf, cyclesLeft, chargesFor, dueOf}
+use Rattle.work.specs.Work.{isNothing, workSound, following, lineCycle, arcCycle, cycleOf, chargesFor, dueOf}
 use Rattle.work.specs.Rest.{Countable}
 use Rattle.work.specs.laws.Sound.{line-work, arc-work}
 

@@ -1,5 +1,4 @@
 -- `trace` is right because a fall goes as a rise in the next quadrant.
-use borrow.Author.Needs.{needs}
 use Rattle.arc.proofs.stepper.trace.Statement.{statement}
 use Rattle.arc.proofs.stepper.trace.Tie as tie
 use mathlib.Core.Path.{ap, _∙_}

@@ -1,5 +1,4 @@
 -- `line_end` is right because a run that falls short of the dues left does not reach it.
-use borrow.Author.Needs.{needs}
 use mathlib.Core.Path.{sym, ap, _∙_}
 use Prim.Native.Nat.{suc, min}
 use native.Mathlib.Omega.{arith}

@@ -1,9 +1,7 @@
 -- `arc_gap` is right because each move has its own due.
 use borrow.Author.Needs.{needs}
-use mathlib.Core.Path.{_≡_, ap, _∙_}
-use Prim.Native.Nat.{ℕ, _*_, _/_}
+use mathlib.Core.Path.{_∙_}
 use native.Mathlib.Omega.{arith}
-use Rattle.run.specs.Gap.{nextGap}
 use Rattle.run.specs.laws.Gap.{by-move-is, move-due}
 use Rattle.run.proofs.gap.arc_gap.Statement.{statement}
 use Rattle.run.proofs.gap.arc_gap.Tie as tie

@@ -1,6 +1,6 @@
 -- `next_gap` is right because each gap is due where it is answered, and only one gap is.
 use borrow.Author.Needs.{needs}
-use Prim.Native.Nat.{_+_, _-_, _*_, _≤_}
+use Prim.Native.Nat.{_-_, _*_}
 use Rattle.run.proofs.gap.next_gap.Statement.{statement}
 use Rattle.run.proofs.gap.next_gap.Tie as tie
 use native.Mathlib.Omega.{arith}
