@@ -3,12 +3,12 @@
 ghost use mathlib.Core.Path.{_≡_};
 ghost use mathlib.Core.Bool.{true};
 ghost use Rattle.arc.specs.Centre.{Near};
-ghost use Rattle.machine.specs.Machine.{soundOf};
+ghost use Rattle.bench.specs.Bench.{soundOf};
 ghost use Rattle.ahead.specs.Ahead.{refusing, wayOf, tickingOf, aheadOf};
+use bench::Answer;
+use bench::Bench;
+use bench::sound;
 use finish::works;
-use machine::Answer;
-use machine::Machine;
-use machine::sound;
 use plane::point::Point;
 use run::skip::skip_work;
 use settings::capacity;
@@ -26,20 +26,20 @@ pub struct Sums {
 pub struct Ahead {
     pub answer: Answer,
     // The record that the ticks would give, and their pulses; of a refusal the machine's own record, and 0.
-    pub then: Machine,
+    pub then: Bench,
     pub sums: Sums,
     // The machine, as it was.
-    pub machine: Machine,
+    pub bench: Bench,
 }
 
-fn refused(own: Machine, number: u64) -> Ahead
+fn refused(own: Bench, number: u64) -> Ahead
     ensures { λ r. ⌜ r ≡ refusing own number ⌝ }
 {
     Ahead {
         answer: Answer::Refused(number),
         then: own,
         sums: Sums { x: 0, y: 0 },
-        machine: own,
+        bench: own,
     }
 }
 
@@ -54,9 +54,9 @@ fn way(from: Point, to: Point) -> Sums
 }
 
 // The record after so many ticks, of a record that has been tested; ticks that are no working ones leave it as it was.
-pub fn after_ticks(m: Machine, ticks: u64) -> Machine
+pub fn after_ticks(m: Bench, ticks: u64) -> Bench
     requires { ⌜ soundOf m ≡ true ⌝ }
-    ensures { λ r. ⌜ r ≡ tickingOf ticks m .machine ⌝ }
+    ensures { λ r. ⌜ r ≡ tickingOf ticks m .bench ⌝ }
 {
     if !works(m) {
         return m;
@@ -72,7 +72,7 @@ pub fn after_ticks(m: Machine, ticks: u64) -> Machine
 }
 
 // What so many ticks would give on a copy, of a record that has been tested.
-pub fn look_sound(m: Machine, ticks: u64) -> Ahead
+pub fn look_sound(m: Bench, ticks: u64) -> Ahead
     requires { ⌜ soundOf m ≡ true ⌝ }
     ensures { λ r. ⌜ r ≡ aheadOf m ticks ⌝ }
 {
@@ -86,12 +86,12 @@ pub fn look_sound(m: Machine, ticks: u64) -> Ahead
         answer: Answer::Done,
         then: then,
         sums: way(at, there),
-        machine: m,
+        bench: m,
     }
 }
 
 // What so many ticks would give on a copy.
-pub fn look_ahead(m: Machine, ticks: u64) -> Ahead
+pub fn look_ahead(m: Bench, ticks: u64) -> Ahead
     ensures { λ r. ⌜ r ≡ aheadOf m ticks ⌝ }
 {
     let settings = m.settings;

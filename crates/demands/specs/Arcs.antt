@@ -25,12 +25,12 @@ use Rattle.block.specs.Charge.{arcStepCharge}
 use Rattle.work.specs.declared.Work.{Work}
 use Rattle.work.specs.Work.{cyclesLeft, chargesFor}
 use Rattle.settings.specs.Settings.{capacityOf}
-use Rattle.machine.specs.declared.Machine.{Machine}
-use Rattle.machine.specs.declared.Answer.{Answer}
-use Rattle.machine.specs.declared.Answered.{Answered}
-use Rattle.machine.specs.declared.Tick.{Tick}
-use Rattle.machine.specs.declared.Ticked.{Ticked}
-use Rattle.machine.specs.Machine.{movedOf}
+use Rattle.bench.specs.declared.Bench.{Bench}
+use Rattle.bench.specs.declared.Answer.{Answer}
+use Rattle.bench.specs.declared.Answered.{Answered}
+use Rattle.bench.specs.declared.Tick.{Tick}
+use Rattle.bench.specs.declared.Ticked.{Ticked}
+use Rattle.bench.specs.Bench.{movedOf}
 use Rattle.book.specs.Sums.{cyclesMarked}
 use Rattle.history.specs.Contracts.{Loads, Ticks}
 use Rattle.demands.specs.Asked.{AllYes}
@@ -58,9 +58,9 @@ pub record LeastError (N : ℕ) (p : Offset) : Type 0 where
 
 -- ---- an accepted arc
 
-pub record ArcLoaded (m : Machine) (b : Block) (turn : Turn) (centre : Offset) (r : Answered) : Type 0 where
+pub record ArcLoaded (m : Bench) (b : Block) (turn : Turn) (centre : Offset) (r : Answered) : Type 0 where
   -- "(I, J) is the centre seen from the start; N = I² + J²." The start is the machine's point.
-  pub machine : r .machine ≡ movedOf m (m .at) (m .remainder) (Work.Arc (arcOf (m .at) b turn centre))
+  pub bench : r .bench ≡ movedOf m (m .at) (m .remainder) (Work.Arc (arcOf (m .at) b turn centre))
   -- "the fewest bits that hold .. for an arc its m on an axis": such a circle point there is, and only one
   pub axis : ℕ
   pub on-axis : (n : ℕ) → Circle (squareOf centre) (offset (pos n) (pos 0)) ↔ (n ≡ axis)
@@ -69,7 +69,7 @@ pub record ArcLoaded (m : Machine) (b : Block) (turn : Turn) (centre : Offset) (
 -- ---- a tick
 
 -- the step about to be made leads to the paper's next point, and its pulses tell the way
-pub record ArcStep (m : Machine) (a : Arc) : Type 0 where
+pub record ArcStep (m : Bench) (a : Arc) : Type 0 where
   pub at : Point
   pub next : Next (a .square) (a .turn) (seenFrom (a .centre) (m .at)) (seenFrom (a .centre) at)
   pub pulses : Pulses
@@ -77,28 +77,28 @@ pub record ArcStep (m : Machine) (a : Arc) : Type 0 where
   pub moved : at ≡ shiftedOf (m .at) pulses
 
 -- 02 §2: "A tick adds 1,000 × f."
-abbrev pub arcSum : Machine → Arc → ℕ
+abbrev pub arcSum : Bench → Arc → ℕ
 arcSum m a = m .remainder + 1000 * a .feed
 
 -- 02 §2: "a straight arc step is charged 1,000 and a diagonal one 1,414. .. A cycle is due when the remainder reaches its charge times q0"
-abbrev pub arcDue : {m : Machine} {a : Arc} → ArcStep m a → ℕ
+abbrev pub arcDue : {m : Bench} {a : Arc} → ArcStep m a → ℕ
 arcDue {m} s = arcStepCharge (s .pulses) * capacityOf (m .settings)
 
 -- answer and record of its cycle
-abbrev pub arcCycled : {m : Machine} {a : Arc} → ArcStep m a → (ended : Bool) → Work → Ticked
+abbrev pub arcCycled : {m : Bench} {a : Arc} → ArcStep m a → (ended : Bool) → Work → Ticked
 arcCycled {m} {a} s ended work =
-    record { tick = Tick.Byte (cycleByte (s .pulses) ended); machine = movedOf m (s .at) (arcSum m a - arcDue s) work }
+    record { tick = Tick.Byte (cycleByte (s .pulses) ended); bench = movedOf m (s .at) (arcSum m a - arcDue s) work }
 
 -- a working tick of a record with an arc in work
-pub record ArcTick (m : Machine) (a : Arc) (r : Ticked) : Type 0 where
+pub record ArcTick (m : Bench) (a : Arc) (r : Ticked) : Type 0 where
   pub step : ArcStep m a
-  pub waits : arcSum m a < arcDue step → r ≡ record { tick = Tick.Byte 0; machine = movedOf m (m .at) (arcSum m a) (Work.Arc a) }
+  pub waits : arcSum m a < arcDue step → r ≡ record { tick = Tick.Byte 0; bench = movedOf m (m .at) (arcSum m a) (Work.Arc a) }
   -- ".. one a cycle, to the end."
   pub going : arcDue step ≤ arcSum m a → step .at ≢ a .end → r ≡ arcCycled step false (Work.Arc a)
   pub last : arcDue step ≤ arcSum m a → step .at ≡ a .end → r ≡ arcCycled step true Work.Nothing
 
 -- what the next c cycles of an arc are charged adds up along the paper's walk, each step by its pulses
-pub record ArcCharges (m : Machine) (a : Arc) : Type 0 where
+pub record ArcCharges (m : Bench) (a : Arc) : Type 0 where
   pub none : chargesFor (m .at) (Work.Arc a) 0 ≡ 0
   pub more : (c : ℕ) (u v : Point) → Walk (a .square) (a .turn) (seenFrom (a .centre) (m .at)) c (seenFrom (a .centre) u)
       → Next (a .square) (a .turn) (seenFrom (a .centre) u) (seenFrom (a .centre) v)
@@ -107,15 +107,15 @@ pub record ArcCharges (m : Machine) (a : Arc) : Type 0 where
 pub record EveryArc : Type 0 where
   -- "a circle point .. is the nearest point along the longer coordinate", and every such point but the centre is one
   pub least-error : (N : ℕ) (p : Offset) → Circle N p ↔ ((1 ≤ natAbs (p .x) + natAbs (p .y)) × LeastError N p)
-  pub load : (m : Machine) (b : Block) (r : Answered) → Loads m b r → AllYes (loadQuestions m b)
+  pub load : (m : Bench) (b : Block) (r : Answered) → Loads m b r → AllYes (loadQuestions m b)
       → (turn : Turn) (centre : Offset) → b .path ≡ Path.Arc turn centre → ArcLoaded m b turn centre r
-  pub tick : (m : Machine) (a : Arc) (r : Ticked) → Ticks m r → Sound m → m .work ≡ Work.Arc a → m .held ≡ false → ArcTick m a r
+  pub tick : (m : Bench) (a : Arc) (r : Ticked) → Ticks m r → Sound m → m .work ≡ Work.Arc a → m .held ≡ false → ArcTick m a r
   -- the cycles left, which the feed divider counts, are those of the paper's walk to the end
-  pub cycles-left : (m : Machine) (a : Arc) → Sound m → m .work ≡ Work.Arc a
+  pub cycles-left : (m : Bench) (a : Arc) → Sound m → m .work ≡ Work.Arc a
       → Ends (a .square) (a .turn) (seenFrom (a .centre) (m .at)) (seenFrom (a .centre) (a .end)) (cyclesLeft (m .at) (m .work))
   -- and so are their charges, by which a run and a block's end tick go
-  pub charges : (m : Machine) (a : Arc) → Sound m → m .work ≡ Work.Arc a → ArcCharges m a
+  pub charges : (m : Bench) (a : Arc) → Sound m → m .work ≡ Work.Arc a → ArcCharges m a
   -- "The arc visits the circle points after the start in order of angle, one a cycle": after ticks whose bytes mark c cycles the walk has
   -- come c points on
-  pub walk : (m m′ : Machine) (a : Arc) (bytes : List ℕ) → Sound m → m .work ≡ Work.Arc a → TicksTo m bytes m′
+  pub walk : (m m′ : Bench) (a : Arc) (bytes : List ℕ) → Sound m → m .work ≡ Work.Arc a → TicksTo m bytes m′
       → Walk (a .square) (a .turn) (seenFrom (a .centre) (m .at)) (cyclesMarked bytes) (seenFrom (a .centre) (m′ .at))

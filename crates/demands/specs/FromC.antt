@@ -12,10 +12,10 @@ use Rattle.circle.specs.declared.plane.Turn.{Turn}
 use Rattle.block.specs.declared.Path.{Path}
 use Rattle.settings.specs.declared.Settings.{Settings}
 use Rattle.settings.specs.Settings.{capacityOf}
-use Rattle.machine.specs.declared.Machine.{Machine}
-use Rattle.machine.specs.declared.Answered.{Answered}
-use Rattle.machine.specs.declared.Ticked.{Ticked}
-use Rattle.machine.specs.declared.Ran.{Ran}
+use Rattle.bench.specs.declared.Bench.{Bench}
+use Rattle.bench.specs.declared.Answered.{Answered}
+use Rattle.bench.specs.declared.Ticked.{Ticked}
+use Rattle.bench.specs.declared.Ran.{Ran}
 use Rattle.ahead.specs.declared.Ahead.{Ahead}
 use Rattle.history.specs.Contracts.{Makes, Loads, Ticks, Runs, Holds, Releases, Stops, Looks}
 use Rattle.reader.specs.declared.Feed.{Feed}
@@ -52,12 +52,12 @@ use Rattle.demands.specs.Texts.{FrontOf, Starts, FillsCheck}
 
 -- ---- the machine's own call on the record m: it may give the answer n, as C has it, and the record m′
 
-abbrev pub OwnAnswer : (Answered → Type 0) → (n : ℤ) → Machine → Type 0
-OwnAnswer May n m′ = (r : Answered) × May r × (n ≡ answerNumber (r .answer)) × (m′ ≡ r .machine)
+abbrev pub OwnAnswer : (Answered → Type 0) → (n : ℤ) → Bench → Type 0
+OwnAnswer May n m′ = (r : Answered) × May r × (n ≡ answerNumber (r .answer)) × (m′ ≡ r .bench)
 
-abbrev pub Own : Call → (m : Machine) (n : ℤ) (m′ : Machine) → Type 0
+abbrev pub Own : Call → (m : Bench) (n : ℤ) (m′ : Bench) → Type 0
 Own (Call.load b) m n m′ = OwnAnswer (Loads m b) n m′
-Own Call.tick m n m′ = (r : Ticked) × Ticks m r × (n ≡ tickNumber (r .tick)) × (m′ ≡ r .machine)
+Own Call.tick m n m′ = (r : Ticked) × Ticks m r × (n ≡ tickNumber (r .tick)) × (m′ ≡ r .bench)
 Own Call.hold m n m′ = OwnAnswer (Holds m) n m′
 Own Call.release m n m′ = OwnAnswer (Releases m) n m′
 Own Call.stop m n m′ = OwnAnswer (Stops m) n m′
@@ -66,31 +66,31 @@ Own Call.stop m n m′ = OwnAnswer (Stops m) n m′
 
 -- words that no sound record has
 abbrev pub NoRecord : List ℤ → Type 0
-NoRecord ws = (m : Machine) → Sound m → ¬ (ws ≡ encodeOf m)
+NoRecord ws = (m : Bench) → Sound m → ¬ (ws ≡ encodeOf m)
 
 pub record OnWords (call : Call) (before : List ℤ) (n : ℤ) (after : List ℤ) : Type 0 where
   -- the words after it are again those of a sound record
-  pub own : (m : Machine) → Sound m → before ≡ encodeOf m
-      → (m′ : Machine) × Own call m n m′ × Sound m′ × (after ≡ encodeOf m′)
+  pub own : (m : Bench) → Sound m → before ≡ encodeOf m
+      → (m′ : Bench) × Own call m n m′ × Sound m′ × (after ≡ encodeOf m′)
   -- "Any call on a record: is it sound? 9."; "returns record and buffers unchanged"
   pub others : NoRecord before → (n ≡ negsuc 8) × (after ≡ before)
   -- a refusal of whatever number leaves every word
   pub refused : (k : ℕ) → n ≡ negsuc k → after ≡ before
 
 -- of a run, the ticks and the buffer too
-abbrev pub OwnRun : Machine → (budget : ℕ) (out out′ : RefT (List ℕ)) (n : ℤ) (ticks : ℕ) → Machine → Type 0
+abbrev pub OwnRun : Bench → (budget : ℕ) (out out′ : RefT (List ℕ)) (n : ℤ) (ticks : ℕ) → Bench → Type 0
 OwnRun m budget out out′ n ticks m′ =
-    (r : Ran) × ((κs : Lfts 1) → Runs κs m budget out out′ r) × (n ≡ reportNumber (r .report)) × (ticks ≡ r .ticks) × (m′ ≡ r .machine)
+    (r : Ran) × ((κs : Lfts 1) → Runs κs m budget out out′ r) × (n ≡ reportNumber (r .report)) × (ticks ≡ r .ticks) × (m′ ≡ r .bench)
 
 pub record RunOnWords (before : List ℤ) (budget : ℕ) (out out′ : RefT (List ℕ)) (n : ℤ) (ticks : ℕ) (after : List ℤ) : Type 0 where
-  pub own : (m : Machine) → Sound m → before ≡ encodeOf m
-      → (m′ : Machine) × OwnRun m budget out out′ n ticks m′ × Sound m′ × (after ≡ encodeOf m′)
+  pub own : (m : Bench) → Sound m → before ≡ encodeOf m
+      → (m′ : Bench) × OwnRun m budget out out′ n ticks m′ × Sound m′ × (after ≡ encodeOf m′)
   pub others : NoRecord before → (n ≡ negsuc 8) × (ticks ≡ 0) × (after ≡ before) × (now out′ ≡ now out)
   pub refused : (k : ℕ) → n ≡ negsuc k → (ticks ≡ 0) × (after ≡ before) × (now out′ ≡ now out)
 
 -- of a look-ahead, the words of the record that it gives, and the sums; those of the machine itself are lent for reading
 pub record LookOnWords (before : List ℤ) (ticks : ℕ) (n : ℤ) (then sums : List ℤ) : Type 0 where
-  pub own : (m : Machine) → Sound m → before ≡ encodeOf m
+  pub own : (m : Bench) → Sound m → before ≡ encodeOf m
       → (r : Ahead) × Looks m ticks r × (n ≡ answerNumber (r .answer)) × Sound (r .then) × (then ≡ encodeOf (r .then))
       × (sums ≡ sumWords (r .sums))
   pub others : NoRecord before → (n ≡ negsuc 8) × (then ≡ before) × (sums ≡ noSums)
@@ -100,7 +100,7 @@ pub record LookOnWords (before : List ℤ) (ticks : ℕ) (n : ℤ) (then sums : 
 -- a make asks nothing of the words
 abbrev pub MadeWords : Settings → (n : ℤ) (after : List ℤ) → Type 0
 MadeWords s n after =
-    (r : Answered) × Makes s r × (n ≡ answerNumber (r .answer)) × Sound (r .machine) × (after ≡ encodeOf (r .machine))
+    (r : Answered) × Makes s r × (n ≡ answerNumber (r .answer)) × Sound (r .bench) × (after ≡ encodeOf (r .bench))
 
 -- ---- a line of a job text, with the G and F known in 2 words
 
@@ -115,9 +115,9 @@ NotKnown ks = (k : Reader) → FeedOf32 (k .feed) → ¬ (ks ≡ encodeKnown k)
 
 pub record LineOnWords (before known : List ℤ) (line : RefT (List ℕ)) (n : ℤ) (after known′ : List ℤ) : Type 0 where
   -- read_line's own, and the words after it are again those of a sound record
-  pub own : (m : Machine) → Sound m → before ≡ encodeOf m → (k : Reader) → FeedOf32 (k .feed) → known ≡ encodeKnown k
-      → (r : ReadLine) × ((κs : Lfts 1) → ReadsLine κs k m line r) × (n ≡ readNumber (r .answer)) × Sound (r .machine)
-      × (after ≡ encodeOf (r .machine)) × (known′ ≡ encodeKnown (r .reader))
+  pub own : (m : Bench) → Sound m → before ≡ encodeOf m → (k : Reader) → FeedOf32 (k .feed) → known ≡ encodeKnown k
+      → (r : ReadLine) × ((κs : Lfts 1) → ReadsLine κs k m line r) × (n ≡ readNumber (r .answer)) × Sound (r .bench)
+      × (after ≡ encodeOf (r .bench)) × (known′ ≡ encodeKnown (r .reader))
   pub others : NoRecord before ⊎ NotKnown known → (n ≡ negsuc 8) × (after ≡ before) × (known′ ≡ known)
   -- "A refused line leaves the known G and F and the machine as before it."
   pub refused : (k : ℕ) → n ≡ negsuc k → (after ≡ before) × (known′ ≡ known)
@@ -126,7 +126,7 @@ pub record LineOnWords (before known : List ℤ) (line : RefT (List ℕ)) (n : �
 
 -- the words of the check c
 pub record Tells (c : Check) (ws ps : List ℤ) : Type 0 where
-  pub words : ws ≡ encodeOf (c .tally .machine)
+  pub words : ws ≡ encodeOf (c .tally .bench)
   pub progress : ps ≡ encodeProgress c
 
 -- a start may answer n
@@ -137,7 +137,7 @@ StartsFromC κs words words′ progress progress′ p w xlo xhi ylo yhi n =
 
 -- the words of a check that begins at the machine that a make answers
 abbrev pub StartedWords : Settings → (n : ℤ) (ws ps : List ℤ) → Type 0
-StartedWords s n ws ps = (r : Answered) × Makes s r × (n ≡ answerNumber (r .answer)) × (c : Check) × Starts (r .machine) c × Tells c ws ps
+StartedWords s n ws ps = (r : Answered) × Makes s r × (n ≡ answerNumber (r .answer)) × (c : Check) × Starts (r .bench) c × Tells c ws ps
 
 -- a fill of the words, lent the text, may answer n
 abbrev pub FillsFromC : Lfts 5 → (ws ws′ ps ps′ : RefT (List ℤ)) (text out out′ : RefT (List ℕ)) (len len′ : RefT ℕ) (n : ℤ) → Type 0
@@ -151,7 +151,7 @@ OwnFill c text out out′ n len ws′ ps′ =
     × Tells (f .check) ws′ ps′
 
 -- the words of a sound record, and a check's progress at it
-abbrev pub IsCheck : (ws ps : List ℤ) → Machine → Type 0
+abbrev pub IsCheck : (ws ps : List ℤ) → Bench → Type 0
 IsCheck ws ps m = Sound m × (ws ≡ encodeOf m) × (ps ≡ encodeProgress (checkIn m ps))
 
 -- fills of one text, one after the other, lead from these words to those, and hand these bytes out; n is what the last answered
@@ -197,11 +197,11 @@ pub record EveryCallFromC : Type 0 where
       → StartsFromC κs words words′ progress progress′ p w xlo xhi ylo yhi n
       → StartedWords (settingsOf p w xlo xhi ylo yhi) n (now words′) (now progress′)
   pub fill : (κs : Lfts 5) (ws ws′ ps ps′ : RefT (List ℤ)) (text out out′ : RefT (List ℕ)) (len len′ : RefT ℕ) (n : ℤ)
-      → FillsFromC κs ws ws′ ps ps′ text out out′ len len′ n → (m : Machine) → IsCheck (now ws) (now ps) m
+      → FillsFromC κs ws ws′ ps ps′ text out out′ len len′ n → (m : Bench) → IsCheck (now ws) (now ps) m
       → OwnFill (checkIn m (now ps)) text out out′ n (now len′) (now ws′) (now ps′)
   -- all other words get 9, and nothing is written
   pub no-check : (κs : Lfts 5) (ws ws′ ps ps′ : RefT (List ℤ)) (text out out′ : RefT (List ℕ)) (len len′ : RefT ℕ) (n : ℤ)
-      → FillsFromC κs ws ws′ ps ps′ text out out′ len len′ n → ((m : Machine) → ¬ (IsCheck (now ws) (now ps) m))
+      → FillsFromC κs ws ws′ ps ps′ text out out′ len len′ n → ((m : Bench) → ¬ (IsCheck (now ws) (now ps) m))
       → Refuses (now ws) (now ps) (now out) n (now len′) (now ws′) (now ps′) (now out′)
   -- "The check program", from C: whoever fills the words of a start gets the listing, to the byte, and the answer 1 at its end
   pub listing : (κs : Lfts 2) (words words′ progress progress′ : RefT (List ℤ)) (p w xlo xhi ylo yhi n : ℤ)

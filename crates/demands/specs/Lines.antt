@@ -19,12 +19,12 @@ use Rattle.block.specs.declared.Path.{Path}
 use Rattle.work.specs.declared.Work.{Work}
 use Rattle.work.specs.Work.{following}
 use Rattle.settings.specs.Settings.{capacityOf}
-use Rattle.machine.specs.declared.Machine.{Machine}
-use Rattle.machine.specs.declared.Answer.{Answer}
-use Rattle.machine.specs.declared.Answered.{Answered}
-use Rattle.machine.specs.declared.Tick.{Tick}
-use Rattle.machine.specs.declared.Ticked.{Ticked}
-use Rattle.machine.specs.Machine.{movedOf}
+use Rattle.bench.specs.declared.Bench.{Bench}
+use Rattle.bench.specs.declared.Answer.{Answer}
+use Rattle.bench.specs.declared.Answered.{Answered}
+use Rattle.bench.specs.declared.Tick.{Tick}
+use Rattle.bench.specs.declared.Ticked.{Ticked}
+use Rattle.bench.specs.Bench.{movedOf}
 use Rattle.history.specs.Contracts.{Loads, Ticks}
 use Rattle.demands.specs.Asked.{AllYes}
 use Rattle.demands.specs.Sound.{Sound}
@@ -44,10 +44,10 @@ abbrev pub oneMore : Line → Line
 oneMore l = record { start = l .start; end = l .end; feed = l .feed; cycles = l .cycles; done = l .done + 1 }
 
 -- a working tick of a record with a line in work. 02 §2: "Line cycles are charged 1,000.", whatever pulses they send
-pub record LineTick (m : Machine) (l : Line) (r : Ticked) : Type 0 where
+pub record LineTick (m : Bench) (l : Line) (r : Ticked) : Type 0 where
   -- 02 §2: "A tick adds 1,000 × f."
   pub waits : m .remainder + 1000 * l .feed < straight * capacityOf (m .settings)
-      → r ≡ record { tick = Tick.Byte 0; machine = movedOf m (m .at) (m .remainder + 1000 * l .feed) (Work.Line l) }
+      → r ≡ record { tick = Tick.Byte 0; bench = movedOf m (m .at) (m .remainder + 1000 * l .feed) (Work.Line l) }
   -- 02 §2: "A cycle is due when the remainder reaches its charge times q0": as 01 has it, that "is taken off and one cycle is done". The
   -- byte tells the registers' pulses, the cycle, and the end after q cycles.
   pub cycles : straight * capacityOf (m .settings) ≤ m .remainder + 1000 * l .feed
@@ -56,16 +56,16 @@ pub record LineTick (m : Machine) (l : Line) (r : Ticked) : Type 0 where
       let rest = m .remainder + 1000 * l .feed - straight * capacityOf (m .settings) in
       r ≡ record {
         tick = Tick.Byte (cycleByte pulses last);
-        machine = movedOf m (shiftedOf (m .at) pulses) rest (following last (Work.Line (oneMore l)));
+        bench = movedOf m (shiftedOf (m .at) pulses) rest (following last (Work.Line (oneMore l)));
       })
 
 pub record EveryLine : Type 0 where
   -- an accepted line comes into work at the point with no cycle done; "Each load also answers the register width ..: the fewest bits that
   -- hold the larger of |a|, |b|"
-  pub load : (m : Machine) (b : Block) (r : Answered) → Loads m b r → AllYes (loadQuestions m b) → b .path ≡ Path.Line
+  pub load : (m : Bench) (b : Block) (r : Answered) → Loads m b r → AllYes (loadQuestions m b) → b .path ≡ Path.Line
       → r ≡ record {
         answer = Answer.Width (widthOf (max (natAbs (incrementX (m .at) (b .end))) (natAbs (incrementY (m .at) (b .end)))));
-        machine = movedOf m (m .at) (m .remainder) (Work.Line (lineOf (m .at) (b .end) (b .feed)));
+        bench = movedOf m (m .at) (m .remainder) (Work.Line (lineOf (m .at) (b .end) (b .feed)));
       }
-  pub tick : (m : Machine) (l : Line) (r : Ticked) → Ticks m r → Sound m → m .work ≡ Work.Line l → m .held ≡ false
+  pub tick : (m : Bench) (l : Line) (r : Ticked) → Ticks m r → Sound m → m .work ≡ Work.Line l → m .held ≡ false
       → LineTick m l r

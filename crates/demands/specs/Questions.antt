@@ -16,7 +16,7 @@ use Rattle.block.specs.declared.Path.{Path}
 use Rattle.block.specs.Block.{squareOf, arcOf}
 use Rattle.work.specs.declared.Work.{Work}
 use Rattle.settings.specs.Settings.{capacityOf}
-use Rattle.machine.specs.declared.Machine.{Machine}
+use Rattle.bench.specs.declared.Bench.{Bench}
 use Rattle.letters.specs.declared.letter.Letter.{Letter}
 use Rattle.letters.specs.declared.word.Word.{Word}
 use Rattle.letters.specs.declared.word.Words.{Words}
@@ -31,29 +31,29 @@ use Rattle.demands.specs.Asked.{Questions, none, question, andThen}
 use Rattle.demands.specs.Sound.{InTravel, FeedRight, VisitsInTravel, Sound}
 
 -- "Any call on a record: is it sound? 9."
-abbrev pub soundQuestion : Machine → Questions → Questions
+abbrev pub soundQuestion : Bench → Questions → Questions
 soundQuestion m later = question 9 (Sound m) later
 
 -- 02 §1: "38: more than 1,000,000 ticks, checked after 9."
-abbrev pub lookQuestions : Machine → (ticks : ℕ) → Questions
+abbrev pub lookQuestions : Bench → (ticks : ℕ) → Questions
 lookQuestions m ticks = soundQuestion m (question 38 (ticks ≤ 1000000) none)
 
 -- ---- load
 
 -- "is nothing in work? 10."
-abbrev pub NothingInWork : Machine → Type 0
+abbrev pub NothingInWork : Bench → Type 0
 NothingInWork m = m .work ≡ Work.Nothing
 
 -- "Is f in 1..q0? 11."
-abbrev pub BlockFeedRight : Machine → Block → Type 0
+abbrev pub BlockFeedRight : Bench → Block → Type 0
 BlockFeedRight m b = FeedRight (capacityOf (m .settings)) (b .feed)
 
 -- "Is the end in travel? 12."
-abbrev pub EndInTravel : Machine → Block → Type 0
+abbrev pub EndInTravel : Bench → Block → Type 0
 EndInTravel m b = InTravel (m .settings .travel) (b .end)
 
 -- "Line: do start and end differ? 13."
-abbrev pub StartAndEndDiffer : Machine → Block → Type 0
+abbrev pub StartAndEndDiffer : Bench → Block → Type 0
 StartAndEndDiffer m b = m .at ≢ b .end
 
 -- "Arc: are I and J within ±1,000,000 and not both 0? 14."
@@ -63,24 +63,24 @@ pub record CentreRight (centre : Offset) : Type 0 where
   pub some : ¬ ((natAbs (centre .x) ≡ 0) × (natAbs (centre .y) ≡ 0))
 
 -- "Is the end a circle point? 15."
-abbrev pub EndOnCircle : Machine → Block → (centre : Offset) → Type 0
+abbrev pub EndOnCircle : Bench → Block → (centre : Offset) → Type 0
 EndOnCircle m b centre = Circle (squareOf centre) (seenFrom (backFrom (m .at) centre) (b .end))
 
 -- "Is every visited point in travel? 16."
-abbrev pub EveryVisitInTravel : Machine → Block → Turn → (centre : Offset) → Type 0
+abbrev pub EveryVisitInTravel : Bench → Block → Turn → (centre : Offset) → Type 0
 EveryVisitInTravel m b turn centre = VisitsInTravel (m .settings .travel) (arcOf (m .at) b turn centre) (m .at)
 
-abbrev pub pathQuestions : Machine → Block → Path → Questions
+abbrev pub pathQuestions : Bench → Block → Path → Questions
 pathQuestions m b Path.Line = question 13 (StartAndEndDiffer m b) none
 pathQuestions m b (Path.Arc turn centre) =
     question 14 (CentreRight centre) (question 15 (EndOnCircle m b centre) (question 16 (EveryVisitInTravel m b turn centre) none))
 
 -- "Load, after 9, in this order"
-abbrev pub blockQuestions : Machine → Block → Questions
+abbrev pub blockQuestions : Bench → Block → Questions
 blockQuestions m b =
     question 10 (NothingInWork m) (question 11 (BlockFeedRight m b) (question 12 (EndInTravel m b) (pathQuestions m b (b .path))))
 
-abbrev pub loadQuestions : Machine → Block → Questions
+abbrev pub loadQuestions : Bench → Block → Questions
 loadQuestions m b = soundQuestion m (blockQuestions m b)
 
 -- ---- a text line; l is what its bytes mean, after the G and F known with it
@@ -112,7 +112,7 @@ pub record CentreStands (m : Motion) (ws : Words) : Type 0 where
   pub only : centred ws ≡ true → isArc m ≡ true
   pub there : isArc m ≡ true → placed ws ≡ true → centred ws ≡ true
 
-abbrev pub wordQuestions : (after : Reader) → Machine → (bytes : List ℕ) → Line → Questions
+abbrev pub wordQuestions : (after : Reader) → Bench → (bytes : List ℕ) → Line → Questions
 wordQuestions after m bytes l =
     question 31 (length bytes ≤ 80)
     (question 32 (LineOfWords bytes)
@@ -124,7 +124,7 @@ wordQuestions after m bytes l =
 
 -- ---- the block of a text line; k is the G and F known before it. "G and F count from their own line"
 
-abbrev pub lineBlock : Reader → Machine → Line → Block
+abbrev pub lineBlock : Reader → Bench → Line → Block
 lineBlock k m l = blockOf (m .settings .scale) (readerAfter k (l .words)) (l .words) (m .at)
 
 -- "A line without X, Y, I, J makes no block; nor does a straight line to the point where it stands, and then 10 to 13 are not put."
@@ -133,7 +133,7 @@ isBlock true false = true
 isBlock true true = false
 isBlock false stays = false
 
-abbrev pub makesBlock : Reader → Machine → Line → Bool
+abbrev pub makesBlock : Reader → Bench → Line → Bool
 makesBlock k m l = let b = lineBlock k m l in isBlock (moving (l .words)) (still (b .end) (m .at) (b .path))
 
 abbrev pub ifBlock : (makes : Bool) → Questions → Questions
@@ -141,10 +141,10 @@ ifBlock true qs = qs
 ifBlock false qs = none
 
 -- 31 to 37. "Then load's questions."
-abbrev pub textQuestions : Reader → Machine → (bytes : List ℕ) → Line → Questions
+abbrev pub textQuestions : Reader → Bench → (bytes : List ℕ) → Line → Questions
 textQuestions k m bytes l =
     andThen (wordQuestions (readerAfter k (l .words)) m bytes l) (ifBlock (makesBlock k m l) (blockQuestions m (lineBlock k m l)))
 
 -- "Any call on a record: is it sound? 9."
-abbrev pub lineQuestions : Reader → Machine → (bytes : List ℕ) → Line → Questions
+abbrev pub lineQuestions : Reader → Bench → (bytes : List ℕ) → Line → Questions
 lineQuestions k m bytes l = soundQuestion m (textQuestions k m bytes l)

@@ -11,10 +11,10 @@ use Rattle.work.specs.declared.Work.{Work}
 use Rattle.circle.specs.Charge.{mostPaid}
 use Rattle.work.specs.Work.{addedOf, cyclesLeft, chargesFor, chargesLeft, endOf}
 use Rattle.settings.specs.Settings.{capacityOf}
-use Rattle.machine.specs.declared.Machine.{Machine}
-use Rattle.machine.specs.declared.Tick.{Tick}
-use Rattle.machine.specs.declared.Ticked.{Ticked}
-use Rattle.machine.specs.declared.Ran.{Ran}
+use Rattle.bench.specs.declared.Bench.{Bench}
+use Rattle.bench.specs.declared.Tick.{Tick}
+use Rattle.bench.specs.declared.Ticked.{Ticked}
+use Rattle.bench.specs.declared.Ran.{Ran}
 use Rattle.book.specs.Book.{Report, Reply}
 use Rattle.book.specs.Sums.{cyclesMarked}
 use Rattle.history.specs.Contracts.{Ticks, Runs}
@@ -22,10 +22,10 @@ use Rattle.demands.specs.Sound.{Sound}
 use Rattle.demands.specs.Answers.{ranReply}
 
 -- ticks called one by one, each getting the record that the one before returned, answer these bytes and leave the record m′
-pub data TicksTo : Machine → List ℕ → Machine → Type 0 where
-  none : {m : Machine} → TicksTo m [] m
-  one : {m m′ : Machine} {bytes : List ℕ} (r : Ticked) (byte : ℕ) → Ticks m r → r .tick ≡ Tick.Byte byte
-      → TicksTo (r .machine) bytes m′ → TicksTo m (byte ∷ bytes) m′
+pub data TicksTo : Bench → List ℕ → Bench → Type 0 where
+  none : {m : Bench} → TicksTo m [] m
+  one : {m m′ : Bench} {bytes : List ℕ} (r : Ticked) (byte : ℕ) → Ticks m r → r .tick ≡ Tick.Byte byte
+      → TicksTo (r .bench) bytes m′ → TicksTo m (byte ∷ bytes) m′
 
 -- the report of a run that leaves the buffer as new
 abbrev pub Reports : Ran → (new : List ℕ) → Report → Type 0
@@ -34,7 +34,7 @@ Reports r new report = ranReply r new ≡ Reply.ran report (r .ticks) (take (r .
 -- the working ticks to the block's end: each cycle left has one, and by the last of them the remainder and 1,000 × f a tick reach the
 -- charges left times q0. 02 §2: "A block ends on the tick that stepping by this rule gives; in a history that is its working tick
 -- ⌈(C × q0 - r) / (1,000 × f)⌉, C being the sum of its charges."
-abbrev pub ticksLeft : Machine → ℕ
+abbrev pub ticksLeft : Bench → ℕ
 ticksLeft m =
     let w = m .work in
     let due = chargesLeft (m .at) w * capacityOf (m .settings) in
@@ -42,17 +42,17 @@ ticksLeft m =
 
 -- the cycles that n of these ticks do: the most, at most n and at most those left, whose charges times q0 are paid by the remainder and
 -- 1,000 × f a tick. 02 §2: "A cycle is due when the remainder reaches its charge times q0, at most one a tick."
-abbrev pub cyclesIn : Machine → (n : ℕ) → ℕ
+abbrev pub cyclesIn : Bench → (n : ℕ) → ℕ
 cyclesIn m n =
     let w = m .work in
     mostPaid (λ c. chargesFor (m .at) w c * capacityOf (m .settings)) (m .remainder + n * addedOf w) (min n (cyclesLeft (m .at) w))
 
 -- a run lent the buffer old, which it leaves as new
-pub record Running (m : Machine) (budget : ℕ) (old new : List ℕ) (r : Ran) : Type 0 where
+pub record Running (m : Bench) (budget : ℕ) (old new : List ℕ) (r : Ran) : Type 0 where
   -- "It does the least of its tick budget, the buffer length and the ticks to the block's end"
   pub ticks : r .ticks ≡ min budget (min (length old) (ticksLeft m))
   -- "A run writes tick bytes into a lent buffer": they are its ticks' answers one by one, and it leaves the record that they leave
-  pub bytes : TicksTo m (take (r .ticks) new) (r .machine)
+  pub bytes : TicksTo m (take (r .ticks) new) (r .bench)
   -- and they mark as many cycles as are paid, "at most one a tick"
   pub cycles : cyclesMarked (take (r .ticks) new) ≡ cyclesIn m (r .ticks)
   -- "later bytes keep their contents"
@@ -63,15 +63,15 @@ pub record Running (m : Machine) (budget : ℕ) (old new : List ℕ) (r : Ran) :
   pub spent : Reports r new Report.spent ↔ ((r .ticks < ticksLeft m) × (budget ≤ r .ticks))
   pub full : Reports r new Report.full ↔ ((r .ticks < ticksLeft m) × (r .ticks < budget))
   -- at the block's end nothing is in work, and the point is the commanded end
-  pub over : ticksLeft m ≤ r .ticks → (r .machine .work ≡ Work.Nothing) × (r .machine .at ≡ endOf (m .at) (m .work))
+  pub over : ticksLeft m ≤ r .ticks → (r .bench .work ≡ Work.Nothing) × (r .bench .at ≡ endOf (m .at) (m .work))
 
 -- a run without a tick
-pub record Resting (m : Machine) (old new : List ℕ) (r : Ran) (report : Report) : Type 0 where
+pub record Resting (m : Bench) (old new : List ℕ) (r : Ran) (report : Report) : Type 0 where
   pub reply : ranReply r new ≡ Reply.ran report 0 []
-  pub machine : r .machine ≡ m
+  pub bench : r .bench ≡ m
   pub buffer : new ≡ old
 
-pub record RunOf (m : Machine) (budget : ℕ) (old new : List ℕ) (r : Ran) : Type 0 where
+pub record RunOf (m : Bench) (budget : ℕ) (old new : List ℕ) (r : Ran) : Type 0 where
   -- "It answers idle or held (idle first) with 0 ticks"
   pub idle : m .work ≡ Work.Nothing → Resting m old new r Report.idle
   pub held : m .work ≢ Work.Nothing → m .held ≡ true → Resting m old new r Report.held
@@ -79,5 +79,5 @@ pub record RunOf (m : Machine) (budget : ℕ) (old new : List ℕ) (r : Ran) : T
 
 abbrev pub EveryRun : Type 0
 EveryRun =
-    (κs : Lfts 1) (m : Machine) (budget : ℕ) (out out′ : RefT (List ℕ)) (r : Ran) → Runs κs m budget out out′ r → Sound m
+    (κs : Lfts 1) (m : Bench) (budget : ℕ) (out out′ : RefT (List ℕ)) (r : Ran) → Runs κs m budget out out′ r → Sound m
     → RunOf m budget (now out) (now out′) r

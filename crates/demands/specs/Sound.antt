@@ -18,7 +18,7 @@ use Rattle.arc.specs.Centre.{Near, seenFrom, backFrom}
 use Rattle.work.specs.declared.Work.{Work}
 use Rattle.settings.specs.declared.Settings.{Settings}
 use Rattle.settings.specs.Settings.{capacityOf}
-use Rattle.machine.specs.declared.Machine.{Machine}
+use Rattle.bench.specs.declared.Bench.{Bench}
 use Rattle.demands.specs.Asked.{Questions, none, question, AllYes}
 
 -- ---- settings
@@ -92,7 +92,7 @@ WorkSound q0 t at (Work.Arc a) = ArcSound q0 t at a
 
 -- "A record is sound if settings pass questions 1 to 3; the point is in travel; the remainder is below q0;" and what is in work is sound.
 -- 02 §2: "A sound remainder is below 1,414 × q0."
-pub record Sound (m : Machine) : Type 0 where
+pub record Sound (m : Bench) : Type 0 where
   pub settings : AllYes (settingsQuestions (m .settings))
   pub point : InTravel (m .settings .travel) (m .at)
   pub remainder : m .remainder < diagonal * capacityOf (m .settings)

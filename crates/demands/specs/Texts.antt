@@ -12,8 +12,8 @@ use Rattle.plane.specs.declared.point.Point.{Point}
 use Rattle.work.specs.declared.Work.{Work}
 use Rattle.settings.specs.declared.Settings.{Settings}
 use Rattle.settings.specs.Settings.{capacityOf}
-use Rattle.machine.specs.declared.Machine.{Machine}
-use Rattle.machine.specs.Machine.{freshOf}
+use Rattle.bench.specs.declared.Bench.{Bench}
+use Rattle.bench.specs.Bench.{freshOf}
 use Rattle.words.specs.declared.line.Line.{Line}
 use Rattle.words.specs.Meaning.{Means}
 use Rattle.reader.specs.declared.Reader.{Reader}
@@ -35,7 +35,7 @@ use Rattle.demands.specs.Questions.{lineBlock, makesBlock, textQuestions
 -- ---- one line, read at a point with nothing in work: "Each block is loaded once the one before has ended". No question looks at the mark
 -- or at the remainder, which is kept from block to block.
 
-abbrev pub standing : Settings → (at : Point) → Machine
+abbrev pub standing : Settings → (at : Point) → Bench
 standing s at = record { settings = s; at = at; held = false; remainder = 0; work = Work.Nothing }
 
 -- ---- the lines of a text, from number n on, read at a point with a G and an F known, mean these blocks, and end so
@@ -85,7 +85,7 @@ pub record FrontOf (whole bytes : List ℕ) (EndTold : Type 0) : Type 0 where
   pub all : EndTold → rest ≡ []
 
 -- the check of a job that begins at this machine
-abbrev pub Starts : Machine → Check → Type 0
+abbrev pub Starts : Bench → Check → Type 0
 Starts m c = start-reads.Learnt tt (m, tt) c (m, tt)
 
 -- fill, lent the text and the buffer out, may return f and leave the buffer as out′

@@ -10,10 +10,10 @@ use Rattle.block.specs.Block.{blockWidth}
 use Rattle.work.specs.declared.Work.{Work}
 use Rattle.settings.specs.declared.Settings.{Settings}
 use Rattle.settings.specs.Settings.{capacityOf}
-use Rattle.machine.specs.declared.Machine.{Machine}
-use Rattle.machine.specs.declared.Answer.{Answer}
-use Rattle.machine.specs.declared.Answered.{Answered}
-use Rattle.machine.specs.Machine.{freshOf}
+use Rattle.bench.specs.declared.Bench.{Bench}
+use Rattle.bench.specs.declared.Answer.{Answer}
+use Rattle.bench.specs.declared.Answered.{Answered}
+use Rattle.bench.specs.Bench.{freshOf}
 use Rattle.book.specs.Sums.{cyclesMarked}
 use Rattle.history.specs.Contracts.{Loads}
 use Rattle.job.specs.Job.{Made, jobOf}
@@ -29,11 +29,11 @@ use Rattle.demands.specs.Texts.{Filling, FrontOf}
 
 -- blocks loaded from the record m on, each at the record that the one before it left, accepted with its width, and ticked to its end, by
 -- the calls' own contracts: the bytes that they answer
-pub data BlocksTick : Machine → List Made → List ℕ → Type 0 where
-  none : {m : Machine} → BlocksTick m [] []
-  block : {m m′ : Machine} {later : List Made} {bytes rest : List ℕ} (made : Made) (r : Answered) → made .start ≡ m .at
+pub data BlocksTick : Bench → List Made → List ℕ → Type 0 where
+  none : {m : Bench} → BlocksTick m [] []
+  block : {m m′ : Bench} {later : List Made} {bytes rest : List ℕ} (made : Made) (r : Answered) → made .start ≡ m .at
       → Loads m (made .block) r → r .answer ≡ Answer.Width (blockWidth (made .start) (made .block))
-      → TicksTo (r .machine) bytes m′ → length bytes ≡ ticksLeft (r .machine) → m′ .work ≡ Work.Nothing
+      → TicksTo (r .bench) bytes m′ → length bytes ≡ ticksLeft (r .bench) → m′ .work ≡ Work.Nothing
       → BlocksTick m′ later rest → BlocksTick m (made ∷ later) (bytes ++ rest)
 
 -- the tick bytes of a text's job
@@ -45,7 +45,7 @@ pub record JobBytes (s : Settings) (text bytes : List ℕ) : Type 0 where
 
 -- ---- as they are handed out
 
-abbrev pub StartsTape : Machine → Tape → Type 0
+abbrev pub StartsTape : Bench → Tape → Type 0
 StartsTape m t = start-reads.Learnt tt (m, tt) t (m, tt)
 
 abbrev pub FillsTape : Lfts 2 → Tape → (text out out′ : RefT (List ℕ)) → Filled → Type 0

@@ -9,14 +9,14 @@ use Rattle.block.specs.declared.Block.{Block}
 use Rattle.block.specs.declared.Path.{Path}
 use Rattle.run.specs.Run.{written}
 use Rattle.settings.specs.declared.Settings.{Settings}
-use Rattle.machine.specs.declared.Machine.{Machine}
-use Rattle.machine.specs.declared.Answer.{Answer}
-use Rattle.machine.specs.declared.Answered.{Answered}
-use Rattle.machine.specs.declared.Tick.{Tick}
-use Rattle.machine.specs.declared.Ticked.{Ticked}
-use Rattle.machine.specs.declared.Report.{Report}
-use Rattle.machine.specs.Calls.{makeOf, loadOf, tickOf, holdOf, releaseOf, stopOf}
-use Rattle.machine.specs.Run.{Run, runOf}
+use Rattle.bench.specs.declared.Bench.{Bench}
+use Rattle.bench.specs.declared.Answer.{Answer}
+use Rattle.bench.specs.declared.Answered.{Answered}
+use Rattle.bench.specs.declared.Tick.{Tick}
+use Rattle.bench.specs.declared.Ticked.{Ticked}
+use Rattle.bench.specs.declared.Report.{Report}
+use Rattle.bench.specs.Calls.{makeOf, loadOf, tickOf, holdOf, releaseOf, stopOf}
+use Rattle.bench.specs.Run.{Run, runOf}
 use Rattle.layout.specs.Words.{wordOf, refusalOf, countOf, encodeOf, machineIn}
 use Rattle.store.specs.Words.{soundWords}
 
@@ -54,16 +54,16 @@ pub record Told : Type 0 where
 abbrev pub tells : (answer : ℤ) (words : List ℤ) → Told
 tells n ws = record { answer = n; words = ws }
 
-abbrev pub told : ℤ → Machine → Told
+abbrev pub told : ℤ → Bench → Told
 told n m = tells n (encodeOf m)
 
 abbrev pub toldAnswer : Answered → Told
-toldAnswer a = told (answerNumber (a .answer)) (a .machine)
+toldAnswer a = told (answerNumber (a .answer)) (a .bench)
 
 abbrev pub toldTick : Ticked → Told
-toldTick t = told (tickNumber (t .tick)) (t .machine)
+toldTick t = told (tickNumber (t .tick)) (t .bench)
 
-unfoldable pub callOf : Machine → Call → Told
+unfoldable pub callOf : Bench → Call → Told
 callOf m (Call.load b) = toldAnswer (loadOf m b)
 callOf m Call.tick = toldTick (tickOf m)
 callOf m Call.hold = toldAnswer (holdOf m)
@@ -105,7 +105,7 @@ tellsRun n ticks ws out = record { answer = n; ticks = ticks; words = ws; buffer
 
 -- the tick bytes go to the front of the buffer
 abbrev pub ran : Run → (out : List ℕ) → ToldRun
-ran r out = tellsRun (reportNumber (r .ran .report)) (r .ran .ticks) (encodeOf (r .ran .machine)) (written (r .bytes) out)
+ran r out = tellsRun (reportNumber (r .ran .report)) (r .ran .ticks) (encodeOf (r .ran .bench)) (written (r .bytes) out)
 
 unfoldable pub toldRunOf : List ℤ → (budget : ℕ) (out : List ℕ) → ToldRun
 toldRunOf ws budget out = cond (soundWords ws) (ran (runOf (machineIn ws) budget (length out)) out) (tellsRun (negsuc 8) 0 ws out)

@@ -5,7 +5,7 @@ use mathlib.Core.List.{List}
 use Prim.Native.Nat.{ℕ}
 use lib.IntN.{ℤ, pos, negsuc}
 use Rattle.settings.specs.declared.Settings.{Settings}
-use Rattle.machine.specs.Calls.{makeOf}
+use Rattle.bench.specs.Calls.{makeOf}
 use Rattle.reader.specs.declared.«text_line».Read.{Read}
 use Rattle.reader.specs.declared.«text_line».ReadLine.{ReadLine}
 use Rattle.reader.specs.TextLine.{readLineOf}
@@ -35,7 +35,7 @@ abbrev pub tellsLine : (answer : ℤ) (words known : List ℤ) → ToldLine
 tellsLine n ws ks = record { answer = n; words = ws; known = ks }
 
 abbrev pub lineTold : ReadLine → ToldLine
-lineTold r = tellsLine (readNumber (r .answer)) (encodeOf (r .machine)) (encodeKnown (r .reader))
+lineTold r = tellsLine (readNumber (r .answer)) (encodeOf (r .bench)) (encodeKnown (r .reader))
 
 -- Words of no sound record, and words that tell nothing known, get 9 and stay as they are.
 unfoldable pub toldLineOf : (ws ks : List ℤ) (line : List ℕ) → ToldLine
@@ -48,7 +48,7 @@ toldLineOf ws ks line =
 
 -- the progress of a check that begins at the machine that a make answers
 abbrev pub startProgress : Settings → List ℤ
-startProgress s = encodeProgress (startOf (makeOf s .machine))
+startProgress s = encodeProgress (startOf (makeOf s .bench))
 
 -- the check that the words of a record and of its progress tell, if they are a sound record's and one's
 abbrev pub checkTold : (ws ps : List ℤ) → DecodedProgress
@@ -69,7 +69,7 @@ pub record Refuses (ws ps : List ℤ) (old : List ℕ) (answer : ℤ) (len : ℕ
 pub record Hands (c : Check) (text old : List ℕ) (answer : ℤ) (len : ℕ) (ws′ ps′ : List ℤ) (new : List ℕ) : Type 0 where
   pub next : Check
   pub fills : Fills c text old (record { len = len; check = next }) new
-  pub words : ws′ ≡ encodeOf (next .tally .machine)
+  pub words : ws′ ≡ encodeOf (next .tally .bench)
   pub progress : ps′ ≡ encodeProgress next
   pub over : answer ≡ markWord (isOver next)
 

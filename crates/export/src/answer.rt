@@ -2,11 +2,11 @@
 ghost use mathlib.Core.Path.{_≡_};
 ghost use Rattle.export.specs.Calls.{answerNumber, tickNumber, reportNumber};
 ghost use Rattle.export.specs.Texts.{readNumber};
+use bench::Answer;
+use bench::Report;
+use bench::Tick;
 use layout::number::refusal;
 use layout::number::word;
-use machine::Answer;
-use machine::Report;
-use machine::Tick;
 use reader::text_line::Read;
 
 pub fn answer_number(answer: Answer) -> i64

@@ -11,6 +11,7 @@ use crate::answer::report_number;
 use crate::answer::tick_number;
 use crate::given::arc;
 use crate::given::block;
+use bench::Bench;
 use block::Block;
 use block::Path;
 use circle::plane::Turn;
@@ -18,7 +19,6 @@ use layout::decode::machine_in;
 use layout::encode::encode;
 use layout::encode::work_words;
 use layout::given::settings;
-use machine::Machine;
 use store::is_sound;
 use store::store;
 use store::store_mark;
@@ -42,7 +42,7 @@ pub extern "C" fn vz_tick(words: &mut [i64; 19]) -> i64
     let before = *words;
     let m = machine_in(before);
     let t = m.tick_sound();
-    let next = t.machine;
+    let next = t.bench;
     let at = next.at;
     let work = next.work;
     let tick = t.tick;
@@ -97,7 +97,7 @@ fn load(words: &mut [i64; 19], b: Block) -> i64
     let before = *words;
     let m = machine_in(before);
     let a = m.load_sound(b);
-    let next = a.machine;
+    let next = a.bench;
     let work = next.work;
     let answer = a.answer;
     store_work(words, work_words(work));
@@ -156,9 +156,9 @@ pub extern "C" fn vz_make(
 ) -> i64
     ensures { λ r. ⌜ tells r (now (words .exit)) ≡ madeOf (settingsOf p w xlo xhi ylo yhi) ⌝ }
 {
-    let a = Machine::make(settings(p, w, xlo, xhi, ylo, yhi));
+    let a = Bench::make(settings(p, w, xlo, xhi, ylo, yhi));
     let answer = a.answer;
-    let m = a.machine;
+    let m = a.bench;
     let after = encode(m);
     *words = after;
     answer_number(answer)
@@ -178,7 +178,7 @@ pub extern "C" fn vz_run(words: &mut [i64; 19], budget: u64, out: &mut [u8], tic
     let before = *words;
     let m = machine_in(before);
     let r = m.run_sound(budget, out);
-    let next = r.machine;
+    let next = r.bench;
     let at = next.at;
     let work = next.work;
     let report = r.report;

@@ -6,13 +6,13 @@ ghost use Rattle.export.specs.Calls.{tells, madeOf};
 ghost use Rattle.export.specs.Texts.{tellsLine, toldLineOf, startProgress, TellsFill};
 use crate::answer::answer_number;
 use crate::answer::read_number;
+use bench::Bench;
 use job::Check;
 use layout::decode::machine_in;
 use layout::encode::encode;
 use layout::encode::mark_word;
 use layout::encode::work_words;
 use layout::given::settings;
-use machine::Machine;
 use progress::known::decode_known;
 use progress::known::encode_known;
 use progress::progress::decode_progress;
@@ -40,7 +40,7 @@ pub extern "C" fn vz_read_line(words: &mut [i64; 19], known: &mut [i64; 2], line
     let before = *words;
     let m = machine_in(before);
     let r = read_line(reader, m, line);
-    let next = r.machine;
+    let next = r.bench;
     let work = next.work;
     let later = r.reader;
     let answer = r.answer;
@@ -67,9 +67,9 @@ pub extern "C" fn vz_check_start(
     ensures record { λ r. ⌜ tells r (now (words .exit)) ≡ madeOf (settingsOf p w xlo xhi ylo yhi) ⌝ }
     ensures progress { λ r. ⌜ now (progress .exit) ≡ startProgress (settingsOf p w xlo xhi ylo yhi) ⌝ }
 {
-    let a = Machine::make(settings(p, w, xlo, xhi, ylo, yhi));
+    let a = Bench::make(settings(p, w, xlo, xhi, ylo, yhi));
     let answer = a.answer;
-    let m = a.machine;
+    let m = a.bench;
     let after = encode(m);
     let begun = encode_progress(Check::start(m));
     *words = after;
@@ -103,8 +103,8 @@ pub extern "C" fn vz_check_fill(
     let f = check.fill(text, out);
     let next = f.check;
     let tally = next.tally;
-    let machine = tally.machine;
-    let after = encode(machine);
+    let bench = tally.bench;
+    let after = encode(bench);
     let come = encode_progress(next);
     *words = after;
     *progress = come;

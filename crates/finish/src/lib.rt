@@ -1,11 +1,11 @@
 // A run to the end of the block in work, without its bytes: the charges left give the ticks, so none is walked.
 ghost use mathlib.Core.Path.{_≡_};
 ghost use mathlib.Core.Bool.{true};
-ghost use Rattle.machine.specs.Machine.{soundOf};
+ghost use Rattle.bench.specs.Bench.{soundOf};
 ghost use Rattle.finish.specs.Finish.{worksOf, finishOf};
+use bench::Bench;
 use divider::FEED_SCALE;
 use divider::ending;
-use machine::Machine;
 use settings::capacity;
 use work::Work;
 use work::is_nothing;
@@ -15,11 +15,11 @@ use work::rest::work_left;
 pub struct Finished {
     pub cycles: u64,
     pub ticks: u64,
-    pub machine: Machine,
+    pub bench: Bench,
 }
 
 // Whether a tick of this record is a working one: it has a block in work and is not held.
-pub fn works(m: Machine) -> bool
+pub fn works(m: Bench) -> bool
     requires { ⌜ soundOf m ≡ true ⌝ }
     ensures { λ r. ⌜ r ≡ worksOf m ⌝ }
 {
@@ -32,7 +32,7 @@ pub fn works(m: Machine) -> bool
 }
 
 // To the end of the block in work, of a record that has been tested; one whose ticks are no working ones stays as it was.
-pub fn finish(m: Machine) -> Finished
+pub fn finish(m: Bench) -> Finished
     requires { ⌜ soundOf m ≡ true ⌝ }
     ensures { λ r. ⌜ r ≡ finishOf m ⌝ }
 {
@@ -40,7 +40,7 @@ pub fn finish(m: Machine) -> Finished
         return Finished {
             cycles: 0,
             ticks: 0,
-            machine: m,
+            bench: m,
         };
     }
     let settings = m.settings;
@@ -58,6 +58,6 @@ pub fn finish(m: Machine) -> Finished
     Finished {
         cycles: left.cycles,
         ticks: last.tick,
-        machine: m.moved(end, last.remainder, Work::Nothing),
+        bench: m.moved(end, last.remainder, Work::Nothing),
     }
 }

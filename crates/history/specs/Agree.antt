@@ -4,7 +4,7 @@ use Rattle.block.specs.declared.Path.{Path}
 use Rattle.block.specs.Block.{arcOf}
 use Rattle.work.specs.declared.Work.{Work}
 use Rattle.settings.specs.declared.Settings.{Settings}
-use Rattle.machine.specs.declared.Machine.{Machine}
+use Rattle.bench.specs.declared.Bench.{Bench}
 use Rattle.book.specs.Book.{Job, InWork, Book}
 
 -- a line keeps its cycles done; an arc keeps none, and goes on from the point
@@ -23,5 +23,5 @@ abbrev pub workOf : InWork → Work
 workOf InWork.nothing = Work.Nothing
 workOf (InWork.working j) = workAlong j (j .block .path)
 
-abbrev pub machineOf : Settings → Book → Machine
+abbrev pub machineOf : Settings → Book → Bench
 machineOf s b = record { settings = s; at = b .at; held = b .mark; remainder = b .remainder; work = workOf (b .work) }

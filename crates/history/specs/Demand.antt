@@ -5,8 +5,8 @@ use mathlib.Core.List.{List, []}
 use Prim.Native.Nat.{_+_, _*_}
 use Rattle.plane.specs.Byte.{codeX, codeY}
 use Rattle.settings.specs.declared.Settings.{Settings}
-use Rattle.machine.specs.declared.Machine.{Machine}
-use Rattle.machine.specs.declared.Answered.{Answered}
+use Rattle.bench.specs.declared.Bench.{Bench}
+use Rattle.bench.specs.declared.Answered.{Answered}
 use Rattle.settings.specs.Settings.{capacityOf}
 use Rattle.book.specs.Book.{Book, Call, Reply, freshBook, replies, closing}
 use Rattle.book.specs.Bounds.{OnWork}
@@ -21,7 +21,7 @@ abbrev pub bookAfter : Settings → List Call → Book
 bookAfter s cs = closing (capacityOf s) (s .travel) freshBook cs
 
 -- what holds after the calls cs, from a machine made with the settings s, gave the replies rs and the record m
-pub record AsDemanded (s : Settings) (cs : List Call) (rs : List Reply) (m : Machine) : Type 0 where
+pub record AsDemanded (s : Settings) (cs : List Call) (rs : List Reply) (m : Bench) : Type 0 where
   -- "Every answer and tick byte, the point, the mark and the remainder are those of document 01's book." So are the settings and what is in work.
   pub answers : rs ≡ replies (capacityOf s) (s .travel) freshBook cs
   pub settings : m .settings ≡ s
@@ -51,9 +51,9 @@ pub record AsDemanded (s : Settings) (cs : List Call) (rs : List Reply) (m : Mac
 abbrev pub EveryHistory : Type 0
 EveryHistory =
     (asked : Settings) (made : Answered) → Makes asked made →
-    (cs : List Call) (rs : List Reply) (m : Machine) → History (made .machine) cs rs m →
-    AsDemanded (made .machine .settings) cs rs m
+    (cs : List Call) (rs : List Reply) (m : Bench) → History (made .bench) cs rs m →
+    AsDemanded (made .bench .settings) cs rs m
 
 -- "For every list ..": there is none that this leaves out, from whatever record
 abbrev pub EveryList : Type 0
-EveryList = (m : Machine) (cs : List Call) → HasHistory m cs
+EveryList = (m : Bench) (cs : List Call) → HasHistory m cs

@@ -1,9 +1,9 @@
 -- What a call answers, in the book's words: the reply of each answer of the machine. That of a text line is in crate demands.
 use mathlib.Core.List.{List}
 use Prim.Native.Nat.{ℕ}
-use Rattle.machine.specs.declared.Answer.{Answer}
-use Rattle.machine.specs.declared.Tick.{Tick}
-use Rattle.machine.specs.declared.Report.{Report}
+use Rattle.bench.specs.declared.Answer.{Answer}
+use Rattle.bench.specs.declared.Tick.{Tick}
+use Rattle.bench.specs.declared.Report.{Report}
 use Rattle.book.specs.Book.{Report as BookReport, Reply}
 
 abbrev pub answerReply : Answer → Reply

@@ -4,9 +4,9 @@ use Prim.Native.Nat.{ℕ, _+_}
 use Rattle.plane.specs.declared.point.Point.{Point}
 use Rattle.block.specs.Block.{blockWidth}
 use Rattle.book.specs.Sums.{cyclesMarked}
-use Rattle.machine.specs.declared.Machine.{Machine}
-use Rattle.machine.specs.declared.Report.{Report}
-use Rattle.machine.specs.Run.{Run, runOf}
+use Rattle.bench.specs.declared.Bench.{Bench}
+use Rattle.bench.specs.declared.Report.{Report}
+use Rattle.bench.specs.Run.{Run, runOf}
 use Rattle.reader.specs.declared.Reader.{Reader}
 use Rattle.reader.specs.declared.«text_line».Read.{Read}
 use Rattle.reader.specs.TextLine.{readLineOf}
@@ -32,23 +32,23 @@ pub record Cuts : Type 0 where
 abbrev pub enough : ℕ
 enough = mostBlockTicks
 
-abbrev pub afterRun : (textLine bits : ℕ) → Run → (rest : Machine → Cuts) → Cuts
+abbrev pub afterRun : (textLine bits : ℕ) → Run → (rest : Bench → Cuts) → Cuts
 afterRun n bits x rest =
-    let c = rest (x .ran .machine) in
+    let c = rest (x .ran .bench) in
     record {
-      cuts = record { textLine = n; bits = bits; report = x .ran .report; cycles = cyclesMarked (x .bytes); ticks = x .ran .ticks; at = x .ran .machine .at }
+      cuts = record { textLine = n; bits = bits; report = x .ran .report; cycles = cyclesMarked (x .bytes); ticks = x .ran .ticks; at = x .ran .bench .at }
           ∷ c .cuts;
       end = c .end;
     }
 
-abbrev pub afterRead : (textLine : ℕ) → Reader → Machine → Read → (rest : Machine → Reader → Cuts) → Cuts
+abbrev pub afterRead : (textLine : ℕ) → Reader → Bench → Read → (rest : Bench → Reader → Cuts) → Cuts
 afterRead n k m Read.Nothing rest = rest m k
 afterRead n k m (Read.Loaded bits) rest = afterRun n bits (runOf m enough enough) (λ m′. rest m′ k)
 afterRead n k m (Read.Refused number) rest = record { cuts = []; end = End.refused n number }
 
-unfoldable pub callsFrom : (textLine : ℕ) → Machine → Reader → (lines : List (List ℕ)) → Cuts
+unfoldable pub callsFrom : (textLine : ℕ) → Bench → Reader → (lines : List (List ℕ)) → Cuts
 callsFrom n m k [] = record { cuts = []; end = End.complete }
-callsFrom n m k (l ∷ ls) = let r = readLineOf k m l in afterRead n (r .reader) (r .machine) (r .answer) (λ m′ k′. callsFrom (n + 1) m′ k′ ls)
+callsFrom n m k (l ∷ ls) = let r = readLineOf k m l in afterRead n (r .reader) (r .bench) (r .answer) (λ m′ k′. callsFrom (n + 1) m′ k′ ls)
 
 -- ---- what they are to tell of the blocks of a job, of which the first is loaded at remainder r
 

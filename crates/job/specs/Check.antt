@@ -8,8 +8,8 @@ use lib.ListN.{length, take, drop}
 use Rattle.row.specs.Buffer.{placed}
 use Rattle.row.specs.Lines.{headerLine, totalLine, refusedLine}
 use Rattle.work.specs.Work.{isNothing}
-use Rattle.machine.specs.declared.Machine.{Machine}
-use Rattle.machine.specs.Machine.{soundOf}
+use Rattle.bench.specs.declared.Bench.{Bench}
+use Rattle.bench.specs.Bench.{soundOf}
 use Rattle.settings.specs.declared.Settings.{Settings}
 use Rattle.reader.specs.declared.Feed.{Feed}
 use Rattle.listing.specs.declared.Tally.{Tally}
@@ -22,7 +22,7 @@ use Rattle.job.specs.declared.Filled.{Filled}
 use Rattle.job.specs.Text.{linesOf}
 use Rattle.job.specs.Listing.{listingOf}
 
-unfoldable pub startOf : Machine → Check
+unfoldable pub startOf : Bench → Check
 startOf m = record { stage = Stage.Header; at = 0; tally = tallyStart m }
 
 abbrev pub stageOver : Stage → Bool
@@ -68,9 +68,9 @@ FeedSmall (Feed.Known f) = f < 10 ^ 7
 
 -- the machine is sound and at rest, and the counts are some that at most 65,537 lines can make
 pub record Reached (at : ℕ) (t : Tally) : Type 0 where
-  pub sound : soundOf (t .machine) ≡ true
-  pub free : t .machine .held ≡ false
-  pub idle : isNothing (t .machine .work) ≡ true
+  pub sound : soundOf (t .bench) ≡ true
+  pub free : t .bench .held ≡ false
+  pub idle : isNothing (t .bench .work) ≡ true
   pub feed : FeedSmall (t .reader .feed)
   pub near : at ≤ 65537
   pub lines : t .lines ≤ 65537

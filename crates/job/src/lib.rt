@@ -3,10 +3,10 @@ ghost use mathlib.Core.Path.{_≡_};
 ghost use mathlib.Core.Bool.{true, false};
 ghost use Rattle.row.specs.Buffer.{hasRoom};
 ghost use Rattle.job.specs.Check.{Steps, Fills, startOf, isOver, lastOf};
+use bench::Bench;
 use listing::Tally;
 use listing::has_room;
 use listing::next_place;
-use machine::Machine;
 use work::Work;
 
 // What comes next: the header, the row of the next text line, or nothing any more.
@@ -37,10 +37,10 @@ pub struct Filled {
 
 impl Check {
     // The check of a job that begins at this machine.
-    pub fn start(machine: Machine) -> Check
-        ensures { λ r. ⌜ r ≡ startOf machine ⌝ }
+    pub fn start(bench: Bench) -> Check
+        ensures { λ r. ⌜ r ≡ startOf bench ⌝ }
     {
-        let tally = Tally::start(machine);
+        let tally = Tally::start(bench);
         Check {
             stage: Stage::Header,
             at: 0,
@@ -138,15 +138,15 @@ impl Check {
         let stage = self.stage;
         let tally = self.tally;
         let reader = tally.reader;
-        let machine = tally.machine;
-        let point = machine.at;
-        let work = machine.work;
+        let bench = tally.bench;
+        let point = bench.at;
+        let work = bench.work;
         match work {
             Work::Nothing => {
-                let idle = machine.moved(point, machine.remainder, Work::Nothing);
+                let idle = bench.moved(point, bench.remainder, Work::Nothing);
                 let same = Tally {
                     reader: reader,
-                    machine: idle,
+                    bench: idle,
                     lines: tally.lines,
                     blocks: tally.blocks,
                     cycles: tally.cycles,

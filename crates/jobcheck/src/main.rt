@@ -2,20 +2,20 @@
 ghost use mathlib.Core.Path.{_≡_};
 ghost use Rattle.settings.specs.Settings.{standardSettings};
 ghost use Rattle.job.specs.Check.{Lists};
+use bench::Bench;
 use input::Input;
 use job::Check;
 use libc::STDIN_FILENO;
 use libc::STDOUT_FILENO;
-use machine::Machine;
 use settings::standard;
 
 // What the check has to hand out is the listing, whatever the text.
 fn start() -> Check
     ensures { λ r. ⌜ Lists standardSettings r ⌝ }
 {
-    let made = Machine::make(standard());
-    let machine = made.machine;
-    Check::start(machine)
+    let made = Bench::make(standard());
+    let bench = made.bench;
+    Check::start(bench)
 }
 
 // Writes the listing in pieces. What fill promises makes them the listing, each in its turn. Answers whether all of it was written. For a

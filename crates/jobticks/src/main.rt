@@ -2,10 +2,10 @@
 ghost use mathlib.Core.Path.{_≡_};
 ghost use Rattle.settings.specs.Settings.{standardSettings};
 ghost use Rattle.tape.specs.Tape.{Tells};
+use bench::Bench;
 use input::Input;
 use libc::STDIN_FILENO;
 use libc::STDOUT_FILENO;
-use machine::Machine;
 use settings::standard;
 use tape::Tape;
 
@@ -13,9 +13,9 @@ use tape::Tape;
 fn start() -> Tape
     ensures { λ r. ⌜ Tells standardSettings r ⌝ }
 {
-    let made = Machine::make(standard());
-    let machine = made.machine;
-    Tape::start(machine)
+    let made = Bench::make(standard());
+    let bench = made.bench;
+    Tape::start(bench)
 }
 
 // Writes them in large pieces. What fill promises makes the pieces the tick bytes, each in its turn. Answers whether all were written.

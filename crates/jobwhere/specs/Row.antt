@@ -14,7 +14,7 @@ foundWord (Found.Refused number) = refusalOf number
 -- what is found; block, text line, ticks and cycles left; the point and the remainder; what is in work, in the eight words of a record
 abbrev pub rowOf : Sought → List ℤ
 rowOf a =
-    let m = a .machine in
+    let m = a .bench in
     let w = workWordsOf (m .work) in
     foundWord (a .found) ∷ wordOf (a .block) ∷ wordOf (a .line) ∷ wordOf (a .ticks) ∷ wordOf (a .left)
     ∷ m .at .x ∷ m .at .y ∷ wordOf (m .remainder)

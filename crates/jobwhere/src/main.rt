@@ -120,8 +120,8 @@ fn stands(s: Sought) -> Standing
     ensures { λ r. ⌜ r ≡ standingOf s ⌝ }
 {
     let found = s.found;
-    let machine = s.machine;
-    let at = machine.at;
+    let bench = s.bench;
+    let at = bench.at;
     Standing {
         found: found_word(found),
         block: word(s.block),
@@ -130,7 +130,7 @@ fn stands(s: Sought) -> Standing
         left: word(s.left),
         x: at.x,
         y: at.y,
-        remainder: word(machine.remainder),
+        remainder: word(bench.remainder),
     }
 }
 
@@ -160,8 +160,8 @@ fn join(s: Standing, w: WorkWords) -> [i64; 16]
 fn row(s: Sought) -> [i64; 16]
     ensures { λ r. ⌜ r ≡ rowOf s ⌝ }
 {
-    let machine = s.machine;
-    let work = machine.work;
+    let bench = s.bench;
+    let work = bench.work;
     let standing = stands(s);
     join(standing, work_words(work))
 }

@@ -12,7 +12,7 @@ use Rattle.line.specs.declared.line.Line.{Line}
 use Rattle.arc.specs.declared.arc.Arc.{Arc}
 use Rattle.work.specs.declared.Work.{Work}
 use Rattle.settings.specs.declared.Settings.{Settings}
-use Rattle.machine.specs.declared.Machine.{Machine}
+use Rattle.bench.specs.declared.Bench.{Bench}
 use Rattle.layout.specs.declared.encode.Head.{Head}
 use Rattle.layout.specs.declared.encode.WorkWords.{WorkWords}
 
@@ -50,7 +50,7 @@ workWordsOf (Work.Line l) =
 workWordsOf (Work.Arc a) =
     workWords (turnWord (a .turn)) (a .centre .x) (a .centre .y) (wordOf (a .square)) (a .end .x) (a .end .y) (wordOf (a .feed)) (pos 0)
 
-abbrev pub headOf : Machine → Head
+abbrev pub headOf : Bench → Head
 headOf m =
     record {
       p = wordOf (m .settings .scale);
@@ -71,7 +71,7 @@ wordsOf h w =
     abi ∷ h .p ∷ h .w ∷ h .xlo ∷ h .xhi ∷ h .ylo ∷ h .yhi ∷ h .x ∷ h .y ∷ h .mark ∷ h .remainder
     ∷ w .kind ∷ w .a ∷ w .b ∷ w .c ∷ w .d ∷ w .e ∷ w .f ∷ w .g ∷ []
 
-unfoldable pub encodeOf : Machine → List ℤ
+unfoldable pub encodeOf : Bench → List ℤ
 encodeOf m = wordsOf (headOf m) (workWordsOf (m .work))
 
 -- ---- and back: what the words tell, whatever they are
@@ -114,7 +114,7 @@ settingsOf p w xlo xhi ylo yhi =
 abbrev pub settingsIn : Head → Settings
 settingsIn h = settingsOf (h .p) (h .w) (h .xlo) (h .xhi) (h .ylo) (h .yhi)
 
-abbrev pub machineOf : Head → Work → Machine
+abbrev pub machineOf : Head → Work → Bench
 machineOf h work =
     record {
       settings = settingsIn h;
@@ -146,7 +146,7 @@ abbrev pub workWordsIn : List ℤ → WorkWords
 workWordsIn ws = workWords (at ws 11) (at ws 12) (at ws 13) (at ws 14) (at ws 15) (at ws 16) (at ws 17) (at ws 18)
 
 -- the machine that the words tell
-unfoldable pub machineIn : List ℤ → Machine
+unfoldable pub machineIn : List ℤ → Bench
 machineIn ws = machineOf (headIn ws) (workOf (workWordsIn ws))
 
 unfoldable pub sameWords : List ℤ → List ℤ → Bool

@@ -7,9 +7,9 @@ use crate::given::settings;
 use crate::number::count;
 use crate::right::words_right;
 use arc::arc::Arc;
+use bench::Bench;
 use circle::plane::Turn;
 use line::line::Line;
-use machine::Machine;
 use plane::point::Point;
 use settings::Settings;
 use work::Work;
@@ -96,13 +96,13 @@ fn settings_in(h: Head) -> Settings
     settings(h.p, h.w, h.xlo, h.xhi, h.ylo, h.yhi)
 }
 
-fn machine_of(h: Head, work: Work) -> Machine
+fn machine_of(h: Head, work: Work) -> Bench
     ensures { λ r. ⌜ r ≡ machineOf h work ⌝ }
 {
     let settings = settings_in(h);
     let at = Point { x: h.x, y: h.y };
     let mark = count(h.mark);
-    Machine {
+    Bench {
         settings: settings,
         at: at,
         held: mark == 1,
@@ -119,7 +119,7 @@ pub fn is_record(words: [i64; 19]) -> bool
 }
 
 // The machine that words tell, whatever they are.
-pub fn machine_in(words: [i64; 19]) -> Machine
+pub fn machine_in(words: [i64; 19]) -> Bench
     ensures { λ r. ⌜ r ≡ machineIn words ⌝ }
 {
     let work = work_of(work_words_in(words));

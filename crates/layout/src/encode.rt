@@ -3,9 +3,9 @@ ghost use mathlib.Core.Path.{_≡_};
 ghost use Rattle.layout.specs.Words.{markWord, turnWord, workWordsOf, headOf, wordsOf, encodeOf};
 use crate::number::word;
 use arc::arc::Arc;
+use bench::Bench;
 use circle::plane::Turn;
 use line::line::Line;
-use machine::Machine;
 use work::Work;
 
 // Word 0, the number of this layout.
@@ -112,7 +112,7 @@ pub fn work_words(work: Work) -> WorkWords
     }
 }
 
-fn head_words(m: Machine) -> Head
+fn head_words(m: Bench) -> Head
     ensures { λ r. ⌜ r ≡ headOf m ⌝ }
 {
     let settings = m.settings;
@@ -161,7 +161,7 @@ fn lay(h: Head, w: WorkWords) -> [i64; 19]
     ]
 }
 
-pub fn encode(m: Machine) -> [i64; 19]
+pub fn encode(m: Bench) -> [i64; 19]
     ensures { λ r. ⌜ r ≡ encodeOf m ⌝ }
 {
     let work = m.work;

@@ -10,7 +10,7 @@ use Rattle.row.specs.declared.lines.Place.{Place}
 use Rattle.row.specs.Buffer.{hasRoom, placed}
 use Rattle.row.specs.Lines.{blockLine, refusedLine}
 use Rattle.work.specs.declared.Work.{Work}
-use Rattle.machine.specs.declared.Machine.{Machine}
+use Rattle.bench.specs.declared.Bench.{Bench}
 use Rattle.finish.specs.Finish.{finishOf}
 use Rattle.reader.specs.declared.Reader.{Reader}
 use Rattle.reader.specs.declared.«text_line».Read.{Read}
@@ -20,8 +20,8 @@ use Rattle.listing.specs.declared.Tally.{Tally}
 use Rattle.listing.specs.declared.Listed.{Listed}
 
 -- nothing known, nothing read
-unfoldable pub startOf : Machine → Tally
-startOf m = record { reader = unknown; machine = m; lines = 0; blocks = 0; cycles = 0; ticks = 0 }
+unfoldable pub startOf : Bench → Tally
+startOf m = record { reader = unknown; bench = m; lines = 0; blocks = 0; cycles = 0; ticks = 0 }
 
 -- what a text line gives: the bytes of its row, whether the listing is over, and the tally after it
 pub record Given : Type 0 where
@@ -61,15 +61,15 @@ kindOf (Work.Line l) = Kind.Line
 kindOf (Work.Arc a) = Kind.Arc
 
 -- 01, The check program: "Each block is loaded once the one before has ended, remainder kept."
-unfoldable pub blockListed : Tally → Reader → (loaded : Machine) → (bits : ℕ) → Given
+unfoldable pub blockListed : Tally → Reader → (loaded : Bench) → (bits : ℕ) → Given
 blockListed t k m bits =
     let f = finishOf m in
     record {
-      bytes = blockLine (t .blocks + 1) (t .lines + 1) (kindOf (m .work)) (f .cycles) (f .machine .at .x) (f .machine .at .y) bits;
+      bytes = blockLine (t .blocks + 1) (t .lines + 1) (kindOf (m .work)) (f .cycles) (f .bench .at .x) (f .bench .at .y) bits;
       over = false;
       tally = record {
         reader = k;
-        machine = f .machine;
+        bench = f .bench;
         lines = t .lines + 1;
         blocks = t .blocks + 1;
         cycles = t .cycles + f .cycles;
@@ -78,18 +78,18 @@ blockListed t k m bits =
     }
 
 -- "At a refusal the rows so far stand and the last line is `line 3 refused 15` with its own numbers."
-abbrev pub listedWith : Tally → Reader → Machine → Read → Given
+abbrev pub listedWith : Tally → Reader → Bench → Read → Given
 listedWith t k m Read.Nothing =
-    record { bytes = []; over = false; tally = record { reader = k; machine = m; lines = t .lines + 1; blocks = t .blocks; cycles = t .cycles; ticks = t .ticks } }
+    record { bytes = []; over = false; tally = record { reader = k; bench = m; lines = t .lines + 1; blocks = t .blocks; cycles = t .cycles; ticks = t .ticks } }
 listedWith t k m (Read.Loaded bits) = blockListed t k m bits
 listedWith t k m (Read.Refused number) = record { bytes = refusedLine (t .lines + 1) number; over = true; tally = t }
 
 -- a tally that no text of 65,536 bytes can reach gets no row
 unfoldable pub listedOf : Tally → (line : List ℕ) → Given
 listedOf t line =
-    let r = readLineOf (t .reader) (t .machine) line in
+    let r = readLineOf (t .reader) (t .bench) line in
     cond (countsRight t)
-    (listedWith t (r .reader) (r .machine) (r .answer))
+    (listedWith t (r .reader) (r .bench) (r .answer))
     (record { bytes = []; over = true; tally = t })
 
 -- without room for a row nothing is read
@@ -109,5 +109,5 @@ bytesRead t line old at = cond (hasRoom old at && not (readOf t line old at .ove
 abbrev pub unreadOf : Tally → (at : ℕ) (over : Bool) → Listed
 unreadOf t at over = record { next = at; over = over; bytes = 0; tally = t }
 
-abbrev pub passedOf : Tally → Reader → Machine → (bytes at : ℕ) → Listed
+abbrev pub passedOf : Tally → Reader → Bench → (bytes at : ℕ) → Listed
 passedOf t k m bytes at = record { next = at; over = false; bytes = bytes; tally = listedWith t k m Read.Nothing .tally }

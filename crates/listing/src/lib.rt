@@ -5,14 +5,14 @@ ghost use mathlib.Core.Bool.{true};
 ghost use Prim.Native.Nat.{_+_, _≤_};
 ghost use lib.ListN.{length};
 ghost use lib.Dec.{leb};
-ghost use Rattle.machine.specs.Machine.{soundOf};
+ghost use Rattle.bench.specs.Bench.{soundOf};
 ghost use Rattle.words.specs.laws.Scan.{firstLine};
 ghost use Rattle.row.specs.Lines.{totalLine};
 ghost use Rattle.row.specs.Buffer.{hasRoom, bufferAfter, placeAfter};
 ghost use Rattle.listing.specs.Tally.{Gives, countsRight, kindOf, nextPlace, startOf, blockListed};
 ghost use Rattle.listing.specs.Tally.{Reads, bytesRead, unreadOf, passedOf};
+use bench::Bench;
 use finish::finish;
-use machine::Machine;
 use reader::Reader;
 use reader::text_line::Read;
 use reader::text_line::read_first;
@@ -23,7 +23,7 @@ use work::Work;
 pub struct Tally {
     pub reader: Reader,
     // Idle between lines: each block has ended before the next line is read.
-    pub machine: Machine,
+    pub bench: Bench,
     // Text lines read.
     pub lines: u64,
     // Totals of the blocks so far.
@@ -73,13 +73,13 @@ pub fn next_place(place: Place, at: usize) -> usize
 
 impl Tally {
     // Before the first line of a job at this machine.
-    pub fn start(machine: Machine) -> Tally
-        ensures { λ r. ⌜ r ≡ startOf machine ⌝ }
+    pub fn start(bench: Bench) -> Tally
+        ensures { λ r. ⌜ r ≡ startOf bench ⌝ }
     {
         let reader = Reader::start();
         Tally {
             reader: reader,
-            machine: machine,
+            bench: bench,
             lines: 0,
             blocks: 0,
             cycles: 0,
@@ -116,13 +116,13 @@ impl Tally {
     }
 
     // A line of so many bytes that makes no block: nothing is written.
-    fn passed(self, reader: Reader, machine: Machine, bytes: usize, at: usize) -> Listed
+    fn passed(self, reader: Reader, bench: Bench, bytes: usize, at: usize) -> Listed
         requires { ⌜ countsRight self ≡ true ⌝ }
-        ensures { λ r. ⌜ r ≡ passedOf self reader machine bytes at ⌝ }
+        ensures { λ r. ⌜ r ≡ passedOf self reader bench bytes at ⌝ }
     {
         let tally = Tally {
             reader: reader,
-            machine: machine,
+            bench: bench,
             lines: self.lines + 1,
             blocks: self.blocks,
             cycles: self.cycles,
@@ -140,7 +140,7 @@ impl Tally {
     fn block(
         self,
         reader: Reader,
-        loaded: Machine,
+        loaded: Bench,
         bits: u64,
         bytes: usize,
         out: &mut [u8],
@@ -152,8 +152,8 @@ impl Tally {
     {
         let done = finish(loaded);
         let work = loaded.work;
-        let machine = done.machine;
-        let end = machine.at;
+        let bench = done.bench;
+        let end = bench.at;
         let lines = self.lines + 1;
         let blocks = self.blocks + 1;
         let place = row::lines::block(
@@ -169,7 +169,7 @@ impl Tally {
         );
         let tally = Tally {
             reader: reader,
-            machine: machine,
+            bench: bench,
             lines: lines,
             blocks: blocks,
             cycles: self.cycles + done.cycles,
@@ -196,12 +196,12 @@ impl Tally {
         }
         let lines = self.lines + 1;
         let reader = self.reader;
-        let machine = self.machine;
-        let first = read_first(reader, machine, text);
+        let bench = self.bench;
+        let first = read_first(reader, bench, text);
         let r = first.read;
         let answer = r.answer;
         let next = r.reader;
-        let after = r.machine;
+        let after = r.bench;
         match answer {
             Read::Nothing => self.passed(next, after, first.bytes, at),
             Read::Loaded(bits) => self.block(next, after, bits, first.bytes, out, at),

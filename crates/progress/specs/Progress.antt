@@ -5,7 +5,7 @@ use mathlib.Core.List.{List, [], _∷_}
 use Prim.Native.Nat.{ℕ}
 use lib.Dec.{eqb}
 use lib.IntN.{ℤ, pos}
-use Rattle.machine.specs.declared.Machine.{Machine}
+use Rattle.bench.specs.declared.Bench.{Bench}
 use Rattle.listing.specs.declared.Tally.{Tally}
 use Rattle.job.specs.declared.Stage.{Stage}
 use Rattle.job.specs.declared.Check.{Check}
@@ -45,18 +45,18 @@ encodeProgress c = progressWords (progressOf c)
 abbrev pub stageOf : ℕ → Stage
 stageOf n = cond (eqb n 1) Stage.Lines (cond (eqb n 2) Stage.Over Stage.Header)
 
-abbrev pub tallyOf : Machine → Progress → Tally
+abbrev pub tallyOf : Bench → Progress → Tally
 tallyOf m p =
     record {
       reader = readerOf (p .known);
-      machine = m;
+      bench = m;
       lines = countOf (p .lines);
       blocks = countOf (p .blocks);
       cycles = countOf (p .cycles);
       ticks = countOf (p .ticks);
     }
 
-abbrev pub checkOf : Machine → Progress → Check
+abbrev pub checkOf : Bench → Progress → Check
 checkOf m p = record { stage = stageOf (countOf (p .stage)); at = countOf (p .at); tally = tallyOf m p }
 
 abbrev pub progressIn : List ℤ → Progress
@@ -72,10 +72,10 @@ progressIn ws =
     }
 
 -- the check at this machine that the words tell, if they are one's progress at all
-unfoldable pub checkIn : Machine → List ℤ → Check
+unfoldable pub checkIn : Bench → List ℤ → Check
 checkIn m ws = checkOf m (progressIn ws)
 
 -- Words are a check's progress if they are those of the check that they tell. So a stage above 2, a negative count, and a G or F that tells
 -- nothing make no progress.
-unfoldable pub decodeProgress : Machine → List ℤ → DecodedProgress
+unfoldable pub decodeProgress : Bench → List ℤ → DecodedProgress
 decodeProgress m ws = record { ok = sameWords ws (encodeProgress (checkIn m ws)); check = checkIn m ws }

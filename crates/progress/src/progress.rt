@@ -6,13 +6,13 @@ use crate::known::Known;
 use crate::known::known_of;
 use crate::known::known_right;
 use crate::known::reader_of;
+use bench::Bench;
 use job::Check;
 use job::Stage;
 use layout::number::count;
 use layout::number::is_count;
 use layout::number::word;
 use listing::Tally;
-use machine::Machine;
 use plane::travel::Range;
 use plane::travel::within;
 
@@ -113,14 +113,14 @@ fn progress_in(words: [i64; 8]) -> Progress
     }
 }
 
-fn tally_of(m: Machine, p: Progress) -> Tally
+fn tally_of(m: Bench, p: Progress) -> Tally
     ensures { λ r. ⌜ r ≡ tallyOf m p ⌝ }
 {
     let known = p.known;
     let reader = reader_of(known);
     Tally {
         reader: reader,
-        machine: m,
+        bench: m,
         lines: count(p.lines),
         blocks: count(p.blocks),
         cycles: count(p.cycles),
@@ -128,7 +128,7 @@ fn tally_of(m: Machine, p: Progress) -> Tally
     }
 }
 
-fn check_of(m: Machine, p: Progress) -> Check
+fn check_of(m: Bench, p: Progress) -> Check
     ensures { λ r. ⌜ r ≡ checkOf m p ⌝ }
 {
     let tally = tally_of(m, p);
@@ -171,7 +171,7 @@ fn progress_right(p: Progress) -> bool
     counts_right(p)
 }
 
-pub fn decode_progress(m: Machine, words: [i64; 8]) -> DecodedProgress
+pub fn decode_progress(m: Bench, words: [i64; 8]) -> DecodedProgress
     ensures { λ r. ⌜ r ≡ decodeProgress m words ⌝ }
 {
     let p = progress_in(words);

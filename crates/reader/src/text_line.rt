@@ -3,7 +3,7 @@ ghost use mathlib.Core.Path.{_≡_};
 ghost use mathlib.Core.Bool.{true};
 ghost use lib.ListN.{length};
 ghost use Rattle.words.specs.laws.Scan.{firstLine};
-ghost use Rattle.machine.specs.Machine.{soundOf};
+ghost use Rattle.bench.specs.Bench.{soundOf};
 ghost use Rattle.reader.specs.TextLine.{reads, still, takenOf, readWordsOf, readLineOf};
 ghost use Rattle.reader.specs.declared.«text_line».Read.the-variants.{Refused};
 ghost use Rattle.reader.specs.laws.Small.{Writable};
@@ -13,11 +13,11 @@ use crate::command::block_of;
 use crate::command::reader_after;
 use crate::questions::line_no;
 use crate::questions::moves;
+use bench::Answer;
+use bench::Bench;
+use bench::sound;
 use block::Block;
 use block::Path;
-use machine::Answer;
-use machine::Machine;
-use machine::sound;
 use plane::point::Point;
 use plane::point::is_same;
 use words::line::Line;
@@ -32,7 +32,7 @@ pub enum Read {
 pub struct ReadLine {
     pub answer: Read,
     pub reader: Reader,
-    pub machine: Machine,
+    pub bench: Bench,
 }
 
 // The same of a text's first line, and how many bytes that has without its LF.
@@ -52,18 +52,18 @@ fn stands_still(b: Block, at: Point) -> bool
     }
 }
 
-fn refused(k: Reader, m: Machine, number: u64) -> ReadLine
+fn refused(k: Reader, m: Bench, number: u64) -> ReadLine
     ensures { λ r. ⌜ r ≡ reads (Refused number) k m ⌝ }
 {
     ReadLine {
         answer: Read::Refused(number),
         reader: k,
-        machine: m,
+        bench: m,
     }
 }
 
 // The block of a line that passed its questions: k is the reader before it, next the one after it.
-fn take(k: Reader, next: Reader, m: Machine, b: Block) -> ReadLine
+fn take(k: Reader, next: Reader, m: Bench, b: Block) -> ReadLine
     requires { ⌜ soundOf m ≡ true ⌝ }
     ensures { λ r. ⌜ r ≡ takenOf k next m b ⌝ }
 {
@@ -72,29 +72,29 @@ fn take(k: Reader, next: Reader, m: Machine, b: Block) -> ReadLine
         return ReadLine {
             answer: Read::Nothing,
             reader: next,
-            machine: m,
+            bench: m,
         };
     }
     let a = m.load_sound(b);
     let answer = a.answer;
-    let after = a.machine;
+    let after = a.bench;
     match answer {
         Answer::Done => ReadLine {
             answer: Read::Nothing,
             reader: next,
-            machine: after,
+            bench: after,
         },
         Answer::Width(bits) => ReadLine {
             answer: Read::Loaded(bits),
             reader: next,
-            machine: after,
+            bench: after,
         },
         Answer::Refused(no) => refused(k, m, no),
     }
 }
 
 // What the words of a line of so many bytes ask of a sound record.
-fn read_words(k: Reader, m: Machine, bytes: u64, l: Line) -> ReadLine
+fn read_words(k: Reader, m: Bench, bytes: u64, l: Line) -> ReadLine
     requires { ⌜ (soundOf m ≡ true) × Writable (l .words) ⌝ }
     ensures { λ r. ⌜ r ≡ readWordsOf k m bytes l ⌝ }
 {
@@ -110,14 +110,14 @@ fn read_words(k: Reader, m: Machine, bytes: u64, l: Line) -> ReadLine
         return ReadLine {
             answer: Read::Nothing,
             reader: next,
-            machine: m,
+            bench: m,
         };
     }
     take(k, next, m, block_of(settings.scale, next, ws, at))
 }
 
 // The first line of a text; a record that is not sound gets 9.
-pub fn read_first(k: Reader, m: Machine, text: &[u8]) -> ReadFirst
+pub fn read_first(k: Reader, m: Bench, text: &[u8]) -> ReadFirst
     ensures { λ r. ⌜ r .read ≡ readLineOf k m (firstLine (now (text .entry))) ⌝ }
     ensures { λ r. ⌜ r .bytes ≡ length (firstLine (now (text .entry))) ⌝ }
 {
@@ -139,7 +139,7 @@ pub fn read_first(k: Reader, m: Machine, text: &[u8]) -> ReadFirst
 }
 
 // The number that bytes with an LF among them get: they are no line of words.
-fn broken_no(m: Machine, bytes: usize) -> u64
+fn broken_no(m: Bench, bytes: usize) -> u64
     ensures { λ r. ⌜ r ≡ brokenNo m bytes ⌝ }
 {
     let settings = m.settings;
@@ -152,7 +152,7 @@ fn broken_no(m: Machine, bytes: usize) -> u64
 }
 
 // A line alone, likewise. It is its own first line, where it has no LF.
-pub fn read_line(k: Reader, m: Machine, line: &[u8]) -> ReadLine
+pub fn read_line(k: Reader, m: Bench, line: &[u8]) -> ReadLine
     ensures { λ r. ⌜ r ≡ readLineOf k m (now (line .entry)) ⌝ }
 {
     let first = read_first(k, m, line);

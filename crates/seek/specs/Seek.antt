@@ -7,9 +7,9 @@ use lib.Dec.{leb, ltb}
 use lib.ListN.{length}
 use Rattle.work.specs.Work.{cyclesLeft}
 use Rattle.settings.specs.declared.Settings.{Settings}
-use Rattle.machine.specs.declared.Machine.{Machine}
-use Rattle.machine.specs.Calls.{makeOf}
-use Rattle.machine.specs.Run.{runOf}
+use Rattle.bench.specs.declared.Bench.{Bench}
+use Rattle.bench.specs.Calls.{makeOf}
+use Rattle.bench.specs.Run.{runOf}
 use Rattle.ahead.specs.Ahead.{tickingOf}
 use Rattle.reader.specs.declared.Reader.{Reader}
 use Rattle.reader.specs.declared.«text_line».Read.{Read}
@@ -21,40 +21,40 @@ use Rattle.seek.specs.declared.Found.{Found}
 use Rattle.seek.specs.declared.Sought.{Sought}
 
 -- the cycles that a block in work has left to its end
-abbrev pub leftIn : Found → Machine → ℕ
+abbrev pub leftIn : Found → Bench → ℕ
 leftIn Found.InWork m = cyclesLeft (m .at) (m .work)
 leftIn Found.Over m = 0
 leftIn (Found.Refused number) m = 0
 
 -- The block in work and its text line, counted from 1, and the ticks done of it. Else how many blocks have ended, how many lines there are
 -- or which is refused, and the ticks left over.
-abbrev pub answer : Found → (block line n : ℕ) → Machine → Sought
-answer found block line n m = record { found = found; block = block; line = line; ticks = n; left = leftIn found m; machine = m }
+abbrev pub answer : Found → (block line n : ℕ) → Bench → Sought
+answer found block line n m = record { found = found; block = block; line = line; ticks = n; left = leftIn found m; bench = m }
 
 -- A block newly in work, with n ticks to go. Where its run to the end does more, it is still in work after n tick calls: 02 §1, "the record
 -- .. that the same ticks would give on a copy". Else the job goes on where that run leaves the machine, also where it does just n.
-abbrev pub afterBlock : (block line n : ℕ) → Machine → (rest : (n : ℕ) → Machine → Sought) → Sought
+abbrev pub afterBlock : (block line n : ℕ) → Bench → (rest : (n : ℕ) → Bench → Sought) → Sought
 afterBlock block line n m rest =
     let x = runOf m enough enough .ran in
-    cond (ltb n (x .ticks)) (answer Found.InWork block line n (tickingOf n m .machine)) (rest (n - x .ticks) (x .machine))
+    cond (ltb n (x .ticks)) (answer Found.InWork block line n (tickingOf n m .bench)) (rest (n - x .ticks) (x .bench))
 
 -- what a line's reading answers, with so many blocks before it
-abbrev pub afterLine : (blocks line n : ℕ) → Machine → Read → (rest : (blocks n : ℕ) → Machine → Sought) → Sought
+abbrev pub afterLine : (blocks line n : ℕ) → Bench → Read → (rest : (blocks n : ℕ) → Bench → Sought) → Sought
 afterLine blocks line n m Read.Nothing rest = rest blocks n m
 afterLine blocks line n m (Read.Loaded bits) rest = afterBlock (blocks + 1) line n m (rest (blocks + 1))
 afterLine blocks line n m (Read.Refused number) rest = answer (Found.Refused number) blocks line n m
 
 -- 01, The check program: "Each block is loaded once the one before has ended, remainder kept." After the last line the job is over, with
 -- n ticks left. So many blocks and lines stand before these.
-unfoldable pub seekFrom : (blocks lines n : ℕ) → Machine → Reader → (rest : List (List ℕ)) → Sought
+unfoldable pub seekFrom : (blocks lines n : ℕ) → Bench → Reader → (rest : List (List ℕ)) → Sought
 seekFrom blocks lines n m k [] = answer Found.Over blocks lines n m
 seekFrom blocks lines n m k (l ∷ ls) =
     let r = readLineOf k m l in
-    afterLine blocks (lines + 1) n (r .machine) (r .answer) (λ blocks′ n′ m′. seekFrom blocks′ (lines + 1) n′ m′ (r .reader) ls)
+    afterLine blocks (lines + 1) n (r .bench) (r .answer) (λ blocks′ n′ m′. seekFrom blocks′ (lines + 1) n′ m′ (r .reader) ls)
 
 -- The job begins at the machine that a make with these settings answers: a fresh one, also where it refuses them.
 -- "is the text at most 65,536 bytes (asked once, line 1)? 30."
 unfoldable pub seekOf : Settings → (text : List ℕ) (n : ℕ) → Sought
 seekOf s text n =
-    let m = makeOf s .machine in
+    let m = makeOf s .bench in
     cond (leb (length text) 65536) (seekFrom 0 0 n m unknown (linesOf text)) (answer (Found.Refused 30) 0 1 n m)

@@ -2,12 +2,12 @@
 // blocks before it are finished, and the record after some of its own ticks is found, by closed forms. The cost grows with the text alone.
 ghost use mathlib.Core.Path.{_≡_};
 ghost use mathlib.Core.Bool.{true};
-ghost use Rattle.machine.specs.Machine.{soundOf};
+ghost use Rattle.bench.specs.Bench.{soundOf};
 ghost use Rattle.seek.specs.Seek.{seekOf};
 ghost use Rattle.seek.specs.laws.Search.{Counted, Tested, startOf, passedOf, blockOf, refusedOf, lineOf};
 use ahead::after_ticks;
+use bench::Bench;
 use finish::finish;
-use machine::Machine;
 use reader::Reader;
 use reader::text_line::Read;
 use reader::text_line::ReadLine;
@@ -32,7 +32,7 @@ pub struct Sought {
     pub ticks: u64,
     // The cycles that the block in work has left to its end; else 0.
     pub left: u64,
-    pub machine: Machine,
+    pub bench: Bench,
 }
 
 // A search between two lines. `sought` is the answer where the text ends there, or whatever follows once it is decided.
@@ -46,8 +46,8 @@ impl Search {
     fn start(settings: Settings, ticks: u64) -> Search
         ensures { λ r. ⌜ r ≡ startOf settings ticks ⌝ }
     {
-        let made = Machine::make(settings);
-        let machine = made.machine;
+        let made = Bench::make(settings);
+        let bench = made.bench;
         let reader = Reader::start();
         let sought = Sought {
             found: Found::Over,
@@ -55,7 +55,7 @@ impl Search {
             line: 0,
             ticks: ticks,
             left: 0,
-            machine: machine,
+            bench: bench,
         };
         Search {
             decided: false,
@@ -65,9 +65,9 @@ impl Search {
     }
 
     // The next line makes no block.
-    fn passed(self, reader: Reader, machine: Machine) -> Search
+    fn passed(self, reader: Reader, bench: Bench) -> Search
         requires { ⌜ Counted self ⌝ }
-        ensures { λ r. ⌜ r ≡ passedOf self reader machine ⌝ }
+        ensures { λ r. ⌜ r ≡ passedOf self reader bench ⌝ }
     {
         let s = self.sought;
         let next = Sought {
@@ -76,7 +76,7 @@ impl Search {
             line: s.line + 1,
             ticks: s.ticks,
             left: 0,
-            machine: machine,
+            bench: bench,
         };
         Search {
             decided: false,
@@ -86,7 +86,7 @@ impl Search {
     }
 
     // The next line brought a block into work: the one sought, or it ends with ticks left over.
-    fn block(self, reader: Reader, loaded: Machine) -> Search
+    fn block(self, reader: Reader, loaded: Bench) -> Search
         requires { ⌜ Counted self × (soundOf loaded ≡ true) ⌝ }
         ensures { λ r. ⌜ r ≡ blockOf self reader loaded ⌝ }
     {
@@ -104,17 +104,17 @@ impl Search {
                 line: s.line + 1,
                 ticks: s.ticks,
                 left: left.cycles,
-                machine: then,
+                bench: then,
             }
         } else {
-            let ended = done.machine;
+            let ended = done.bench;
             Sought {
                 found: Found::Over,
                 block: s.block + 1,
                 line: s.line + 1,
                 ticks: s.ticks - done.ticks,
                 left: 0,
-                machine: ended,
+                bench: ended,
             }
         };
         Search {
@@ -124,9 +124,9 @@ impl Search {
         }
     }
 
-    fn refused(self, machine: Machine, number: u64) -> Search
+    fn refused(self, bench: Bench, number: u64) -> Search
         requires { ⌜ Counted self ⌝ }
-        ensures { λ r. ⌜ r ≡ refusedOf self machine number ⌝ }
+        ensures { λ r. ⌜ r ≡ refusedOf self bench number ⌝ }
     {
         let reader = self.reader;
         let s = self.sought;
@@ -136,7 +136,7 @@ impl Search {
             line: s.line + 1,
             ticks: s.ticks,
             left: 0,
-            machine: machine,
+            bench: bench,
         };
         Search {
             decided: true,
@@ -150,12 +150,12 @@ impl Search {
         ensures { λ r. ⌜ r ≡ lineOf self read ⌝ }
     {
         let reader = read.reader;
-        let machine = read.machine;
+        let bench = read.bench;
         let answer = read.answer;
         match answer {
-            Read::Nothing => self.passed(reader, machine),
-            Read::Loaded(_) => self.block(reader, machine),
-            Read::Refused(number) => self.refused(machine, number),
+            Read::Nothing => self.passed(reader, bench),
+            Read::Loaded(_) => self.block(reader, bench),
+            Read::Refused(number) => self.refused(bench, number),
         }
     }
 }
@@ -167,15 +167,15 @@ pub fn seek(settings: Settings, text: &[u8], ticks: u64) -> Sought
     let mut search = Search::start(settings, ticks);
     if 65_536 < text.len() {
         let begun = search.sought;
-        let machine = begun.machine;
-        let long = search.refused(machine, 30);
+        let bench = begun.bench;
+        let long = search.refused(bench, 30);
         return long.sought;
     }
     let mut at = 0;
     while at < text.len() {
         let known = search.reader;
         let stood = search.sought;
-        let before = stood.machine;
+        let before = stood.bench;
         let first = read_first(known, before, &text[at..]);
         let read = first.read;
         search = search.line(read);

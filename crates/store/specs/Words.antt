@@ -2,7 +2,7 @@
 use mathlib.Core.Bool.{Bool, _&&_}
 use mathlib.Core.List.{List}
 use lib.IntN.{ℤ}
-use Rattle.machine.specs.Machine.{soundOf}
+use Rattle.bench.specs.Bench.{soundOf}
 use Rattle.layout.specs.Words.{machineIn, isRecord}
 
 -- "Any call on a record: is it sound? 9.": they are a record, and it is sound

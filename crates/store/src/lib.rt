@@ -3,13 +3,13 @@
 ghost use mathlib.Core.Path.{_≡_};
 ghost use Rattle.store.specs.Words.{soundWords};
 ghost use Rattle.store.specs.Store.{setMark, setPlace, setWork, setDone, storedOf, stoppedOf};
+use bench::sound;
 use layout::decode::is_record;
 use layout::decode::machine_in;
 use layout::encode::WorkWords;
 use layout::encode::mark_word;
 use layout::encode::nothing_words;
 use layout::number::word;
-use machine::sound;
 use plane::point::Point;
 use work::Work;
 

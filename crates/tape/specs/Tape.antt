@@ -5,10 +5,10 @@ use mathlib.Core.List.{List, [], _∷_, _++_}
 use Prim.Native.Nat.{ℕ, _+_, _-_, _≤_, _<_}
 use lib.Dec.{leb}
 use lib.ListN.{length, take, drop}
-use Rattle.machine.specs.declared.Machine.{Machine}
+use Rattle.bench.specs.declared.Bench.{Bench}
 use Rattle.settings.specs.declared.Settings.{Settings}
-use Rattle.machine.specs.Machine.{freshOf}
-use Rattle.machine.specs.Run.{runOf}
+use Rattle.bench.specs.Bench.{freshOf}
+use Rattle.bench.specs.Run.{runOf}
 use Rattle.reader.specs.declared.Reader.{Reader}
 use Rattle.reader.specs.declared.«text_line».Read.{Read}
 use Rattle.reader.specs.TextLine.{readLineOf}
@@ -22,8 +22,8 @@ use Rattle.tape.specs.declared.Filled.{Filled}
 -- ---- the tick bytes of a text
 
 -- a run to the end of what is in work, and then what follows at the machine that it leaves
-abbrev pub runThen : Machine → (rest : Machine → List ℕ) → List ℕ
-runThen m rest = let x = runOf m enough enough in x .bytes ++ rest (x .ran .machine)
+abbrev pub runThen : Bench → (rest : Bench → List ℕ) → List ℕ
+runThen m rest = let x = runOf m enough enough in x .bytes ++ rest (x .ran .bench)
 
 abbrev pub isRefused : Read → Bool
 isRefused Read.Nothing = false
@@ -31,12 +31,12 @@ isRefused (Read.Loaded bits) = false
 isRefused (Read.Refused number) = true
 
 -- 01, The check program: "Each block is loaded once the one before has ended, remainder kept." A refused line is the last.
-unfoldable pub bytesFrom : Machine → Reader → (lines : List (List ℕ)) → List ℕ
+unfoldable pub bytesFrom : Bench → Reader → (lines : List (List ℕ)) → List ℕ
 bytesFrom m k [] = []
-bytesFrom m k (l ∷ ls) = let r = readLineOf k m l in unless (isRefused (r .answer)) (runThen (r .machine) (λ m′. bytesFrom m′ (r .reader) ls))
+bytesFrom m k (l ∷ ls) = let r = readLineOf k m l in unless (isRefused (r .answer)) (runThen (r .bench) (λ m′. bytesFrom m′ (r .reader) ls))
 
 -- "is the text at most 65,536 bytes (asked once, line 1)? 30."
-abbrev pub linesBytes : Machine → Reader → (at : ℕ) (text : List ℕ) → List ℕ
+abbrev pub linesBytes : Bench → Reader → (at : ℕ) (text : List ℕ) → List ℕ
 linesBytes m k at text = cond (leb (length text) 65536) (bytesFrom m k (linesOf (drop at text))) []
 
 -- from a machine made fresh with these settings
@@ -45,12 +45,12 @@ tickBytesOf s text = linesBytes (freshOf s) unknown 0 text
 
 -- ---- what is still to come
 
-unfoldable pub startOf : Machine → Tape
-startOf m = record { over = false; at = 0; reader = unknown; machine = m }
+unfoldable pub startOf : Bench → Tape
+startOf m = record { over = false; at = 0; reader = unknown; bench = m }
 
 -- the bytes of the block in work, and of those that the lines make from `at` on
 unfoldable pub restOf : Tape → (text : List ℕ) → List ℕ
-restOf t text = unless (t .over) (runThen (t .machine) (λ m. linesBytes m (t .reader) (t .at) text))
+restOf t text = unless (t .over) (runThen (t .bench) (λ m. linesBytes m (t .reader) (t .at) text))
 
 -- whatever the text, what is to come are its tick bytes
 abbrev pub Tells : Settings → Tape → Type 0
@@ -59,17 +59,17 @@ Tells s t = (text : List ℕ) → restOf t text ≡ tickBytesOf s text
 -- ---- what a call hands out
 
 abbrev pub endedOf : Tape → Tape
-endedOf t = record { over = true; at = t .at; reader = t .reader; machine = t .machine }
+endedOf t = record { over = true; at = t .at; reader = t .reader; bench = t .bench }
 
-abbrev pub atMachine : Tape → Machine → Tape
-atMachine t m = record { over = t .over; at = t .at; reader = t .reader; machine = m }
+abbrev pub atMachine : Tape → Bench → Tape
+atMachine t m = record { over = t .over; at = t .at; reader = t .reader; bench = m }
 
 -- a line that is read, of which at most so many are left
 abbrev pub linesLeft : Tape → (size : ℕ) → ℕ
 linesLeft t size = cond (t .over) 0 (1 + (size - t .at))
 
 pub record NextLine (t : Tape) (text : List ℕ) (r : Tape) : Type 0 where
-  pub rest : restOf r text ≡ linesBytes (t .machine) (t .reader) (t .at) text
+  pub rest : restOf r text ≡ linesBytes (t .bench) (t .reader) (t .at) text
   pub fewer : linesLeft r (length text) < linesLeft t (length text)
 
 -- A buffer's first bytes are the next tick bytes, and its later ones keep their contents. How many it takes is free; one that holds a byte takes at

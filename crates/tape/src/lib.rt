@@ -2,7 +2,7 @@
 ghost use mathlib.Core.Path.{_≡_};
 ghost use mathlib.Core.Bool.{false};
 ghost use Rattle.tape.specs.Tape.{NextLine, Fills, isRefused, startOf, endedOf, atMachine};
-use machine::Machine;
+use bench::Bench;
 use reader::Reader;
 use reader::text_line::Read;
 use reader::text_line::read_first;
@@ -17,7 +17,7 @@ pub struct Tape {
     pub at: usize,
     pub reader: Reader,
     // The block in work, if there is one, has bytes to come before the next line is read.
-    pub machine: Machine,
+    pub bench: Bench,
 }
 
 // What a buffer got: its first `len` bytes, and how far the tape has come with them.
@@ -38,15 +38,15 @@ fn is_refused(answer: Read) -> bool
 
 impl Tape {
     // The tick bytes of a job that begins at this machine.
-    pub fn start(machine: Machine) -> Tape
-        ensures { λ r. ⌜ r ≡ startOf machine ⌝ }
+    pub fn start(bench: Bench) -> Tape
+        ensures { λ r. ⌜ r ≡ startOf bench ⌝ }
     {
         let reader = Reader::start();
         Tape {
             over: false,
             at: 0,
             reader: reader,
-            machine: machine,
+            bench: bench,
         }
     }
 
@@ -58,15 +58,15 @@ impl Tape {
         next
     }
 
-    fn at_machine(self, machine: Machine) -> Tape
-        ensures { λ r. ⌜ r ≡ atMachine self machine ⌝ }
+    fn at_machine(self, bench: Bench) -> Tape
+        ensures { λ r. ⌜ r ≡ atMachine self bench ⌝ }
     {
         let reader = self.reader;
         Tape {
             over: self.over,
             at: self.at,
             reader: reader,
-            machine: machine,
+            bench: bench,
         }
     }
 
@@ -83,20 +83,20 @@ impl Tape {
             return self.ended();
         }
         let reader = self.reader;
-        let machine = self.machine;
-        let first = read_first(reader, machine, &text[at..]);
+        let bench = self.bench;
+        let first = read_first(reader, bench, &text[at..]);
         let r = first.read;
         let answer = r.answer;
         if is_refused(answer) {
             return self.ended();
         }
         let known = r.reader;
-        let loaded = r.machine;
+        let loaded = r.bench;
         Tape {
             over: false,
             at: at + first.bytes + 1,
             reader: known,
-            machine: loaded,
+            bench: loaded,
         }
     }
 
@@ -109,10 +109,10 @@ impl Tape {
         }
         let mut tape = self;
         while !tape.over {
-            let machine = tape.machine;
-            let ran = machine.run(ENOUGH, out);
+            let bench = tape.bench;
+            let ran = bench.run(ENOUGH, out);
             if 0 < ran.ticks {
-                let after = ran.machine;
+                let after = ran.bench;
                 return Filled {
                     len: ran.ticks as usize,
                     tape: tape.at_machine(after),

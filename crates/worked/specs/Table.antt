@@ -28,9 +28,9 @@ use Rattle.block.specs.Charge.{blockCharge}
 use Rattle.work.specs.Work.{workAlong}
 use Rattle.run.specs.Run.{Strip, stripOf}
 use Rattle.settings.specs.declared.Settings.{Settings}
-use Rattle.machine.specs.declared.Answer.{Answer}
-use Rattle.machine.specs.Machine.{freshOf}
-use Rattle.machine.specs.Calls.{loadOf}
+use Rattle.bench.specs.declared.Answer.{Answer}
+use Rattle.bench.specs.Bench.{freshOf}
+use Rattle.bench.specs.Calls.{loadOf}
 
 abbrev pub at : (x y : ℤ) → Point
 at x y = record { x = x; y = y }

@@ -2,7 +2,7 @@
 use borrow.Author.Needs.{needs}
 use mathlib.Core.Path.{sym, _∙_}
 use borrow.Author.Tests.{not-true, not-false}
-use Rattle.machine.specs.laws.Sound.{sound}
+use Rattle.bench.specs.laws.Sound.{sound}
 use Rattle.finish.specs.laws.Record.{AtWork, at-work, works}
 use Rattle.ahead.specs.laws.Ticks.{ticking-rests, ticking-works}
 use Rattle.ahead.proofs.after_ticks.Statement.{statement}

@@ -3,7 +3,7 @@ use borrow.Author.Needs.{needs}
 use mathlib.Core.Path.{_≡_, sym, _∙_}
 use mathlib.Core.Bool.{true}
 use borrow.Author.Tests.{not-true, not-false}
-use Rattle.machine.specs.Machine.{soundOf}
+use Rattle.bench.specs.Bench.{soundOf}
 use Rattle.ahead.specs.laws.Ahead.{unsound}
 use Rattle.ahead.proofs.look_ahead.Statement.{statement}
 use Rattle.ahead.proofs.look_ahead.Tie as tie

@@ -24,7 +24,7 @@ way-requires : tie.Need-way-requires
 way-requires c κs =
     let e = c .before .before .before .before in
     let s = e .args in
-    let there = sound-near (tickingOf (s .ticks) (s .m) .machine) (ticking-sound (s .ticks) (s .m) (e .pre)) in
+    let there = sound-near (tickingOf (s .ticks) (s .m) .bench) (ticking-sound (s .ticks) (s .m) (e .pre)) in
     (sound-near (s .m) (e .pre), rw (c .before .after-ticks .ensures) there)
 
 returns-2 : tie.Need-returns-2

@@ -12,9 +12,9 @@ use Rattle.plane.specs.laws.Travel.{inside}
 use Rattle.arc.specs.Centre.{Near}
 use Rattle.arc.specs.laws.Work.{travel-near}
 use Rattle.settings.specs.laws.Right.{settings-right}
-use Rattle.machine.specs.declared.Machine.{Machine}
-use Rattle.machine.specs.Machine.{soundOf}
-use Rattle.machine.specs.laws.Sound.{sound}
+use Rattle.bench.specs.declared.Bench.{Bench}
+use Rattle.bench.specs.Bench.{soundOf}
+use Rattle.bench.specs.laws.Sound.{sound}
 use Rattle.ahead.specs.declared.Sums.{Sums}
 use Rattle.ahead.specs.declared.Ahead.{Ahead}
 use Rattle.ahead.specs.Ahead.{tickingOf, looked, refusing, mostTicks, aheadOf, wayOf}
@@ -22,10 +22,10 @@ use Rattle.ahead.specs.laws.Sums.{ticking-leads, leads-way}
 use Rattle.ahead.specs.laws.Ticks.{ticking-sound, ticking-adds}
 
 -- a sound record's point is in travel
-pub sound-near : (m : Machine) → soundOf m ≡ true → Near 1000000 (m .at)
+pub sound-near : (m : Bench) → soundOf m ≡ true → Near 1000000 (m .at)
 sound-near m e = let s = sound e in travel-near (settings-right (m .settings) (s .settings) .wide) (inside (s .in-travel))
 
-module _ (m : Machine) (n : ℕ) where
+module _ (m : Bench) (n : ℕ) where
   pub looks : soundOf m ≡ true → n ≤ mostTicks → aheadOf m n ≡ looked m (tickingOf n m)
   unfolding aheadOf
   looks sound most = rw (sound, le-leb n mostTicks most)
@@ -51,8 +51,8 @@ module _ (m : Machine) (n : ℕ) where
       by false most s l = refused 9
 
   -- "The machine itself comes back unchanged."
-  pub unchanged : aheadOf m n .machine ≡ m
-  unchanged = either (λ a. a .machine ≡ m) (λ s l. refl) (λ k. refl)
+  pub unchanged : aheadOf m n .bench ≡ m
+  unchanged = either (λ a. a .bench ≡ m) (λ s l. refl) (λ k. refl)
 
   -- so a caller may go on with it
   pub then-sound : soundOf m ≡ true → soundOf (aheadOf m n .then) ≡ true
@@ -69,7 +69,7 @@ module _ (m : Machine) (n : ℕ) where
       nowhere p = λ i. record { x = stays (p .x) i; y = stays (p .y) i }
 
 -- ahead of s + t is ahead of t after ahead of s, with the same answer, for any record
-pub ahead-adds : (s t : ℕ) (m : Machine) → s + t ≤ mostTicks
+pub ahead-adds : (s t : ℕ) (m : Bench) → s + t ≤ mostTicks
     → (let far = aheadOf m (s + t) in
     let next = aheadOf (aheadOf m s .then) t in
     (far .answer ≡ next .answer) × (far .then ≡ next .then))
@@ -81,7 +81,7 @@ ahead-adds s t m most = by (soundOf m) refl
         (far .answer ≡ next .answer) × (far .then ≡ next .then))
     by true e =
         let first = looks m s e (omega arith) in
-        let mid = tickingOf s m .machine in
+        let mid = tickingOf s m .bench in
         rw (looks m (s + t) e most, first, looks mid t (ticking-sound s m e) (omega arith)) (refl, ticking-adds s t m)
     by false e = rw (unsound m (s + t) e, unsound m s e, unsound m t e) (refl, refl)
 
@@ -89,12 +89,12 @@ ahead-adds s t m most = by (soundOf m) refl
 abbrev pub both : Sums → Sums → Sums
 both a b = record { x = a .x +ℤ b .x; y = a .y +ℤ b .y }
 
-pub sums-add : (s t : ℕ) (m : Machine) → s + t ≤ mostTicks
+pub sums-add : (s t : ℕ) (m : Bench) → s + t ≤ mostTicks
     → aheadOf m (s + t) .sums ≡ both (aheadOf m s .sums) (aheadOf (aheadOf m s .then) t .sums)
 sums-add s t m most =
     let mid = aheadOf m s .then in
     let far = aheadOf mid t .then in
-    sums-are m (s + t) ∙ ap (λ (k : Machine). wayOf (m .at) (k .at)) (ahead-adds s t m most .1)
+    sums-are m (s + t) ∙ ap (λ (k : Bench). wayOf (m .at) (k .at)) (ahead-adds s t m most .1)
     ∙ over (m .at) (mid .at) (far .at) ∙ sym (λ i. both (sums-are m s i) (sums-are mid t i))
   where
     axis : (u v w : ℤ) → w -ℤ u ≡ (v -ℤ u) +ℤ (w -ℤ v)

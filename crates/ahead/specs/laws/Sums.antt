@@ -24,11 +24,11 @@ use Rattle.work.specs.declared.Work.{Work}
 use Rattle.work.specs.Work.{isNothing, workSound, lineCycle, arcCycle, cycleOf, dueOf, addedOf, advanceBy, advanceOf}
 use Rattle.work.specs.laws.Sound.{line-work, arc-work}
 use Rattle.settings.specs.Settings.{capacityOf}
-use Rattle.machine.specs.declared.Machine.{Machine}
-use Rattle.machine.specs.declared.Tick.{Tick}
-use Rattle.machine.specs.Machine.{soundOf, movedOf}
-use Rattle.machine.specs.Calls.{ticks, working, tickOf}
-use Rattle.machine.specs.laws.Sound.{sound}
+use Rattle.bench.specs.declared.Bench.{Bench}
+use Rattle.bench.specs.declared.Tick.{Tick}
+use Rattle.bench.specs.Bench.{soundOf, movedOf}
+use Rattle.bench.specs.Calls.{ticks, working, tickOf}
+use Rattle.bench.specs.laws.Sound.{sound}
 use Rattle.keeps.specs.laws.Calls.{tick-keeps}
 use Rattle.book.specs.Sums.{pulsesIn}
 use Rattle.book.specs.laws.Byte.{sent-one, onward}
@@ -99,14 +99,14 @@ module _ (q0 : ℕ) (t : Travel) (at : Point) where
       by true = cycle-leads w here e
       by false = leads-zero at
 
-tick-leads : (m : Machine) → soundOf m ≡ true → Leads (m .at) (inFront (tickOf m .tick) []) (tickOf m .machine .at)
+tick-leads : (m : Bench) → soundOf m ≡ true → Leads (m .at) (inFront (tickOf m .tick) []) (tickOf m .bench .at)
 unfolding tickOf movedOf
 tick-leads m e = rw e (by (m .held || isNothing (m .work)))
   where
     by : (still : Bool)
         → (let a = advanceOf (capacityOf (m .settings)) (m .at) (m .remainder) (m .work) in
         let k = cond still (ticks (Tick.Byte 0) m) (working m a) in
-        Leads (m .at) (inFront (k .tick) []) (k .machine .at))
+        Leads (m .at) (inFront (k .tick) []) (k .bench .at))
     by true = leads-zero (m .at)
     by false =
         let s = sound e in
@@ -130,11 +130,11 @@ after-tick {from} (Tick.Refused n) bytes h g =
       y = g .y ∙ ap (λ (z : ℤ). z +ℤ pulsesIn codeY bytes) (h .y ∙ +ℤ-idr (from .y));
     }
 
-pub ticking-leads : (n : ℕ) (m : Machine) → soundOf m ≡ true → Leads (m .at) (tickingOf n m .bytes) (tickingOf n m .machine .at)
+pub ticking-leads : (n : ℕ) (m : Bench) → soundOf m ≡ true → Leads (m .at) (tickingOf n m .bytes) (tickingOf n m .bench .at)
 unfolding tickingOf
 ticking-leads zero m e = leads-none (m .at)
 ticking-leads (suc n) m e =
-    let next = tickOf m .machine in
+    let next = tickOf m .bench in
     after-tick (tickOf m .tick) (tickingOf n next .bytes) (tick-leads m e) (ticking-leads n next (tick-keeps m e))
 
 -- so the sum is the way

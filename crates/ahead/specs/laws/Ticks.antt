@@ -9,12 +9,12 @@ use Rattle.work.specs.declared.Advance.{Advance}
 use Rattle.work.specs.Work.{isNothing, advanceOf}
 use Rattle.run.specs.Run.{Strip, inFront, stripOf}
 use Rattle.settings.specs.Settings.{capacityOf}
-use Rattle.machine.specs.declared.Machine.{Machine}
-use Rattle.machine.specs.declared.Tick.{Tick}
-use Rattle.machine.specs.declared.Ticked.{Ticked}
-use Rattle.machine.specs.Machine.{soundOf, movedOf}
-use Rattle.machine.specs.Calls.{ticks, working, tickOf}
-use Rattle.machine.specs.laws.Calls.{tick-works}
+use Rattle.bench.specs.declared.Bench.{Bench}
+use Rattle.bench.specs.declared.Tick.{Tick}
+use Rattle.bench.specs.declared.Ticked.{Ticked}
+use Rattle.bench.specs.Bench.{soundOf, movedOf}
+use Rattle.bench.specs.Calls.{ticks, working, tickOf}
+use Rattle.bench.specs.laws.Calls.{tick-works}
 use Rattle.keeps.specs.laws.Calls.{tick-keeps}
 use Rattle.finish.specs.Finish.{worksOf}
 use Rattle.finish.specs.laws.Record.{AtWork}
@@ -23,31 +23,31 @@ use Rattle.ahead.specs.Ahead.{inFront as tickInFront}
 
 -- ---- any sound record
 
-pub ticking-sound : (n : ℕ) (m : Machine) → soundOf m ≡ true → soundOf (tickingOf n m .machine) ≡ true
+pub ticking-sound : (n : ℕ) (m : Bench) → soundOf m ≡ true → soundOf (tickingOf n m .bench) ≡ true
 unfolding tickingOf
 ticking-sound zero m e = e
-ticking-sound (suc n) m e = ticking-sound n (tickOf m .machine) (tick-keeps m e)
+ticking-sound (suc n) m e = ticking-sound n (tickOf m .bench) (tick-keeps m e)
 
-pub ticking-adds : (s t : ℕ) (m : Machine) → tickingOf (s + t) m .machine ≡ tickingOf t (tickingOf s m .machine) .machine
+pub ticking-adds : (s t : ℕ) (m : Bench) → tickingOf (s + t) m .bench ≡ tickingOf t (tickingOf s m .bench) .bench
 unfolding tickingOf
-ticking-adds zero t m = let none : 0 + t ≡ t = omega arith in ap (λ (n : ℕ). tickingOf n m .machine) none
+ticking-adds zero t m = let none : 0 + t ≡ t = omega arith in ap (λ (n : ℕ). tickingOf n m .bench) none
 ticking-adds (suc s) t m =
     let one : suc s + t ≡ suc (s + t) = omega arith in
-    ap (λ (n : ℕ). tickingOf n m .machine) one ∙ ticking-adds s t (tickOf m .machine)
+    ap (λ (n : ℕ). tickingOf n m .bench) one ∙ ticking-adds s t (tickOf m .bench)
 
 -- ---- idle or held
 
-module _ (m : Machine) (e : soundOf m ≡ true) (still : m .held || isNothing (m .work) ≡ true) where
+module _ (m : Bench) (e : soundOf m ≡ true) (still : m .held || isNothing (m .work) ≡ true) where
   tick-still : tickOf m ≡ ticks (Tick.Byte 0) m
   unfolding tickOf
   tick-still = rw (e, still)
 
-  ticking-still : (n : ℕ) → tickingOf n m .machine ≡ m
+  ticking-still : (n : ℕ) → tickingOf n m .bench ≡ m
   unfolding tickingOf
   ticking-still zero = refl
-  ticking-still (suc n) = ap (λ (k : Machine). tickingOf n k .machine) (rw tick-still) ∙ ticking-still n
+  ticking-still (suc n) = ap (λ (k : Bench). tickingOf n k .bench) (rw tick-still) ∙ ticking-still n
 
-pub ticking-rests : (n : ℕ) (m : Machine) → soundOf m ≡ true → worksOf m ≡ false → tickingOf n m .machine ≡ m
+pub ticking-rests : (n : ℕ) (m : Bench) → soundOf m ≡ true → worksOf m ≡ false → tickingOf n m .bench ≡ m
 unfolding worksOf
 ticking-rests n m e rests = ticking-still m e (by (m .held) (isNothing (m .work)) (rw e at rests)) n
   where
@@ -58,19 +58,19 @@ ticking-rests n m e rests = ticking-still m e (by (m .held) (isNothing (m .work)
 
 -- ---- at work
 
-abbrev pub leftBy : Machine → Strip → Machine
+abbrev pub leftBy : Bench → Strip → Bench
 leftBy m s = movedOf m (s .at) (s .remainder) (s .work)
 
 -- the bytes and the record of so many working ticks, or fewer where the block ends
-abbrev pub ticksOf : Machine → (most : ℕ) → Strip
+abbrev pub ticksOf : Bench → (most : ℕ) → Strip
 ticksOf m most = stripOf (capacityOf (m .settings)) most (m .at) (m .remainder) (m .work)
 
 -- one working tick
-module _ (m : Machine) where
+module _ (m : Bench) where
   abbrev next : Advance
   next = advanceOf (capacityOf (m .settings)) (m .at) (m .remainder) (m .work)
 
-  abbrev moved : Machine
+  abbrev moved : Bench
   moved = movedOf m (next .at) (next .remainder) (next .work)
 
   module _ (a : AtWork m) where
@@ -78,17 +78,17 @@ module _ (m : Machine) where
     tick = tick-works m (a .sound) (a .free) (a .busy) refl
 
     kept : soundOf moved ≡ true
-    kept = subst (λ (t : Ticked). soundOf (t .machine) ≡ true) (sym tick) (tick-keeps m (a .sound))
+    kept = subst (λ (t : Ticked). soundOf (t .bench) ≡ true) (sym tick) (tick-keeps m (a .sound))
 
     working-on : isNothing (next .work) ≡ false → AtWork moved
     unfolding movedOf
     working-on busy = record { sound = kept; free = a .free; busy = busy }
 
-pub ticking-works : (n : ℕ) (m : Machine) → AtWork m → tickingOf n m .machine ≡ leftBy m (ticksOf m n)
+pub ticking-works : (n : ℕ) (m : Bench) → AtWork m → tickingOf n m .bench ≡ leftBy m (ticksOf m n)
 unfolding tickingOf stripOf movedOf
 ticking-works zero m a = refl
 ticking-works (suc n) m a =
-    ap (λ (t : Ticked). tickingOf n (t .machine) .machine) (sym (tick m a))
+    ap (λ (t : Ticked). tickingOf n (t .bench) .bench) (sym (tick m a))
     ∙ by (isNothing (next m .work)) refl (λ busy. ticking-works n (moved m) (working-on m a busy))
   where
     -- the ticks after a block's end are idle ones
@@ -100,19 +100,19 @@ ticking-works (suc n) m a =
     rest = ticksOf (moved m) n
 
     by : (ended : Bool) → isNothing (next m .work) ≡ ended
-        → (isNothing (next m .work) ≡ false → tickingOf n (moved m) .machine ≡ leftBy m rest)
-        → tickingOf n (moved m) .machine ≡ leftBy m (inFront ended (next m) rest)
+        → (isNothing (next m .work) ≡ false → tickingOf n (moved m) .bench ≡ leftBy m rest)
+        → tickingOf n (moved m) .bench ≡ leftBy m (inFront ended (next m) rest)
     by true none later = ticking-still (moved m) (kept m a) (idle (m .held) (isNothing (next m .work)) none) n
     by false more later = later more
 
 -- the bytes of the first ticks are the first of the run's
-pub ticking-bytes : (n most : ℕ) (m : Machine) → AtWork m → n ≤ length (ticksOf m most .bytes)
+pub ticking-bytes : (n most : ℕ) (m : Bench) → AtWork m → n ≤ length (ticksOf m most .bytes)
     → tickingOf n m .bytes ≡ take n (ticksOf m most .bytes)
 unfolding tickingOf stripOf movedOf
 ticking-bytes zero most m a few = refl
 ticking-bytes (suc n) zero m a few = absurd (omega arith)
 ticking-bytes (suc n) (suc most) m a few =
-    ap (λ (t : Ticked). tickInFront (t .tick) (tickingOf n (t .machine) .bytes)) (sym (tick m a))
+    ap (λ (t : Ticked). tickInFront (t .tick) (tickingOf n (t .bench) .bytes)) (sym (tick m a))
     ∙ by (isNothing (next m .work)) refl few (λ busy. ticking-bytes n most (moved m) (working-on m a busy))
   where
     rest : Strip

@@ -29,16 +29,16 @@ use Rattle.work.specs.Work.{isNothing, advanceOf}
 use Rattle.run.specs.Run.{Strip, stripOf, written}
 use Rattle.settings.specs.declared.Settings.{Settings}
 use Rattle.settings.specs.Settings.{capacityOf, settingsNo, standardSettings}
-use Rattle.machine.specs.declared.Machine.{Machine}
-use Rattle.machine.specs.declared.Answer.{Answer}
-use Rattle.machine.specs.declared.Answered.{Answered}
-use Rattle.machine.specs.declared.Tick.{Tick}
-use Rattle.machine.specs.declared.Ticked.{Ticked}
-use Rattle.machine.specs.declared.Report.{Report}
-use Rattle.machine.specs.declared.Ran.{Ran}
-use Rattle.machine.specs.Machine.{soundOf, freshOf, movedOf}
-use Rattle.machine.specs.Calls.{answers, makeWith, makeOf, loadWith, loadOf, ticks, working, tickOf, markedOf, holdOf, releaseOf, stopOf}
-use Rattle.machine.specs.Run.{reportOf, ranOver, noTick, runOf}
+use Rattle.bench.specs.declared.Bench.{Bench}
+use Rattle.bench.specs.declared.Answer.{Answer}
+use Rattle.bench.specs.declared.Answered.{Answered}
+use Rattle.bench.specs.declared.Tick.{Tick}
+use Rattle.bench.specs.declared.Ticked.{Ticked}
+use Rattle.bench.specs.declared.Report.{Report}
+use Rattle.bench.specs.declared.Ran.{Ran}
+use Rattle.bench.specs.Bench.{soundOf, freshOf, movedOf}
+use Rattle.bench.specs.Calls.{answers, makeWith, makeOf, loadWith, loadOf, ticks, working, tickOf, markedOf, holdOf, releaseOf, stopOf}
+use Rattle.bench.specs.Run.{reportOf, ranOver, noTick, runOf}
 use Rattle.book.specs.Book.{Reply}
 use Rattle.ahead.specs.declared.Ahead.{Ahead}
 use Rattle.ahead.specs.Ahead.{tickingOf, looked, refusing, aheadOf}
@@ -58,12 +58,12 @@ make-says : (s : Settings) (n : ℕ) → Says n (answerReply (makeWith s n .answ
 make-says s zero = refl
 make-says s (suc n) = refl
 
-make-kept : (s : Settings) (n : ℕ) → (n ≡ 0 → ⊥) → makeWith s n .machine ≡ freshOf standardSettings
+make-kept : (s : Settings) (n : ℕ) → (n ≡ 0 → ⊥) → makeWith s n .bench ≡ freshOf standardSettings
 make-kept s zero some = absurd (some refl)
 make-kept s (suc n) some = refl
 
 pub make-answers : (s : Settings) (r : Answered) → Makes s r
-    → AsAsked (settingsQuestions s) (answerReply (r .answer)) (r .machine ≡ freshOf standardSettings)
+    → AsAsked (settingsQuestions s) (answerReply (r .answer)) (r .bench ≡ freshOf standardSettings)
 unfolding makeOf
 make-answers s r e =
     let n = settingsNo s in
@@ -87,7 +87,7 @@ centre-is o = (
     by zero (suc b) f = rw (ne-eqb (suc b) 0 (λ e. omega arith))
     by (suc a) b f = rw (ne-eqb (suc a) 0 (λ e. omega arith))
 
-module _ (m : Machine) (b : Block) where
+module _ (m : Bench) (b : Block) where
   -- question 14 bounds N, so question 15 is the circle's alone
   end-is : (centre : Offset) → CentreRight centre
       → (onCircle (squareOf centre) (seenFrom (backFrom (m .at) centre) (b .end)) ≡ true) ↔ EndOnCircle m b centre
@@ -123,7 +123,7 @@ module _ (m : Machine) (b : Block) where
   load-says zero = refl
   load-says (suc n) = refl
 
-  load-kept : (n : ℕ) → (n ≡ 0 → ⊥) → loadWith m b n .machine ≡ m
+  load-kept : (n : ℕ) → (n ≡ 0 → ⊥) → loadWith m b n .bench ≡ m
   load-kept zero some = absurd (some refl)
   load-kept (suc n) some = refl
 
@@ -141,12 +141,12 @@ module _ (m : Machine) (b : Block) where
   unfolding loadOf
   load-is = load-by (soundOf m) loadNumber
 
-  pub load-answers : (r : Answered) → Loads m b r → AsAsked (loadQuestions m b) (answerReply (r .answer)) (r .machine ≡ m)
+  pub load-answers : (r : Answered) → Loads m b r → AsAsked (loadQuestions m b) (answerReply (r .answer)) (r .bench ≡ m)
   load-answers r e = rw (e ∙ load-is) (judged load-number load-verdict (load-says load-number) (load-kept load-number))
 
 -- ---- the other calls on a record
 
-module _ (m : Machine) where
+module _ (m : Bench) where
   sound-verdict : Verdict (soundQuestion m none) (ask (soundOf m) 0 9)
   sound-verdict = asked (soundOf m) 8 (sound-is m) (λ _. none-asked)
 
@@ -162,28 +162,28 @@ module _ (m : Machine) where
       by false v = judged 9 v no-says (λ some. same)
 
   abbrev Same : Answered → Type 0
-  Same r = r .machine ≡ m
+  Same r = r .bench ≡ m
 
   abbrev says : Answered → Reply
   says r = answerReply (r .answer)
 
-  pub hold-answers : (r : Answered) → Holds m r → AsAsked (soundQuestion m none) (answerReply (r .answer)) (r .machine ≡ m)
+  pub hold-answers : (r : Answered) → Holds m r → AsAsked (soundQuestion m none) (answerReply (r .answer)) (r .bench ≡ m)
   unfolding holdOf
   hold-answers r e = by-sound says Same (answers Answer.Done (markedOf m true)) (answers (Answer.Refused 9) m) refl refl refl r e
 
-  pub release-answers : (r : Answered) → Releases m r → AsAsked (soundQuestion m none) (answerReply (r .answer)) (r .machine ≡ m)
+  pub release-answers : (r : Answered) → Releases m r → AsAsked (soundQuestion m none) (answerReply (r .answer)) (r .bench ≡ m)
   unfolding releaseOf
   release-answers r e = by-sound says Same (answers Answer.Done (markedOf m false)) (answers (Answer.Refused 9) m) refl refl refl r e
 
-  pub stop-answers : (r : Answered) → Stops m r → AsAsked (soundQuestion m none) (answerReply (r .answer)) (r .machine ≡ m)
+  pub stop-answers : (r : Answered) → Stops m r → AsAsked (soundQuestion m none) (answerReply (r .answer)) (r .bench ≡ m)
   unfolding stopOf
   stop-answers r e =
       by-sound says Same (answers Answer.Done (movedOf m (m .at) 0 Work.Nothing)) (answers (Answer.Refused 9) m) refl refl refl r e
 
-  pub tick-answers : (r : Ticked) → Ticks m r → AsAsked (soundQuestion m none) (tickReply (r .tick)) (r .machine ≡ m)
+  pub tick-answers : (r : Ticked) → Ticks m r → AsAsked (soundQuestion m none) (tickReply (r .tick)) (r .bench ≡ m)
   unfolding tickOf
   tick-answers r e =
-      by-sound (λ r. tickReply (r .tick)) (λ r. r .machine ≡ m) _ (ticks (Tick.Refused 9) m)
+      by-sound (λ r. tickReply (r .tick)) (λ r. r .bench ≡ m) _ (ticks (Tick.Refused 9) m)
       (by (m .held || isNothing (m .work))) refl refl r e
     where
       by : (still : Bool)
@@ -195,13 +195,13 @@ module _ (m : Machine) where
       by false = refl
 
   pub run-answers : (κs : Lfts 1) (budget : ℕ) (out out′ : RefT (List ℕ)) (r : Ran) → Runs κs m budget out out′ r
-      → AsAsked (soundQuestion m none) (ranReply r (now out′)) ((r .machine ≡ m) × (r .ticks ≡ 0) × (now out′ ≡ now out))
+      → AsAsked (soundQuestion m none) (ranReply r (now out′)) ((r .bench ≡ m) × (r .ticks ≡ 0) × (now out′ ≡ now out))
   unfolding runOf written
   run-answers κs budget out out′ r h =
       rw (h .1, h .0)
       (by-sound
       (λ k. runReply (k .ran .report) (k .ran .ticks) (take (k .ran .ticks) (written (k .bytes) (now out))))
-      (λ k. (k .ran .machine ≡ m) × (k .ran .ticks ≡ 0) × (written (k .bytes) (now out) ≡ now out))
+      (λ k. (k .ran .bench ≡ m) × (k .ran .ticks ≡ 0) × (written (k .bytes) (now out) ≡ now out))
       (cond (isNothing (m .work)) (noTick m Report.Idle) (cond (m .held) (noTick m Report.Held) (ranOver m budget strip)))
       (noTick m (Report.Refused 9))
       (by (isNothing (m .work)) (m .held)) refl (refl, refl, refl) (runOf m budget (length (now out))) refl)
@@ -223,7 +223,7 @@ module _ (m : Machine) where
 
 -- ---- a look-ahead
 
-module _ (m : Machine) (ticks : ℕ) where
+module _ (m : Bench) (ticks : ℕ) where
   look-verdict : Verdict (lookQuestions m ticks) (ask (soundOf m) (ask (leb ticks 1000000) 0 38) 9)
   look-verdict =
       asked (soundOf m) 8 (sound-is m) (λ _.

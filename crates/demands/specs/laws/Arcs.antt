@@ -44,12 +44,12 @@ use Rattle.work.specs.declared.Work.{Work}
 use Rattle.work.specs.Work.{isNothing, following, arcCycle, cycleOf, dueOf, cyclesLeft, advanceOf}
 use Rattle.run.specs.laws.Idle.{idle-tick, cycle-tick}
 use Rattle.settings.specs.Settings.{capacityOf}
-use Rattle.machine.specs.declared.Machine.{Machine}
-use Rattle.machine.specs.declared.Answered.{Answered}
-use Rattle.machine.specs.declared.Tick.{Tick}
-use Rattle.machine.specs.declared.Ticked.{Ticked}
-use Rattle.machine.specs.Machine.{movedOf}
-use Rattle.machine.specs.Calls.{ticks, working, tickOf}
+use Rattle.bench.specs.declared.Bench.{Bench}
+use Rattle.bench.specs.declared.Answered.{Answered}
+use Rattle.bench.specs.declared.Tick.{Tick}
+use Rattle.bench.specs.declared.Ticked.{Ticked}
+use Rattle.bench.specs.Bench.{movedOf}
+use Rattle.bench.specs.Calls.{ticks, working, tickOf}
 use Rattle.keeps.specs.laws.Calls.{tick-keeps}
 use Rattle.book.specs.Sums.{cyclesMarked}
 use Rattle.history.specs.Contracts.{Loads, Ticks}
@@ -66,11 +66,11 @@ use Rattle.demands.specs.laws.Lines.{loaded, tick-of, work-of}
 -- ---- load
 
 -- question 14 has a yes
-offset-asked : (m : Machine) (b : Block) (turn : Turn) (centre : Offset) → b .path ≡ Path.Arc turn centre → AllYes (loadQuestions m b)
+offset-asked : (m : Bench) (b : Block) (turn : Turn) (centre : Offset) → b .path ≡ Path.Arc turn centre → AllYes (loadQuestions m b)
     → CentreRight centre
 offset-asked m b turn centre e all = subst (λ (p : Path). AllYes (pathQuestions m b p)) e (all .1 .1 .1 .1) .0
 
-pub arc-loaded : (m : Machine) (b : Block) (r : Answered) → Loads m b r → AllYes (loadQuestions m b) → (turn : Turn) (centre : Offset)
+pub arc-loaded : (m : Bench) (b : Block) (r : Answered) → Loads m b r → AllYes (loadQuestions m b) → (turn : Turn) (centre : Offset)
     → b .path ≡ Path.Arc turn centre
     → ArcLoaded m b turn centre r
 unfolding arcOf arcWidth
@@ -78,7 +78,7 @@ arc-loaded m b r h all turn centre e =
     let t = loaded m b r h all (Path.Arc turn centre) e in
     let right = offset-asked m b turn centre e all in
     record {
-      machine = ap (λ (r : Answered). r .machine) t;
+      bench = ap (λ (r : Answered). r .bench) t;
       axis = nearestRoot (squareOf centre);
       on-axis = λ n. axis-circle (squareOf centre) n (square-some centre (offset-right centre (centre-is centre .1 right)));
       width = ap (λ (r : Answered). r .answer) t;
@@ -122,7 +122,7 @@ module _ (a : Arc) (at : Point) (here : Circle (a .square) (seenFrom (a .centre)
 
 -- ---- a tick
 
-module _ (m : Machine) (a : Arc) (here : Circle (a .square) (seenFrom (a .centre) (m .at))) where
+module _ (m : Bench) (a : Arc) (here : Circle (a .square) (seenFrom (a .centre) (m .at))) where
   abbrev q0 : ℕ
   q0 = capacityOf (m .settings)
 
@@ -154,7 +154,7 @@ module _ (m : Machine) (a : Arc) (here : Circle (a .square) (seenFrom (a .centre
         → working m (advanceOf q0 (m .at) (m .remainder) (Work.Arc a)) ≡ arcCycled step ended (following ended (Work.Arc a))
     tick-ended ended e = tick-given ∙ ap (λ (b : Bool). arcCycled step b (following b (Work.Arc a))) e
 
-pub arc-tick : (m : Machine) (a : Arc) (r : Ticked) → Ticks m r → Sound m → m .work ≡ Work.Arc a → m .held ≡ false → ArcTick m a r
+pub arc-tick : (m : Bench) (a : Arc) (r : Ticked) → Ticks m r → Sound m → m .work ≡ Work.Arc a → m .held ≡ false → ArcTick m a r
 arc-tick m a r h s work free =
     let t = tick-of m (Work.Arc a) r h s work refl free in
     let here = work-of m (Work.Arc a) s work .point in
@@ -171,7 +171,7 @@ arc-tick m a r h s work free =
 
 -- ---- the cycles left
 
-pub arc-left : (m : Machine) (a : Arc) → Sound m → m .work ≡ Work.Arc a
+pub arc-left : (m : Bench) (a : Arc) → Sound m → m .work ≡ Work.Arc a
     → Ends (a .square) (a .turn) (seenFrom (a .centre) (m .at)) (seenFrom (a .centre) (a .end)) (cyclesLeft (m .at) (m .work))
 unfolding arcCycles
 arc-left m a s work =
@@ -181,7 +181,7 @@ arc-left m a s work =
 
 -- ---- and their charges
 
-pub arc-charges : (m : Machine) (a : Arc) → Sound m → m .work ≡ Work.Arc a → ArcCharges m a
+pub arc-charges : (m : Bench) (a : Arc) → Sound m → m .work ≡ Work.Arc a → ArcCharges m a
 unfolding chargesIn arcAfter afterOf
 arc-charges m a s work =
     let here = work-of m (Work.Arc a) s work .point in
@@ -205,11 +205,11 @@ arc-charges m a s work =
 -- ---- the walk
 
 -- the arc is in work, or has ended
-abbrev Going : Arc → Machine → Type 0
+abbrev Going : Arc → Bench → Type 0
 Going a m = (m .work ≡ Work.Arc a) ⊎ (m .work ≡ Work.Nothing)
 
 -- a tick stays, or goes to the next point
-data Steps (a : Arc) (m : Machine) (byte : ℕ) (m′ : Machine) : Type 0 where
+data Steps (a : Arc) (m : Bench) (byte : ℕ) (m′ : Bench) : Type 0 where
   stays : cycleMark byte ≡ 0 → m′ .at ≡ m .at → Going a m′ → Steps a m byte m′
   steps : cycleMark byte ≡ 1 → Next (a .square) (a .turn) (seenFrom (a .centre) (m .at)) (seenFrom (a .centre) (m′ .at)) → Going a m′
       → Steps a m byte m′
@@ -219,13 +219,13 @@ byteOf (Tick.Byte b) = b
 byteOf (Tick.Refused n) = 0
 
 -- idle or held: the byte is 0, and the record stays
-resting : (a : Arc) (m : Machine) (r : Ticked) (byte : ℕ) → r ≡ ticks (Tick.Byte 0) m → r .tick ≡ Tick.Byte byte → Going a m
-    → Steps a m byte (r .machine)
+resting : (a : Arc) (m : Bench) (r : Ticked) (byte : ℕ) → r ≡ ticks (Tick.Byte 0) m → r .tick ≡ Tick.Byte byte → Going a m
+    → Steps a m byte (r .bench)
 resting a m r byte e b g =
     let none : 0 ≡ byte = ap byteOf (sym (ap (λ (r : Ticked). r .tick) e) ∙ b) in
-    stays (sym (ap cycleMark none)) (ap (λ (r : Ticked). r .machine .at) e) (subst (λ (r : Ticked). Going a (r .machine)) (sym e) g)
+    stays (sym (ap cycleMark none)) (ap (λ (r : Ticked). r .bench .at) e) (subst (λ (r : Ticked). Going a (r .bench)) (sym e) g)
 
-pub idle-rest : (m : Machine) → Sound m → m .work ≡ Work.Nothing → tickOf m ≡ ticks (Tick.Byte 0) m
+pub idle-rest : (m : Bench) → Sound m → m .work ≡ Work.Nothing → tickOf m ≡ ticks (Tick.Byte 0) m
 unfolding tickOf
 idle-rest m s e = rw (sound-is m .1 s, ap isNothing e) (by (m .held))
   where
@@ -235,7 +235,7 @@ idle-rest m s e = rw (sound-is m .1 s, ap isNothing e) (by (m .held))
     by true = refl
     by false = refl
 
-pub held-rest : (m : Machine) → Sound m → m .held ≡ true → tickOf m ≡ ticks (Tick.Byte 0) m
+pub held-rest : (m : Bench) → Sound m → m .held ≡ true → tickOf m ≡ ticks (Tick.Byte 0) m
 unfolding tickOf
 held-rest m s e = rw (sound-is m .1 s, e)
 
@@ -243,42 +243,42 @@ marks : (p : Pulses) (ended : Bool) → (p .x ≤ 2) × (p .y ≤ 2) → cycleMa
 marks p ended small = told-codes p ended (small .0) (small .1) .cycle
 
 -- a working tick of an arc
-working-step : (m : Machine) (a : Arc) (r : Ticked) (byte : ℕ) → ArcTick m a r → r .tick ≡ Tick.Byte byte → Steps a m byte (r .machine)
+working-step : (m : Bench) (a : Arc) (r : Ticked) (byte : ℕ) → ArcTick m a r → r .tick ≡ Tick.Byte byte → Steps a m byte (r .bench)
 unfolding movedOf
 working-step m a r byte t b = by (leb (arcDue (t .step)) (arcSum m a)) refl
   where
     stepped : (ended : Bool) (work : Work) → r ≡ arcCycled (t .step) ended work → (work ≡ Work.Arc a) ⊎ (work ≡ Work.Nothing)
-        → Steps a m byte (r .machine)
+        → Steps a m byte (r .bench)
     stepped ended work k going =
         let mark = ap cycleMark (ap byteOf (sym b ∙ ap (λ (r : Ticked). r .tick) k)) ∙ marks (t .step .pulses) ended (t .step .small) in
-        subst (λ (r : Ticked). Steps a m byte (r .machine)) (sym k) (steps mark (t .step .next) going)
+        subst (λ (r : Ticked). Steps a m byte (r .bench)) (sym k) (steps mark (t .step .next) going)
 
-    cycled : arcDue (t .step) ≤ arcSum m a → (end : Bool) → equalPoint (t .step .at) (a .end) ≡ end → Steps a m byte (r .machine)
+    cycled : arcDue (t .step) ≤ arcSum m a → (end : Bool) → equalPoint (t .step .at) (a .end) ≡ end → Steps a m byte (r .bench)
     cycled due true f = stepped true Work.Nothing (t .last due (equal-point _ _ f)) (inr refl)
     cycled due false f =
         stepped false (Work.Arc a)
         (t .going due (λ q. subst T (sym (equal-itself (a .end)) ∙ ap (λ (p : Point). equalPoint p (a .end)) (sym q) ∙ f) tt)) (inl refl)
 
-    by : (due : Bool) → leb (arcDue (t .step)) (arcSum m a) ≡ due → Steps a m byte (r .machine)
+    by : (due : Bool) → leb (arcDue (t .step)) (arcSum m a) ≡ due → Steps a m byte (r .bench)
     by false e =
         let k = t .waits (leb-false _ _ e) in
         let none : 0 ≡ byte = ap byteOf (sym (ap (λ (r : Ticked). r .tick) k) ∙ b) in
-        stays (sym (ap cycleMark none)) (ap (λ (r : Ticked). r .machine .at) k) (inl (ap (λ (r : Ticked). r .machine .work) k))
+        stays (sym (ap cycleMark none)) (ap (λ (r : Ticked). r .bench .at) k) (inl (ap (λ (r : Ticked). r .bench .work) k))
     by true e = cycled (leb-true _ _ e) (equalPoint (t .step .at) (a .end)) refl
 
-one-step : (a : Arc) (m : Machine) (r : Ticked) (byte : ℕ) → Ticks m r → Sound m → r .tick ≡ Tick.Byte byte → Going a m
-    → Steps a m byte (r .machine)
+one-step : (a : Arc) (m : Bench) (r : Ticked) (byte : ℕ) → Ticks m r → Sound m → r .tick ≡ Tick.Byte byte → Going a m
+    → Steps a m byte (r .bench)
 one-step a m r byte h s b (inr idle) = resting a m r byte (h ∙ idle-rest m s idle) b (inr idle)
 one-step a m r byte h s b (inl work) = by (m .held) refl
   where
-    by : (held : Bool) → m .held ≡ held → Steps a m byte (r .machine)
+    by : (held : Bool) → m .held ≡ held → Steps a m byte (r .bench)
     by true e = resting a m r byte (h ∙ held-rest m s e) b (inl work)
     by false e = working-step m a r byte (arc-tick m a r h s work e) b
 
-still-sound : (m : Machine) (r : Ticked) → Ticks m r → Sound m → Sound (r .machine)
-still-sound m r h s = subst (λ (r : Ticked). Sound (r .machine)) (sym h) (sound-is (tickOf m .machine) .0 (tick-keeps m (sound-is m .1 s)))
+still-sound : (m : Bench) (r : Ticked) → Ticks m r → Sound m → Sound (r .bench)
+still-sound m r h s = subst (λ (r : Ticked). Sound (r .bench)) (sym h) (sound-is (tickOf m .bench) .0 (tick-keeps m (sound-is m .1 s)))
 
-walks : (a : Arc) (p : Offset) {m m′ : Machine} {bytes : List ℕ} → TicksTo m bytes m′ → (c : ℕ) → Sound m → Going a m
+walks : (a : Arc) (p : Offset) {m m′ : Bench} {bytes : List ℕ} → TicksTo m bytes m′ → (c : ℕ) → Sound m → Going a m
     → Walk (a .square) (a .turn) p c (seenFrom (a .centre) (m .at))
     → Walk (a .square) (a .turn) p (c + cyclesMarked bytes) (seenFrom (a .centre) (m′ .at))
 walks a p {m} TicksTo.none c s g w =
@@ -287,8 +287,8 @@ walks a p {m} TicksTo.none c s g w =
 walks a p {m} {m′} (TicksTo.one {bytes = bytes} r byte h b rest) c s g w =
     by (one-step a m r byte h s b g) (λ c g w. walks a p rest c (still-sound m r h s) g w)
   where
-    by : Steps a m byte (r .machine)
-        → ((c : ℕ) → Going a (r .machine) → Walk (a .square) (a .turn) p c (seenFrom (a .centre) (r .machine .at))
+    by : Steps a m byte (r .bench)
+        → ((c : ℕ) → Going a (r .bench) → Walk (a .square) (a .turn) p c (seenFrom (a .centre) (r .bench .at))
         → Walk (a .square) (a .turn) p (c + cyclesMarked bytes) (seenFrom (a .centre) (m′ .at)))
         → Walk (a .square) (a .turn) p (c + (cycleMark byte + cyclesMarked bytes)) (seenFrom (a .centre) (m′ .at))
     by (stays mark same on) later =
@@ -300,7 +300,7 @@ walks a p {m} {m′} (TicksTo.one {bytes = bytes} r byte h b rest) c s g w =
         subst (λ (n : ℕ). Walk (a .square) (a .turn) p n (seenFrom (a .centre) (m′ .at))) sum
         (later (suc c) on (seenFrom (a .centre) (m .at), w, after))
 
-pub arc-walk : (m m′ : Machine) (a : Arc) (bytes : List ℕ) → Sound m → m .work ≡ Work.Arc a → TicksTo m bytes m′
+pub arc-walk : (m m′ : Bench) (a : Arc) (bytes : List ℕ) → Sound m → m .work ≡ Work.Arc a → TicksTo m bytes m′
     → Walk (a .square) (a .turn) (seenFrom (a .centre) (m .at)) (cyclesMarked bytes) (seenFrom (a .centre) (m′ .at))
 arc-walk m m′ a bytes s work t =
     let same : 0 + cyclesMarked bytes ≡ cyclesMarked bytes = omega arith in

@@ -1,7 +1,7 @@
 -- What the calls do where no question refuses them.
 use mathlib.Core.Path.{ap, _∙_}
-use Rattle.machine.specs.Machine.{freshOf, movedOf}
-use Rattle.machine.specs.Calls.{makeWith, makeOf, holdOf, releaseOf, stopOf}
+use Rattle.bench.specs.Bench.{freshOf, movedOf}
+use Rattle.bench.specs.Calls.{makeWith, makeOf, holdOf, releaseOf, stopOf}
 use Rattle.demands.specs.Calls.{EveryCall}
 use Rattle.demands.specs.laws.Sound.{sound-is, settings-pass}
 use Rattle.demands.specs.laws.TextLine.{line-taken}

@@ -14,20 +14,20 @@ use contract.Lifetimes.{Lfts}
 use Rattle.whole.specs.laws.Test.{both, joined, refuted}
 use Rattle.block.specs.declared.Block.{Block}
 use Rattle.settings.specs.declared.Settings.{Settings}
-use Rattle.machine.specs.declared.Machine.{Machine}
-use Rattle.machine.specs.declared.Answer.{Answer}
-use Rattle.machine.specs.declared.Answered.{Answered}
-use Rattle.machine.specs.declared.Tick.{Tick}
-use Rattle.machine.specs.Machine.{soundOf}
-use Rattle.machine.specs.Calls.{makeOf, loadOf, ticks, working, tickOf, holdOf, releaseOf, stopOf}
+use Rattle.bench.specs.declared.Bench.{Bench}
+use Rattle.bench.specs.declared.Answer.{Answer}
+use Rattle.bench.specs.declared.Answered.{Answered}
+use Rattle.bench.specs.declared.Tick.{Tick}
+use Rattle.bench.specs.Bench.{soundOf}
+use Rattle.bench.specs.Calls.{makeOf, loadOf, ticks, working, tickOf, holdOf, releaseOf, stopOf}
 use Rattle.settings.specs.Settings.{capacityOf, settingsNo}
 use Rattle.work.specs.declared.Advance.{Advance}
 use Rattle.work.specs.Work.{isNothing, advanceOf}
 use Rattle.book.specs.Book.{Reply}
 use Rattle.history.specs.Reply.{answerReply}
-use Rattle.machine.specs.declared.Report.{Report}
+use Rattle.bench.specs.declared.Report.{Report}
 use Rattle.run.specs.Run.{Strip, stripOf}
-use Rattle.machine.specs.Run.{reportOf, ranOver, noTick, runOf}
+use Rattle.bench.specs.Run.{reportOf, ranOver, noTick, runOf}
 use Rattle.ahead.specs.declared.Ahead.{Ahead}
 use Rattle.ahead.specs.Ahead.{aheadOf}
 use Rattle.ahead.specs.laws.Ahead.{either, then-sound}
@@ -79,7 +79,7 @@ use Rattle.demands.specs.laws.TextLine.{line-answers, line-taken}
 
 -- ---- words and records
 
-module _ (ws : List ℤ) (m : Machine) (s : Sound m) (e : ws ≡ encodeOf m) where
+module _ (ws : List ℤ) (m : Bench) (s : Sound m) (e : ws ≡ encodeOf m) where
   tells-sound : soundWords ws ≡ true
   tells-sound = ap soundWords e ∙ sound-words m (sound-is m .1 s)
 
@@ -92,7 +92,7 @@ unsound-words ws none = refuted (soundWords ws) (λ t. none (machineIn ws) (soun
 
 -- ---- the calls
 
-own-call : (m : Machine) (call : Call)
+own-call : (m : Bench) (call : Call)
     → (let t = callOf m call in Own call m (t .answer) (machineAfter m call) × (t .words ≡ encodeOf (machineAfter m call)))
 unfolding callOf
 own-call m (Call.load b) = ((loadOf m b, refl, refl, refl), refl)
@@ -102,16 +102,16 @@ own-call m Call.release = ((releaseOf m, refl, refl, refl), refl)
 own-call m Call.stop = ((stopOf m, refl, refl, refl), refl)
 
 -- a call on a sound record that answers a negative number is a load that refused, and left the record as it was
-refused-load : (m : Machine) (b : Block) (a : Answered) → a ≡ loadOf m b → soundOf m ≡ true
-    → (k : ℕ) → answerNumber (a .answer) ≡ negsuc k → a .machine ≡ m
+refused-load : (m : Bench) (b : Block) (a : Answered) → a ≡ loadOf m b → soundOf m ≡ true
+    → (k : ℕ) → answerNumber (a .answer) ≡ negsuc k → a .bench ≡ m
 refused-load m b a is sound k = by (a .answer) refl
   where
-    by : (answer : Answer) → a .answer ≡ answer → answerNumber answer ≡ negsuc k → a .machine ≡ m
+    by : (answer : Answer) → a .answer ≡ answer → answerNumber answer ≡ negsuc k → a .bench ≡ m
     by Answer.Done at e = cc
     by (Answer.Width w) at e = let small = word-small (width-word m sound b (ap (λ (x : Answered). x .answer) (sym is) ∙ at)) in cc
     by (Answer.Refused q) at e = load-answers m b a is .kept q (ap answerReply at)
 
-refused-call : (m : Machine) → soundOf m ≡ true → (call : Call) (k : ℕ) → callOf m call .answer ≡ negsuc k
+refused-call : (m : Bench) → soundOf m ≡ true → (call : Call) (k : ℕ) → callOf m call .answer ≡ negsuc k
     → callOf m call .words ≡ encodeOf m
 unfolding callOf tickOf holdOf releaseOf stopOf
 refused-call m sound (Call.load b) k e = ap encodeOf (refused-load m b (loadOf m b) refl sound k e)
@@ -132,7 +132,7 @@ refused-call m sound Call.stop k e = let z = rw sound at e in cc
 apart : {n k : ℕ} → pos n ≡ negsuc k → ⊥
 apart {n} {k} e = let z : _≡_ {A = ℕ} 0 1 = cc in absurd (omega (arith, z))
 
-no-refusal : (m : Machine) → soundOf m ≡ true → (budget buffer k : ℕ) → reportNumber (runOf m budget buffer .ran .report) ≡ negsuc k → ⊥
+no-refusal : (m : Bench) → soundOf m ≡ true → (budget buffer k : ℕ) → reportNumber (runOf m budget buffer .ran .report) ≡ negsuc k → ⊥
 unfolding runOf
 no-refusal m sound budget buffer k = rw sound (by (isNothing (m .work)) (m .held))
   where
@@ -157,7 +157,7 @@ on-words call before n after h =
       own = λ m s e.
           let c = own-call m call in
           let same = h ∙ sym (told-call before (tells-sound before m s e) call)
-          ∙ ap (λ (x : Machine). callOf x call) (tells-it before m s e) in (
+          ∙ ap (λ (x : Bench). callOf x call) (tells-it before m s e) in (
             machineAfter m call,
             subst (λ (n : ℤ). Own call m n (machineAfter m call)) (sym (ap (λ (t : Told). t .answer) same)) (c .0),
             sound-is (machineAfter m call) .0 (keeps m call (sound-is m .1 s)),
@@ -184,8 +184,8 @@ run-on-words before budget out out′ n ticks after h =
       own = λ m s e.
           let r = runOf m budget (length (now out)) in
           let same = h ∙ sym (told-run before (tells-sound before m s e) budget (now out))
-          ∙ ap (λ (x : Machine). ran (runOf x budget (length (now out))) (now out)) (tells-it before m s e) in (
-            r .ran .machine,
+          ∙ ap (λ (x : Bench). ran (runOf x budget (length (now out))) (now out)) (tells-it before m s e) in (
+            r .ran .bench,
             (
               r .ran,
               λ κs. (refl, ap (λ (t : ToldRun). t .buffer) same),
@@ -193,7 +193,7 @@ run-on-words before budget out out′ n ticks after h =
               ap (λ (t : ToldRun). t .ticks) same,
               refl,
             ),
-            sound-is (r .ran .machine) .0 (run-keeps m (sound-is m .1 s) budget (length (now out))),
+            sound-is (r .ran .bench) .0 (run-keeps m (sound-is m .1 s) budget (length (now out))),
             ap (λ (t : ToldRun). t .words) same,
           );
       others = λ none. parts (unsound-words before none);
@@ -217,7 +217,7 @@ run-on-words before budget out out′ n ticks after h =
     by false t k e = let p = parts t in (p .1, p .2, p .3)
 
 -- a look that answers a negative number is a refusal, which gives the machine's own record and no pulses
-refused-look : (m : Machine) (ticks k : ℕ) → (let a = aheadOf m ticks in
+refused-look : (m : Bench) (ticks k : ℕ) → (let a = aheadOf m ticks in
     answerNumber (a .answer) ≡ negsuc k → (encodeOf (a .then) ≡ encodeOf m) × (sumWords (a .sums) ≡ noSums))
 refused-look m ticks k =
     either m ticks (λ a. answerNumber (a .answer) ≡ negsuc k → (encodeOf (a .then) ≡ encodeOf m) × (sumWords (a .sums) ≡ noSums))
@@ -230,7 +230,7 @@ look-on-words before ticks n then sums h =
       own = λ m s e.
           let r = aheadOf m ticks in
           let same = h ∙ sym (told-ahead before (tells-sound before m s e) ticks)
-          ∙ ap (λ (x : Machine). aheadTold (aheadOf x ticks)) (tells-it before m s e) in (
+          ∙ ap (λ (x : Bench). aheadTold (aheadOf x ticks)) (tells-it before m s e) in (
             r,
             refl,
             ap (λ (t : ToldAhead). t .answer) same,
@@ -257,7 +257,7 @@ look-on-words before ticks n then sums h =
 made-words : (s : Settings) (n : ℤ) (after : List ℤ) → tells n after ≡ madeOf s → MadeWords s n after
 unfolding madeOf
 made-words s n after h =
-    (makeOf s, refl, ap (λ (t : Told). t .answer) h, sound-is (makeOf s .machine) .0 (make-keeps s), ap (λ (t : Told). t .words) h)
+    (makeOf s, refl, ap (λ (t : Told). t .answer) h, sound-is (makeOf s .bench) .0 (make-keeps s), ap (λ (t : Told). t .words) h)
 
 -- ---- a line of a job text
 
@@ -297,7 +297,7 @@ isLoaded (Read.Loaded bits) = 1
 isLoaded (Read.Refused number) = 0
 
 -- a line whose answer is a width has loaded a block of that width
-loaded-width : (k : Reader) (m : Machine) (line : RefT (List ℕ)) {bits : ℕ} → readLineOf k m (now line) .answer ≡ Read.Loaded bits
+loaded-width : (k : Reader) (m : Bench) (line : RefT (List ℕ)) {bits : ℕ} → readLineOf k m (now line) .answer ≡ Read.Loaded bits
     → bits < 2 ^ 63
 loaded-width k m line {bits} e = by (makesBlock k m l) refl
   where
@@ -324,12 +324,12 @@ loaded-width k m line {bits} e = by (makesBlock k m l) refl
         omega (arith, ap isLoaded (sym (ap (λ (x : ReadLine). x .answer) t) ∙ e))
 
 -- a line that answers a negative number is a refused one
-refused-line : (k : Reader) (m : Machine) (line : RefT (List ℕ)) (q : ℕ) → readNumber (readLineOf k m (now line) .answer) ≡ negsuc q
-    → (readLineOf k m (now line) .reader ≡ k) × (readLineOf k m (now line) .machine ≡ m)
+refused-line : (k : Reader) (m : Bench) (line : RefT (List ℕ)) (q : ℕ) → readNumber (readLineOf k m (now line) .answer) ≡ negsuc q
+    → (readLineOf k m (now line) .reader ≡ k) × (readLineOf k m (now line) .bench ≡ m)
 refused-line k m line q = by (readLineOf k m (now line) .answer) refl
   where
     by : (answer : Read) → readLineOf k m (now line) .answer ≡ answer → readNumber answer ≡ negsuc q
-        → (readLineOf k m (now line) .reader ≡ k) × (readLineOf k m (now line) .machine ≡ m)
+        → (readLineOf k m (now line) .reader ≡ k) × (readLineOf k m (now line) .bench ≡ m)
     by Read.Nothing at e = absurd (apart e)
     by (Read.Loaded bits) at e = absurd (apart (sym (word-small (loaded-width k m line at)) ∙ e))
     by (Read.Refused number) at e =
@@ -375,11 +375,11 @@ module _ (before known : List ℤ) (line : RefT (List ℕ)) (n : ℤ) (after kno
             let r = readLineOf k m (now line) in
             let same : tellsLine n after known′ ≡ lineTold r = line-own t (ap (λ (x : DecodedKnown). x .ok) d)
             ∙ ap (λ (x : DecodedKnown). lineTold (readLineOf (x .reader) (machineIn before) (now line))) d
-            ∙ ap (λ (x : Machine). lineTold (readLineOf k x (now line))) (tells-it before m s e) in (
+            ∙ ap (λ (x : Bench). lineTold (readLineOf k x (now line))) (tells-it before m s e) in (
               r,
               λ κs. refl,
               ap (λ (l : ToldLine). l .answer) same,
-              sound-is (r .machine) .0 (read-keeps k m (now line) (sound-is m .1 s)),
+              sound-is (r .bench) .0 (read-keeps k m (now line) (sound-is m .1 s)),
               ap (λ (l : ToldLine). l .words) same,
               ap (λ (l : ToldLine). l .known) same,
             );
@@ -398,13 +398,13 @@ module _ (before known : List ℤ) (line : RefT (List ℕ)) (n : ℤ) (after kno
 -- ---- the check
 
 -- its words, and whether they are such
-check-is : (ws ps : List ℤ) (m : Machine) → IsCheck ws ps m → (isCheck ws ps ≡ true) × (checkTold ws ps .check ≡ checkIn m ps)
+check-is : (ws ps : List ℤ) (m : Bench) → IsCheck ws ps m → (isCheck ws ps ≡ true) × (checkTold ws ps .check ≡ checkIn m ps)
 unfolding isCheck decodeProgress
 check-is ws ps m c =
     let here = tells-it ws m (c .0) (c .1) in
-    (joined (tells-sound ws m (c .0) (c .1)) (rw here (sym (same-words (c .2)))), ap (λ (x : Machine). checkIn x ps) here)
+    (joined (tells-sound ws m (c .0) (c .1)) (rw here (sym (same-words (c .2)))), ap (λ (x : Bench). checkIn x ps) here)
 
-no-check-is : (ws ps : List ℤ) → ((m : Machine) → ¬ (IsCheck ws ps m)) → isCheck ws ps ≡ false
+no-check-is : (ws ps : List ℤ) → ((m : Bench) → ¬ (IsCheck ws ps m)) → isCheck ws ps ≡ false
 unfolding isCheck decodeProgress
 no-check-is ws ps none =
     refuted (isCheck ws ps)
@@ -459,9 +459,9 @@ come {text} c t (RowsOutToC.fill {bytes = bytes} {ws₁ = ws₁} before κs word
     }
 
 from-start : (s : Settings) → AllYes (settingsQuestions s) → (text bytes : List ℕ) (n : ℤ) (ws ps : List ℤ)
-    → RowsOutToC text (encodeOf (makeOf s .machine)) (startProgress s) bytes n ws ps → FrontOf (listingOf s text) bytes (n ≡ pos 1)
+    → RowsOutToC text (encodeOf (makeOf s .bench)) (startProgress s) bytes n ws ps → FrontOf (listingOf s text) bytes (n ≡ pos 1)
 from-start s pass text bytes n ws ps rows =
-    let k = come (startOf (makeOf s .machine)) (start-told s) rows in
+    let k = come (startOf (makeOf s .bench)) (start-told s) rows in
     record { rest = restOf (k .check) text; front = k .front ∙ start-lists s (settings-pass s .1 pass) text; all = k .ended }
 
 started : (s : Settings) (n : ℤ) (ws ps : List ℤ) → tells n ws ≡ madeOf s → ps ≡ startProgress s → StartedWords s n ws ps
@@ -470,7 +470,7 @@ started s n ws ps made progress = (
   makeOf s,
   refl,
   ap (λ (t : Told). t .answer) made,
-  startOf (makeOf s .machine),
+  startOf (makeOf s .bench),
   refl,
   record { words = ap (λ (t : Told). t .words) made; progress = progress },
 )

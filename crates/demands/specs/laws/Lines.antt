@@ -22,10 +22,10 @@ use Rattle.work.specs.declared.Cycle.{Cycle}
 use Rattle.work.specs.Work.{isNothing, following, lineCycle, cycleOf, advanceOf, workAlong, begunOf}
 use Rattle.run.specs.laws.Idle.{idle-tick, cycle-tick}
 use Rattle.settings.specs.Settings.{capacityOf}
-use Rattle.machine.specs.declared.Machine.{Machine}
-use Rattle.machine.specs.declared.Answered.{Answered}
-use Rattle.machine.specs.declared.Ticked.{Ticked}
-use Rattle.machine.specs.Calls.{taking, loadWith, working}
+use Rattle.bench.specs.declared.Bench.{Bench}
+use Rattle.bench.specs.declared.Answered.{Answered}
+use Rattle.bench.specs.declared.Ticked.{Ticked}
+use Rattle.bench.specs.Calls.{taking, loadWith, working}
 use Rattle.finish.specs.laws.Record.{AtWork}
 use Rattle.history.specs.Contracts.{Loads, Ticks}
 use Rattle.demands.specs.Asked.{AllYes}
@@ -39,10 +39,10 @@ use Rattle.demands.specs.laws.Runs.{tick-at-work}
 
 -- ---- a load that no question refuses
 
-pub loads : (m : Machine) (b : Block) (r : Answered) → Loads m b r → AllYes (loadQuestions m b) → r ≡ taking m (begunOf (m .at) b)
+pub loads : (m : Bench) (b : Block) (r : Answered) → Loads m b r → AllYes (loadQuestions m b) → r ≡ taking m (begunOf (m .at) b)
 loads m b r h all = h ∙ load-is m b ∙ ap (loadWith m b) (passed (load-verdict m b) .1 all)
 
-pub loaded : (m : Machine) (b : Block) (r : Answered) → Loads m b r → AllYes (loadQuestions m b) → (p : Path) → b .path ≡ p
+pub loaded : (m : Bench) (b : Block) (r : Answered) → Loads m b r → AllYes (loadQuestions m b) → (p : Path) → b .path ≡ p
     → r ≡ taking m (record { work = workAlong (m .at) b p; width = widthAlong (m .at) b p })
 unfolding begunOf blockWidth
 loaded m b r h all p e = loads m b r h all
@@ -51,13 +51,13 @@ loaded m b r h all p e = loads m b r h all
 -- ---- a tick of a record at work
 
 -- what is in work, as it is known
-pub tick-of : (m : Machine) (w : Work) (r : Ticked) → Ticks m r → Sound m → m .work ≡ w → isNothing w ≡ false → m .held ≡ false
+pub tick-of : (m : Bench) (w : Work) (r : Ticked) → Ticks m r → Sound m → m .work ≡ w → isNothing w ≡ false → m .held ≡ false
     → r ≡ working m (advanceOf (capacityOf (m .settings)) (m .at) (m .remainder) w)
 tick-of m w r h s work busy free =
     let a : AtWork m = record { sound = sound-is m .1 s; free = free; busy = ap isNothing work ∙ busy } in
     h ∙ sym (tick-at-work m a) ∙ ap (λ (w : Work). working m (advanceOf (capacityOf (m .settings)) (m .at) (m .remainder) w)) work
 
-pub work-of : (m : Machine) (w : Work) → Sound m → m .work ≡ w → WorkSound (capacityOf (m .settings)) (m .settings .travel) (m .at) w
+pub work-of : (m : Bench) (w : Work) → Sound m → m .work ≡ w → WorkSound (capacityOf (m .settings)) (m .settings .travel) (m .at) w
 work-of m w s work = subst (WorkSound (capacityOf (m .settings)) (m .settings .travel) (m .at)) work (s .work)
 
 -- the cycle of a sound line

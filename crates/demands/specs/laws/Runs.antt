@@ -21,13 +21,13 @@ use Rattle.run.specs.Run.{Strip, inFront, stripOf, written, SoundIn}
 use Rattle.run.specs.laws.Strip.{strip-ends, end-tick, strip-early}
 use Rattle.run.specs.laws.Paid.{strip-pays}
 use Rattle.settings.specs.Settings.{capacityOf}
-use Rattle.machine.specs.declared.Machine.{Machine}
-use Rattle.machine.specs.declared.Ticked.{Ticked}
-use Rattle.machine.specs.declared.Report.{Report}
-use Rattle.machine.specs.Machine.{soundOf, movedOf}
-use Rattle.machine.specs.Calls.{working, tickOf}
-use Rattle.machine.specs.Run.{reportOf, ranOver, noTick, runOf}
-use Rattle.machine.specs.laws.Calls.{tick-works}
+use Rattle.bench.specs.declared.Bench.{Bench}
+use Rattle.bench.specs.declared.Ticked.{Ticked}
+use Rattle.bench.specs.declared.Report.{Report}
+use Rattle.bench.specs.Bench.{soundOf, movedOf}
+use Rattle.bench.specs.Calls.{working, tickOf}
+use Rattle.bench.specs.Run.{reportOf, ranOver, noTick, runOf}
+use Rattle.bench.specs.laws.Calls.{tick-works}
 use Rattle.keeps.specs.laws.Calls.{tick-keeps}
 use Rattle.finish.specs.Finish.{lastTickOf}
 use Rattle.finish.specs.laws.Record.{AtWork, at-work}
@@ -63,10 +63,10 @@ strip-counts {q0} n t {at} {r} {w} i e = by (leb t n) refl
 
 -- ---- one by one
 
-pub tick-at-work : (m : Machine) → AtWork m → working m (advanceOf (capacityOf (m .settings)) (m .at) (m .remainder) (m .work)) ≡ tickOf m
+pub tick-at-work : (m : Bench) → AtWork m → working m (advanceOf (capacityOf (m .settings)) (m .at) (m .remainder) (m .work)) ≡ tickOf m
 tick-at-work m a = tick-works m (a .sound) (a .free) (a .busy) refl
 
-pub strip-ticks : (n : ℕ) (m : Machine) → AtWork m
+pub strip-ticks : (n : ℕ) (m : Bench) → AtWork m
     → (let s = stripOf (capacityOf (m .settings)) n (m .at) (m .remainder) (m .work) in TicksTo m (s .bytes)
     (movedOf m (s .at) (s .remainder) (s .work)))
 unfolding stripOf movedOf
@@ -75,7 +75,7 @@ strip-ticks (suc n) m a =
     by (isNothing (next .work)) refl
     (λ busy. strip-ticks n (movedOf m (next .at) (next .remainder) (next .work))
     (record {
-      sound = subst (λ (t : Ticked). soundOf (t .machine) ≡ true) (sym (tick-at-work m a)) (tick-keeps m (a .sound));
+      sound = subst (λ (t : Ticked). soundOf (t .bench) ≡ true) (sym (tick-at-work m a)) (tick-keeps m (a .sound));
       free =
           a .free;
       busy = busy;
@@ -146,7 +146,7 @@ reported t n budget bytes = by (leb t n) refl (leb budget n) refl
 
 -- ---- the call
 
-busy-is : (m : Machine) → m .work ≢ Work.Nothing → isNothing (m .work) ≡ false
+busy-is : (m : Bench) → m .work ≢ Work.Nothing → isNothing (m .work) ≡ false
 busy-is m some = refuted (isNothing (m .work)) (λ e. some (nothing-is (m .work) .0 e))
 
 written-later : (bytes old : List ℕ) → drop (length bytes) (written bytes old) ≡ drop (length bytes) old
@@ -157,7 +157,7 @@ written-long : (bytes old : List ℕ) → length bytes ≤ length old → length
 unfolding written
 written-long bytes old h = simp (length-append, length-drop) (omega arith)
 
-module _ (m : Machine) (budget : ℕ) (old : List ℕ) (a : AtWork m) where
+module _ (m : Bench) (budget : ℕ) (old : List ℕ) (a : AtWork m) where
   abbrev strip : Strip
   strip = stripOf (capacityOf (m .settings)) (min budget (length old)) (m .at) (m .remainder) (m .work)
 
@@ -203,10 +203,10 @@ every-run κs m budget out out′ r h s =
     record {
       idle = λ none.
           let e : runOf m budget (length (now out)) ≡ noTick m Report.Idle = rw (sound-is m .1 s, nothing-is (m .work) .1 none) in
-          rw (h .1, h .0, e) (record { reply = refl; machine = refl; buffer = refl });
+          rw (h .1, h .0, e) (record { reply = refl; bench = refl; buffer = refl });
       held = λ some mark.
           let e : runOf m budget (length (now out)) ≡ noTick m Report.Held = rw (sound-is m .1 s, busy-is m some, mark) in
-          rw (h .1, h .0, e) (record { reply = refl; machine = refl; buffer = refl });
+          rw (h .1, h .0, e) (record { reply = refl; bench = refl; buffer = refl });
       works = λ some free.
           let a : AtWork m = record { sound = sound-is m .1 s; free = free; busy = busy-is m some } in
           rw (h .1, h .0, runs m a budget (length (now out))) (running m budget (now out) a);

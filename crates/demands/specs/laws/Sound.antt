@@ -30,9 +30,9 @@ use Rattle.work.specs.laws.Sound.{line-work, line-sound, arc-work, arc-sound}
 use Rattle.settings.specs.declared.Settings.{Settings}
 use Rattle.settings.specs.Settings.{inRange, axisRight, travelRight, settingsNo, capacityOf}
 use Rattle.settings.specs.laws.Right.{settings-right}
-use Rattle.machine.specs.declared.Machine.{Machine}
-use Rattle.machine.specs.Machine.{soundOf}
-use Rattle.machine.specs.laws.Sound.{sound, sound-test}
+use Rattle.bench.specs.declared.Bench.{Bench}
+use Rattle.bench.specs.Bench.{soundOf}
+use Rattle.bench.specs.laws.Sound.{sound, sound-test}
 use Rattle.demands.specs.Asked.{AllYes}
 use Rattle.demands.specs.Sound.{AxisRight, TravelRight, settingsQuestions, InTravel, VisitsInTravel, LineSound, ArcSound, WorkSound, Sound}
 use Rattle.demands.specs.laws.Asked.{Verdict, asked, none-asked, passed}
@@ -199,7 +199,7 @@ module _ (q0 : ℕ) (t : Travel) (wide : Wide t) (at : Point) where
 
 -- ---- the record
 
-pub sound-is : (m : Machine) → (soundOf m ≡ true) ↔ Sound m
+pub sound-is : (m : Bench) → (soundOf m ≡ true) ↔ Sound m
 sound-is m = (
   λ e.
       let s = sound e in

@@ -15,9 +15,9 @@ use Rattle.block.specs.declared.Block.{Block}
 use Rattle.block.specs.Questions.{ask, loadNo}
 use Rattle.work.specs.Work.{isNothing}
 use Rattle.settings.specs.Settings.{capacityOf}
-use Rattle.machine.specs.declared.Machine.{Machine}
-use Rattle.machine.specs.Machine.{soundOf}
-use Rattle.machine.specs.Calls.{loadWith, loadOf}
+use Rattle.bench.specs.declared.Bench.{Bench}
+use Rattle.bench.specs.Bench.{soundOf}
+use Rattle.bench.specs.Calls.{loadWith, loadOf}
 use Rattle.letters.specs.declared.letter.Letter.the-variants.{N, G, F, X, Y, I, J}
 use Rattle.letters.specs.declared.word.Word.{Word}
 use Rattle.letters.specs.declared.word.Words.{Words}
@@ -133,7 +133,7 @@ centre-stands m ws = by (isArc m) (centred ws) refl refl
     by false false a e =
         rw (a, e) (λ h. record { only = λ t. absurd (false≢true (sym e ∙ t)); there = λ t. absurd (false≢true (sym a ∙ t)) }, λ s. refl)
 
-pub word-verdict : (k : Reader) (m : Machine) (bytes : List ℕ) (l : Line) → Means bytes l
+pub word-verdict : (k : Reader) (m : Bench) (bytes : List ℕ) (l : Line) → Means bytes l
     → Verdict (wordQuestions k m bytes l) (lineNo (m .settings .scale) k (length bytes) l)
 unfolding lineNo
 word-verdict k m bytes l means =
@@ -149,7 +149,7 @@ word-verdict k m bytes l means =
 
 -- ---- the answer
 
-module _ (k k′ : Reader) (m : Machine) (ws : Words) where
+module _ (k k′ : Reader) (m : Bench) (ws : Words) where
   abbrev b : Block
   b = blockOf (m .settings .scale) k′ ws (m .at)
 
@@ -170,7 +170,7 @@ module _ (k k′ : Reader) (m : Machine) (ws : Words) where
   abbrev lineBy : (number : ℕ) (moves stays : Bool) (n : ℕ) → ReadLine
   lineBy (suc number) moves stays n = reads (Read.Refused (suc number)) k m
   lineBy zero true true n = reads Read.Nothing k′ m
-  lineBy zero true false n = loaded k k′ m (loadWith m b n .machine) (loadWith m b n .answer)
+  lineBy zero true false n = loaded k k′ m (loadWith m b n .bench) (loadWith m b n .answer)
   lineBy zero false stays n = reads Read.Nothing k′ m
 
   line-says : (number : ℕ) (moves stays : Bool) (n : ℕ)
@@ -182,7 +182,7 @@ module _ (k k′ : Reader) (m : Machine) (ws : Words) where
   line-says zero false stays n = refl
 
   line-kept : (number : ℕ) (moves stays : Bool) (n : ℕ) → (orElse number (blockNumber moves stays n) ≡ 0 → ⊥)
-      → (let r = lineBy number moves stays n in (r .reader ≡ k) × (r .machine ≡ m))
+      → (let r = lineBy number moves stays n in (r .reader ≡ k) × (r .bench ≡ m))
   line-kept (suc number) moves stays n some = (refl, refl)
   line-kept zero true true n some = absurd (some refl)
   line-kept zero true false zero some = absurd (some refl)
@@ -197,15 +197,15 @@ module _ (k k′ : Reader) (m : Machine) (ws : Words) where
     where
       by : (moves stays : Bool)
           → cond moves
-          (cond stays (reads Read.Nothing k′ m) (loaded k k′ m (loadWith m b loadNumber .machine) (loadWith m b loadNumber .answer)))
+          (cond stays (reads Read.Nothing k′ m) (loaded k k′ m (loadWith m b loadNumber .bench) (loadWith m b loadNumber .answer)))
           (reads Read.Nothing k′ m) ≡ lineBy zero moves stays loadNumber
       by true true = refl
       by true false = refl
       by false stays = refl
 
-pub line-answers : (κs : Lfts 1) (k : Reader) (m : Machine) (bytes : RefT (List ℕ)) (r : ReadLine) → ReadsLine κs k m bytes r → (l : Line)
+pub line-answers : (κs : Lfts 1) (k : Reader) (m : Bench) (bytes : RefT (List ℕ)) (r : ReadLine) → ReadsLine κs k m bytes r → (l : Line)
     → Means (now bytes) l
-    → AsAsked (lineQuestions k m (now bytes) l) (readReply (r .answer)) ((r .reader ≡ k) × (r .machine ≡ m))
+    → AsAsked (lineQuestions k m (now bytes) l) (readReply (r .answer)) ((r .reader ≡ k) × (r .bench ≡ m))
 line-answers κs k m bytes r h l means =
     rw (h ∙ read-means k m (now bytes) l means)
     (by (soundOf m) refl
@@ -231,7 +231,7 @@ line-answers κs k m bytes r h l means =
 
     by : (sound : Bool) → soundOf m ≡ sound → Verdict (lineQuestions k m (now bytes) l) (ask sound inner 9)
         → (let r = cond sound (readWith k k′ m ws number) (reads (Read.Refused 9) k m) in
-        AsAsked (lineQuestions k m (now bytes) l) (readReply (r .answer)) ((r .reader ≡ k) × (r .machine ≡ m)))
+        AsAsked (lineQuestions k m (now bytes) l) (readReply (r .answer)) ((r .reader ≡ k) × (r .bench ≡ m)))
     by true e v =
         rw (line-is k k′ m ws e number)
         (judged inner v (line-says k k′ m ws number moves stays _) (line-kept k k′ m ws number moves stays _))
@@ -239,7 +239,7 @@ line-answers κs k m bytes r h l means =
 
 -- ---- a line that no question refuses
 
-module _ (k k′ : Reader) (m : Machine) (ws : Words) where
+module _ (k k′ : Reader) (m : Bench) (ws : Words) where
   -- by its numbers: without a block, and with one
   by-nothing : (number : ℕ) (moves stays : Bool) (n : ℕ) → orElse number (blockNumber k k′ m ws moves stays n) ≡ 0
       → isBlock moves stays ≡ false
@@ -252,14 +252,14 @@ module _ (k k′ : Reader) (m : Machine) (ws : Words) where
   by-block : (number : ℕ) (moves stays : Bool) (n : ℕ) → orElse number (blockNumber k k′ m ws moves stays n) ≡ 0
       → isBlock moves stays ≡ true
       → (n ≡ 0) ×
-      (lineBy k k′ m ws number moves stays n ≡ loaded k k′ m (loadWith m (b k k′ m ws) 0 .machine) (loadWith m (b k k′ m ws) 0 .answer))
+      (lineBy k k′ m ws number moves stays n ≡ loaded k k′ m (loadWith m (b k k′ m ws) 0 .bench) (loadWith m (b k k′ m ws) 0 .answer))
   by-block (suc number) moves stays n z e = absurd (omega arith)
   by-block zero true true n z e = absurd (false≢true e)
   by-block zero true false zero z e = (refl, refl)
   by-block zero true false (suc n) z e = absurd (omega arith)
   by-block zero false stays n z e = absurd (false≢true e)
 
-pub line-taken : (κs : Lfts 1) (k : Reader) (m : Machine) (bytes : RefT (List ℕ)) (r : ReadLine) → ReadsLine κs k m bytes r → (l : Line)
+pub line-taken : (κs : Lfts 1) (k : Reader) (m : Bench) (bytes : RefT (List ℕ)) (r : ReadLine) → ReadsLine κs k m bytes r → (l : Line)
     → Means (now bytes) l → AllYes (lineQuestions k m (now bytes) l) → LineTaken k m l r
 line-taken κs k m bytes r h l means all =
     record {

@@ -17,7 +17,7 @@ use Rattle.block.specs.laws.Begin.{offset-right, start-on}
 use Rattle.block.specs.Questions.{loadNo}
 use Rattle.settings.specs.declared.Settings.{Settings}
 use Rattle.settings.specs.Settings.{capacityOf}
-use Rattle.machine.specs.declared.Machine.{Machine}
+use Rattle.bench.specs.declared.Bench.{Bench}
 use Rattle.book.specs.Ledger.{CountedAlong}
 use Rattle.book.specs.laws.Counts.{counted-arc}
 use Rattle.words.specs.declared.line.Line.{Line}
@@ -181,7 +181,7 @@ block-yes none true bs e all = all
 block-yes none false bs e all = absurd (false≢true e)
 block-yes (question number holds qs) block bs e all = block-yes qs block bs e (all .1)
 
-path-counted : (m : Machine) (b : Block) (p : Path) → AllYes (pathQuestions m b p) → CountedAlong (m .at) b p
+path-counted : (m : Bench) (b : Block) (p : Path) → AllYes (pathQuestions m b p) → CountedAlong (m .at) b p
 unfolding arcOf
 path-counted m b Path.Line all = tt
 path-counted m b (Path.Arc turn centre) all =

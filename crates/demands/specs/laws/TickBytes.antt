@@ -14,13 +14,13 @@ use Rattle.work.specs.Work.{begunOf}
 use Rattle.divider.specs.Divider.{endTick, lastTick}
 use Rattle.settings.specs.declared.Settings.{Settings}
 use Rattle.settings.specs.Settings.{settingsNo}
-use Rattle.machine.specs.declared.Machine.{Machine}
-use Rattle.machine.specs.declared.Answer.{Answer}
-use Rattle.machine.specs.declared.Answered.{Answered}
-use Rattle.machine.specs.declared.Ran.{Ran}
-use Rattle.machine.specs.Machine.{movedOf, freshOf}
-use Rattle.machine.specs.Calls.{loadOf}
-use Rattle.machine.specs.Run.{Run, runOf}
+use Rattle.bench.specs.declared.Bench.{Bench}
+use Rattle.bench.specs.declared.Answer.{Answer}
+use Rattle.bench.specs.declared.Answered.{Answered}
+use Rattle.bench.specs.declared.Ran.{Ran}
+use Rattle.bench.specs.Bench.{movedOf, freshOf}
+use Rattle.bench.specs.Calls.{loadOf}
+use Rattle.bench.specs.Run.{Run, runOf}
 use Rattle.run.specs.laws.Strip.{end-tick}
 use Rattle.finish.specs.Finish.{lastTickOf}
 use Rattle.finish.specs.declared.Finished.{Finished}
@@ -47,11 +47,11 @@ use Rattle.demands.specs.laws.Runs.{strip-counts, strip-ticks}
 
 -- ---- a run to the block's end, tick by tick
 
-record ToEnd (m : Machine) (x : Run) : Type 0 where
-  ticks : TicksTo m (x .bytes) (x .ran .machine)
+record ToEnd (m : Bench) (x : Run) : Type 0 where
+  ticks : TicksTo m (x .bytes) (x .ran .bench)
   many : length (x .bytes) ≡ lastTickOf m
 
-run-to-end : (m : Machine) → AtWork m → ToEnd m (runOf m enough enough)
+run-to-end : (m : Bench) → AtWork m → ToEnd m (runOf m enough enough)
 run-to-end m a =
     let c = strip-counts enough (lastTickOf m) (at-work a) (end-tick (at-work a)) in
     let finished = ap (λ (f : Finished). f .ticks) (finishes m a) in
@@ -60,34 +60,34 @@ run-to-end m a =
 
 -- ---- the blocks of a job
 
-module _ (m : Machine) (n : ℕ) (b : Block) (i : AtRest m) (ok : Accepted m b) (rest : Machine → List ℕ) where
+module _ (m : Bench) (n : ℕ) (b : Block) (i : AtRest m) (ok : Accepted m b) (rest : Bench → List ℕ) where
   -- the load answers the block's width
   width-told : loadOf m b .answer ≡ Answer.Width (blockWidth (m .at) b)
   unfolding begunOf
   width-told = ap (λ (a : Answered). a .answer) (load-accepted m (i .sound) (i .idle) b ok)
 
-  block-ticks : {later : List Made} → BlocksTick (endedOf m b .machine) later (rest (endedOf m b .machine))
-      → BlocksTick m (record { textLine = n; start = m .at; block = b } ∷ later) (runThen (loadOf m b .machine) rest)
+  block-ticks : {later : List Made} → BlocksTick (endedOf m b .bench) later (rest (endedOf m b .bench))
+      → BlocksTick m (record { textLine = n; start = m .at; block = b } ∷ later) (runThen (loadOf m b .bench) rest)
   unfolding movedOf endTick lastTick
   block-ticks later =
-      let x = runOf (loadOf m b .machine) enough enough in
-      let left : x .ran .machine ≡ endedOf m b .machine = ap (λ (r : Ran). r .machine) (ended-run m i b ok) in
-      let e = run-to-end (loadOf m b .machine) (loaded-at-work m i b (rw (i .idle) ok)) in
-      let ticks = subst (TicksTo (loadOf m b .machine) (x .bytes)) left (e .ticks) in
+      let x = runOf (loadOf m b .bench) enough enough in
+      let left : x .ran .bench ≡ endedOf m b .bench = ap (λ (r : Ran). r .bench) (ended-run m i b ok) in
+      let e = run-to-end (loadOf m b .bench) (loaded-at-work m i b (rw (i .idle) ok)) in
+      let ticks = subst (TicksTo (loadOf m b .bench) (x .bytes)) left (e .ticks) in
       rw left
       (BlocksTick.block (record { textLine = n; start = m .at; block = b }) (loadOf m b) refl refl width-told ticks (e .many) refl later)
 
 abbrev Ticked : List (List ℕ) → Type 0
-Ticked ls = (n : ℕ) (m : Machine) (k : Reader) → AtRest m → BlocksTick m (jobFrom (m .settings) n (m .at) k ls .blocks) (bytesFrom m k ls)
+Ticked ls = (n : ℕ) (m : Bench) (k : Reader) → AtRest m → BlocksTick m (jobFrom (m .settings) n (m .at) k ls .blocks) (bytesFrom m k ls)
 
-by-line : (m : Machine) (n : ℕ) (k : Reader) (ls : List (List ℕ)) → AtRest m → Ticked ls → {a : Asks} {r : ReadLine} → Read-as m k a r
+by-line : (m : Bench) (n : ℕ) (k : Reader) (ls : List (List ℕ)) → AtRest m → Ticked ls → {a : Asks} {r : ReadLine} → Read-as m k a r
     → BlocksTick m (onward n (m .at) a (λ at k′. jobFrom (m .settings) (n + 1) at k′ ls) .blocks)
-    (unless (isRefused (r .answer)) (runThen (r .machine) (λ m′. bytesFrom m′ (r .reader) ls)))
+    (unless (isRefused (r .answer)) (runThen (r .bench) (λ m′. bytesFrom m′ (r .reader) ls)))
 unfolding movedOf
 by-line m n k ls i rest (Read-as.nothing known) =
-    rw (nothing-left m (λ (m′ : Machine). bytesFrom m′ known ls) (still-idle m (i .idle))) (rest (n + 1) m known i)
+    rw (nothing-left m (λ (m′ : Bench). bytesFrom m′ known ls) (still-idle m (i .idle))) (rest (n + 1) m known i)
 by-line m n k ls i rest (Read-as.makes known b ok) =
-    block-ticks m n b i ok (λ m′. bytesFrom m′ known ls) (rest (n + 1) (endedOf m b .machine) known (ended-rests m i b ok))
+    block-ticks m n b i ok (λ m′. bytesFrom m′ known ls) (rest (n + 1) (endedOf m b .bench) known (ended-rests m i b ok))
 by-line m n k ls i rest (Read-as.refuses number) = BlocksTick.none
 
 lines-tick : (ls : List (List ℕ)) → Ticked ls

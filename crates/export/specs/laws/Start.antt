@@ -7,7 +7,7 @@ use Prim.Native.Nat.{ℕ, zero, suc, _^_}
 use lib.IntN.{ℤ}
 use Rattle.settings.specs.declared.Settings.{Settings}
 use Rattle.settings.specs.Settings.{settingsNo, standardSettings}
-use Rattle.machine.specs.Calls.{makeWith, makeOf}
+use Rattle.bench.specs.Calls.{makeWith, makeOf}
 use Rattle.settings.specs.laws.Right.{standard-passes}
 use Rattle.finish.specs.laws.Record.{AtRest}
 use Rattle.listing.specs.Tally.{startOf as tallyStart}
@@ -31,37 +31,37 @@ pub record Told (ws ps : List ℤ) (c : Check) : Type 0 where
   pub reached : ReachedCheck c
 
 -- its words tell it
-pub reached-told : (c : Check) → ReachedCheck c → Told (encodeOf (c .tally .machine)) (encodeProgress c) c
+pub reached-told : (c : Check) → ReachedCheck c → Told (encodeOf (c .tally .bench)) (encodeProgress c) c
 unfolding isCheck
 reached-told c r =
     let f = reached-fits c r in
-    let d = machine-back (c .tally .machine) (f .sound) in
+    let d = machine-back (c .tally .bench) (f .sound) in
     let p = progress-decode c f in
     record {
-      is = rw (sound-words (c .tally .machine) (f .sound), d, p);
+      is = rw (sound-words (c .tally .bench) (f .sound), d, p);
       told = rw d (ap (λ (g : DecodedProgress). g .check) p);
       reached = r;
     }
 
 module _ (s : Settings) where
-  made-rests : AtRest (makeOf s .machine)
+  made-rests : AtRest (makeOf s .bench)
   unfolding makeOf
   made-rests = by (settingsNo s) refl
     where
-      by : (n : ℕ) → settingsNo s ≡ n → AtRest (makeWith s n .machine)
+      by : (n : ℕ) → settingsNo s ≡ n → AtRest (makeWith s n .bench)
       by zero e = fresh-rests s e
       by (suc n) e = fresh-rests standardSettings standard-passes
 
-  start-reached : ReachedCheck (startOf (makeOf s .machine))
+  start-reached : ReachedCheck (startOf (makeOf s .bench))
   unfolding startOf
   start-reached = rests-reached made-rests
 
-  pub start-told : Told (encodeOf (makeOf s .machine)) (startProgress s) (startOf (makeOf s .machine))
+  pub start-told : Told (encodeOf (makeOf s .bench)) (startProgress s) (startOf (makeOf s .bench))
   unfolding startOf tallyStart
-  start-told = reached-told (startOf (makeOf s .machine)) start-reached
+  start-told = reached-told (startOf (makeOf s .bench)) start-reached
 
   -- settings that pass: the listing at them
-  pub start-lists : settingsNo s ≡ 0 → Lists s (startOf (makeOf s .machine))
+  pub start-lists : settingsNo s ≡ 0 → Lists s (startOf (makeOf s .bench))
   unfolding makeOf
   start-lists e = rw e (listing-is s e)
 
@@ -74,4 +74,4 @@ module _ {ws ps : List ℤ} {c : Check} (t : Told ws ps c) {text old : List ℕ}
       let h = hands f in
       let again = reached-told (h .next) (h .fills .keeps (t .reached)) in
       subst (λ (ws : List ℤ). Told ws ps′ (h .next)) (sym (h .words))
-      (subst (λ (ps : List ℤ). Told (encodeOf (h .next .tally .machine)) ps (h .next)) (sym (h .progress)) again)
+      (subst (λ (ps : List ℤ). Told (encodeOf (h .next .tally .bench)) ps (h .next)) (sym (h .progress)) again)

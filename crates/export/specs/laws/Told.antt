@@ -8,9 +8,9 @@ use lib.ListN.{length, set}
 use Rattle.run.specs.Run.{written}
 use Rattle.block.specs.declared.Block.{Block}
 use Rattle.work.specs.declared.Work.{Work}
-use Rattle.machine.specs.declared.Machine.{Machine}
-use Rattle.machine.specs.Calls.{loadOf, tickOf, holdOf, releaseOf, stopOf}
-use Rattle.machine.specs.Run.{runOf}
+use Rattle.bench.specs.declared.Bench.{Bench}
+use Rattle.bench.specs.Calls.{loadOf, tickOf, holdOf, releaseOf, stopOf}
+use Rattle.bench.specs.Run.{runOf}
 use Rattle.reader.specs.TextLine.{readLineOf}
 use Rattle.reader.specs.laws.TextLine.{read-either}
 use Rattle.layout.specs.Words.{workWordsOf, encodeOf, machineIn}
@@ -47,31 +47,31 @@ module _ (ws : List ℤ) (t : soundWords ws ≡ true) where
   stop-told =
       ap (tells (pos 0)) (of-own stoppedOf (stopped-words (machineIn ws))) ∙ rw (told-sound ws t) at (told-call ws t Call.stop)
 
-  pub tick-told : (let r = tickOf (machineIn ws) in let n = r .machine in
+  pub tick-told : (let r = tickOf (machineIn ws) in let n = r .bench in
       tells (tickNumber (r .tick)) (storedOf ws (n .at) (n .remainder) (n .work)) ≡ toldOf ws Call.tick)
   unfolding callOf
   tick-told =
       let r = tickOf (machineIn ws) in
-      let n = r .machine in
+      let n = r .bench in
       ap (tells (tickNumber (r .tick)))
       (of-own (λ (l : List ℤ). storedOf l (n .at) (n .remainder) (n .work)) (tick-words (machineIn ws) (told-sound ws t)))
       ∙ told-call ws t Call.tick
 
   pub load-told : (b : Block) → (let r = loadOf (machineIn ws) b in
-      tells (answerNumber (r .answer)) (setWork ws (workWordsOf (r .machine .work))) ≡ toldOf ws (Call.load b))
+      tells (answerNumber (r .answer)) (setWork ws (workWordsOf (r .bench .work))) ≡ toldOf ws (Call.load b))
   unfolding callOf
   load-told b =
       let r = loadOf (machineIn ws) b in
       ap (tells (answerNumber (r .answer)))
-      (of-own (λ (l : List ℤ). setWork l (workWordsOf (r .machine .work))) (load-words (machineIn ws) (told-sound ws t) b))
+      (of-own (λ (l : List ℤ). setWork l (workWordsOf (r .bench .work))) (load-words (machineIn ws) (told-sound ws t) b))
       ∙ told-call ws t (Call.load b)
 
-  pub run-told : (budget : ℕ) (out : List ℕ) → (let r = runOf (machineIn ws) budget (length out) in let n = r .ran .machine in
+  pub run-told : (budget : ℕ) (out : List ℕ) → (let r = runOf (machineIn ws) budget (length out) in let n = r .ran .bench in
       tellsRun (reportNumber (r .ran .report)) (r .ran .ticks) (storedOf ws (n .at) (n .remainder) (n .work)) (written (r .bytes) out)
       ≡ toldRunOf ws budget out)
   run-told budget out =
       let r = runOf (machineIn ws) budget (length out) in
-      let n = r .ran .machine in
+      let n = r .ran .bench in
       ap (λ (after : List ℤ). tellsRun (reportNumber (r .ran .report)) (r .ran .ticks) after (written (r .bytes) out))
       (of-own (λ (l : List ℤ). storedOf l (n .at) (n .remainder) (n .work))
       (run-words (machineIn ws) (told-sound ws t) budget (length out)))
@@ -80,12 +80,12 @@ module _ (ws : List ℤ) (t : soundWords ws ≡ true) where
   -- a line stores what a load of its block changes, or nothing
   pub line-stored : (ks : List ℤ) {k : DecodedKnown} → k ≡ decodeKnown ks → k .ok ≡ true → (line : List ℕ)
       → (let r = readLineOf (k .reader) (machineIn ws) line in
-      tellsLine (readNumber (r .answer)) (setWork ws (workWordsOf (r .machine .work))) (encodeKnown (r .reader)) ≡ toldLineOf ws ks line)
+      tellsLine (readNumber (r .answer)) (setWork ws (workWordsOf (r .bench .work))) (encodeKnown (r .reader)) ≡ toldLineOf ws ks line)
   line-stored ks {k} f known line =
       let m = machineIn ws in
       let r = readLineOf (k .reader) m line in
       ap (λ (after : List ℤ). tellsLine (readNumber (r .answer)) after (encodeKnown (r .reader)))
-      (of-own (λ (l : List ℤ). setWork l (workWordsOf (r .machine .work)))
-      (read-either (λ (n : Machine). setWork (encodeOf m) (workWordsOf (n .work)) ≡ encodeOf n) (k .reader) m line (kept-words m)
+      (of-own (λ (l : List ℤ). setWork l (workWordsOf (r .bench .work)))
+      (read-either (λ (n : Bench). setWork (encodeOf m) (workWordsOf (n .work)) ≡ encodeOf n) (k .reader) m line (kept-words m)
       (load-words m (told-sound ws t))))
       ∙ line-told ws ks line f t known

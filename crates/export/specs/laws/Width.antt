@@ -22,11 +22,11 @@ use Rattle.block.specs.Questions.{loadNo}
 use Rattle.work.specs.Work.{Loadable, isNothing, begunOf}
 use Rattle.settings.specs.Settings.{capacityOf}
 use Rattle.settings.specs.laws.Right.{settings-right}
-use Rattle.machine.specs.declared.Machine.{Machine}
-use Rattle.machine.specs.declared.Answer.{Answer}
-use Rattle.machine.specs.Machine.{soundOf}
-use Rattle.machine.specs.Calls.{loadWith, loadOf}
-use Rattle.machine.specs.laws.Sound.{sound, loadable}
+use Rattle.bench.specs.declared.Bench.{Bench}
+use Rattle.bench.specs.declared.Answer.{Answer}
+use Rattle.bench.specs.Bench.{soundOf}
+use Rattle.bench.specs.Calls.{loadWith, loadOf}
+use Rattle.bench.specs.laws.Sound.{sound, loadable}
 
 few : (n : ℕ) → n < 2097152 → widthOf n < 2 ^ 63
 few n h = omega (arith, width-least n 21 h)
@@ -50,7 +50,7 @@ width-few start b (Path.Arc turn o) h =
     few _ (root-few _ (square-some o r) (square-most o r))
 
 -- a load of a sound record that answers a width
-pub width-word : (m : Machine) → soundOf m ≡ true → (b : Block) {n : ℕ} → loadOf m b .answer ≡ Answer.Width n → n < 2 ^ 63
+pub width-word : (m : Bench) → soundOf m ≡ true → (b : Block) {n : ℕ} → loadOf m b .answer ≡ Answer.Width n → n < 2 ^ 63
 unfolding loadOf begunOf blockWidth
 width-word m e b = rw e (by (loadNo (capacityOf (m .settings)) (m .settings .travel) (isNothing (m .work)) (m .at) b) refl)
   where

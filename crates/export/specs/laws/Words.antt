@@ -5,7 +5,7 @@ use mathlib.Core.List.{List}
 use Prim.Native.Nat.{ℕ}
 use lib.IntN.{ℤ, negsuc}
 use lib.ListN.{length}
-use Rattle.machine.specs.Run.{runOf}
+use Rattle.bench.specs.Run.{runOf}
 use Rattle.layout.specs.Words.{machineIn}
 use Rattle.store.specs.Words.{soundWords}
 use Rattle.ahead.specs.Ahead.{aheadOf}

@@ -10,11 +10,11 @@ use Rattle.block.specs.Charge.{chargesTo, blockCharges}
 use Rattle.block.specs.Questions.{loadNo}
 use Rattle.block.specs.laws.Charge.{charges-line, charges-arc}
 use Rattle.work.specs.Work.{isNothing, feedOf, cyclesLeft, chargesLeft, endOf, workAlong, begunOf}
-use Rattle.machine.specs.declared.Machine.{Machine}
+use Rattle.bench.specs.declared.Bench.{Bench}
 use Rattle.settings.specs.Settings.{capacityOf}
-use Rattle.machine.specs.Machine.{movedOf}
-use Rattle.machine.specs.Calls.{loadOf}
-use Rattle.machine.specs.laws.Sound.{sound}
+use Rattle.bench.specs.Bench.{movedOf}
+use Rattle.bench.specs.Calls.{loadOf}
+use Rattle.bench.specs.laws.Sound.{sound}
 use Rattle.keeps.specs.laws.Calls.{load-keeps}
 use Rattle.finish.specs.Finish.{finishedOf, finishOf}
 use Rattle.finish.specs.laws.Record.{AtWork, AtRest, finishes}
@@ -47,23 +47,23 @@ module _ (start : Point) (b : Block) where
 
 -- ---- loaded into a record at rest
 
-module _ (m : Machine) (rest : AtRest m) (b : Block)
+module _ (m : Bench) (rest : AtRest m) (b : Block)
     (accepted : loadNo (capacityOf (m .settings)) (m .settings .travel) (isNothing (m .work)) (m .at) b ≡ 0) where
-  loads : loadOf m b .machine ≡ movedOf m (m .at) (m .remainder) (workAlong (m .at) b (b .path))
+  loads : loadOf m b .bench ≡ movedOf m (m .at) (m .remainder) (workAlong (m .at) b (b .path))
   unfolding loadOf begunOf
   loads = rw (rest .sound, accepted)
 
-  pub loaded-at-work : AtWork (loadOf m b .machine)
+  pub loaded-at-work : AtWork (loadOf m b .bench)
   unfolding movedOf
   loaded-at-work =
       record { sound = load-keeps m (rest .sound) b; free = rw loads (rest .free); busy = rw loads (begun-busy (m .at) b (b .path)) }
 
   -- its cycles, its ticks and its end are the block's
-  pub finish-loaded : finishOf (loadOf m b .machine) ≡ finishedOf m (b .end) (blockCycles (m .at) b) (blockCharges (m .at) b) (b .feed)
+  pub finish-loaded : finishOf (loadOf m b .bench) ≡ finishedOf m (b .end) (blockCycles (m .at) b) (blockCharges (m .at) b) (b .feed)
   unfolding movedOf blockCycles
   finish-loaded =
       rw (
-        finishes (loadOf m b .machine) loaded-at-work,
+        finishes (loadOf m b .bench) loaded-at-work,
         loads,
         begun-charges (m .at) b (b .path) refl,
         begun-cycles (m .at) b (b .path),
@@ -72,9 +72,9 @@ module _ (m : Machine) (rest : AtRest m) (b : Block)
       )
 
   -- and the record is again at rest, for the next block
-  pub loaded-rests : AtRest (finishOf (loadOf m b .machine) .machine)
-  loaded-rests = finish-keeps-sound (loadOf m b .machine) loaded-at-work
+  pub loaded-rests : AtRest (finishOf (loadOf m b .bench) .bench)
+  loaded-rests = finish-keeps-sound (loadOf m b .bench) loaded-at-work
 
-  pub loaded-settings : finishOf (loadOf m b .machine) .machine .settings ≡ m .settings
+  pub loaded-settings : finishOf (loadOf m b .bench) .bench .settings ≡ m .settings
   unfolding movedOf
   loaded-settings = rw finish-loaded

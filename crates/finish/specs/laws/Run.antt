@@ -5,12 +5,12 @@ use Prim.Native.Nat.{ℕ, _+_, _-_, _*_, _≤_, min}
 use native.Mathlib.Omega.{arith}
 use Rattle.work.specs.Work.{addedOf, cyclesLeft, chargesLeft}
 use Rattle.run.specs.Run.{Strip, stripOf}
-use Rattle.machine.specs.declared.Machine.{Machine}
-use Rattle.machine.specs.declared.Report.{Report}
-use Rattle.machine.specs.declared.Ran.{Ran}
-use Rattle.machine.specs.Machine.{soundOf, movedOf}
+use Rattle.bench.specs.declared.Bench.{Bench}
+use Rattle.bench.specs.declared.Report.{Report}
+use Rattle.bench.specs.declared.Ran.{Ran}
+use Rattle.bench.specs.Bench.{soundOf, movedOf}
 use Rattle.settings.specs.Settings.{capacityOf}
-use Rattle.machine.specs.Run.{ranOver, runOf}
+use Rattle.bench.specs.Run.{ranOver, runOf}
 use Rattle.keeps.specs.laws.Calls.{run-keeps}
 use Rattle.book.specs.Sums.{cyclesMarked}
 use Rattle.finish.specs.declared.Finished.{Finished}
@@ -19,7 +19,7 @@ use Rattle.run.specs.laws.Strip.{Ended, strip-ends, end-tick}
 use Rattle.finish.specs.laws.Strip.{strip-marks}
 use Rattle.finish.specs.laws.Record.{AtWork, AtRest, at-work, finishes}
 
-module _ (m : Machine) (a : AtWork m) (budget buffer : ℕ) (long : finishOf m .ticks ≤ budget) (room : finishOf m .ticks ≤ buffer) where
+module _ (m : Bench) (a : AtWork m) (budget buffer : ℕ) (long : finishOf m .ticks ≤ budget) (room : finishOf m .ticks ≤ buffer) where
   abbrev ticking : Strip
   ticking = stripOf (capacityOf (m .settings)) (min budget buffer) (m .at) (m .remainder) (m .work)
 
@@ -32,7 +32,7 @@ module _ (m : Machine) (a : AtWork m) (budget buffer : ℕ) (long : finishOf m .
       let t : finishOf m .ticks ≡ lastTickOf m = ap (λ (f : Finished). f .ticks) (finishes m a) in
       strip-ends (min budget buffer) (lastTickOf m) (at-work a) (end-tick (at-work a)) (omega arith)
 
-  pub finish-is-run : runOf m budget buffer .ran ≡ record { report = Report.Ended; ticks = finishOf m .ticks; machine = finishOf m .machine }
+  pub finish-is-run : runOf m budget buffer .ran ≡ record { report = Report.Ended; ticks = finishOf m .ticks; bench = finishOf m .bench }
   finish-is-run =
       let e = strip-ended in
       let due = chargesLeft (m .at) (m .work) * capacityOf (m .settings) in
@@ -46,12 +46,12 @@ module _ (m : Machine) (a : AtWork m) (budget buffer : ℕ) (long : finishOf m .
       rw (runs, finishes m a) (omega (arith, marked, ap (cyclesLeft (ticking .at)) (e .idle)))
 
 -- so the record that it leaves is at rest, as a run's is
-pub finish-keeps-sound : (m : Machine) → AtWork m → AtRest (finishOf m .machine)
+pub finish-keeps-sound : (m : Bench) → AtWork m → AtRest (finishOf m .bench)
 unfolding movedOf
 finish-keeps-sound m a =
     let t = finishOf m .ticks in
     record {
-      sound = subst (λ (r : Ran). soundOf (r .machine) ≡ true) (finish-is-run m a t t (omega arith) (omega arith)) (run-keeps m (a .sound) t t);
+      sound = subst (λ (r : Ran). soundOf (r .bench) ≡ true) (finish-is-run m a t t (omega arith) (omega arith)) (run-keeps m (a .sound) t t);
       free = rw (finishes m a) (a .free);
       idle = rw (finishes m a);
     }

@@ -9,13 +9,13 @@ use Rattle.block.specs.declared.Path.{Path}
 use Rattle.block.specs.Questions.{loadNo}
 use Rattle.work.specs.Work.{isNothing, begunOf, workAlong as begunAlong}
 use Rattle.settings.specs.declared.Settings.{Settings}
-use Rattle.machine.specs.declared.Answered.{Answered}
+use Rattle.bench.specs.declared.Answered.{Answered}
 use Rattle.settings.specs.Settings.{capacityOf, settingsNo}
-use Rattle.machine.specs.Machine.{soundOf, movedOf}
+use Rattle.bench.specs.Bench.{soundOf, movedOf}
 use Rattle.run.specs.Run.{written}
-use Rattle.machine.specs.Run.{runOf}
-use Rattle.machine.specs.laws.Run.{ticks-are}
-use Rattle.machine.specs.Calls.{loadWith, loadOf, tickOf, holdOf, releaseOf, stopOf}
+use Rattle.bench.specs.Run.{runOf}
+use Rattle.bench.specs.laws.Run.{ticks-are}
+use Rattle.bench.specs.Calls.{loadWith, loadOf, tickOf, holdOf, releaseOf, stopOf}
 use Rattle.book.specs.Book.{InWork, Book, Call, entry, loaded, loadEntry, isNothing as idle}
 use Rattle.book.specs.laws.Sound.{Sound}
 use Rattle.history.specs.Agree.{workAlong, workOf, machineOf}
@@ -30,7 +30,7 @@ same-idle (InWork.working j) = always-working j (j .block .path)
 
 module _ (s : Settings) (passed : settingsNo s ≡ 0) (b : Book) (i : Sound (capacityOf s) (s .travel) b) where
   abbrev answersAs : Call → Answered → Type 0
-  answersAs c r = Follows s (entry (capacityOf s) (s .travel) b c) (answerReply (r .answer)) (r .machine)
+  answersAs c r = Follows s (entry (capacityOf s) (s .travel) b c) (answerReply (r .answer)) (r .bench)
 
   sound : soundOf (machineOf s b) ≡ true
   sound = record-sound s passed b i
@@ -40,7 +40,7 @@ module _ (s : Settings) (passed : settingsNo s ≡ 0) (b : Book) (i : Sound (cap
   begun k Path.Line = refl
   begun k (Path.Arc turn centre) = refl
 
-  load-by : (k : Block) (n : ℕ) → (let r = loadWith (machineOf s b) k n in Follows s (loaded (capacityOf s) (s .travel) b k n) (answerReply (r .answer)) (r .machine))
+  load-by : (k : Block) (n : ℕ) → (let r = loadWith (machineOf s b) k n in Follows s (loaded (capacityOf s) (s .travel) b k n) (answerReply (r .answer)) (r .bench))
   unfolding begunOf movedOf
   load-by k zero = record { says = refl; leads = rw (begun k (k .path)) }
   load-by k (suc n) = record { says = refl; leads = refl }
@@ -49,7 +49,7 @@ module _ (s : Settings) (passed : settingsNo s ≡ 0) (b : Book) (i : Sound (cap
   unfolding loadOf loadEntry
   load-follows k = rw (sound, same-idle (b .work)) (load-by k (loadNo (capacityOf s) (s .travel) (idle (b .work)) (b .at) k))
 
-  pub tick-follows : (let r = tickOf (machineOf s b) in Follows s (entry (capacityOf s) (s .travel) b Call.tick) (tickReply (r .tick)) (r .machine))
+  pub tick-follows : (let r = tickOf (machineOf s b) in Follows s (entry (capacityOf s) (s .travel) b Call.tick) (tickReply (r .tick)) (r .bench))
   tick-follows = rw (tick-is s passed b i) (record { says = refl; leads = refl })
 
   pub hold-follows : answersAs Call.hold (holdOf (machineOf s b))
@@ -66,7 +66,7 @@ module _ (s : Settings) (passed : settingsNo s ≡ 0) (b : Book) (i : Sound (cap
 
   pub run-follows : (budget : ℕ) (out : List ℕ)
       → (let k = runOf (machineOf s b) budget (length out) in
-      Follows s (entry (capacityOf s) (s .travel) b (Call.run budget (length out))) (runReply (k .ran .report) (k .ran .ticks) (take (k .ran .ticks) (written (k .bytes) out))) (k .ran .machine))
+      Follows s (entry (capacityOf s) (s .travel) b (Call.run budget (length out))) (runReply (k .ran .report) (k .ran .ticks) (take (k .ran .ticks) (written (k .bytes) out))) (k .ran .bench))
   run-follows budget out =
       let k = runOf (machineOf s b) budget (length out) in
       let bytes : take (k .ran .ticks) (written (k .bytes) out) ≡ k .bytes = rw (ticks-are (machineOf s b) budget (length out)) (first-bytes (k .bytes) out) in

@@ -13,8 +13,8 @@ use lib.ListN.{length, take, drop}
 use lib.Seq.{take-append-seam}
 use Rattle.settings.specs.declared.Settings.{Settings}
 use Rattle.settings.specs.Settings.{capacityOf, settingsNo}
-use Rattle.machine.specs.Machine.{movedOf}
-use Rattle.machine.specs.Run.{reportOf, runOf}
+use Rattle.bench.specs.Bench.{movedOf}
+use Rattle.bench.specs.Run.{reportOf, runOf}
 use Rattle.book.specs.laws.Settings.{SettingsRight}
 use Rattle.book.specs.laws.Sound.{Sound, bookOf}
 use Rattle.book.specs.laws.Call.{call-kept}
@@ -74,7 +74,7 @@ module _ (s : Settings) (passed : settingsNo s ≡ 0) where
   abbrev Matches : Book → (budget buffer : ℕ) → Type 0
   Matches b budget buffer =
       let k = runOf (machineOf s b) budget buffer in
-      Follows s (runEntry (capacityOf s) (s .travel) b budget buffer) (runReply (k .ran .report) (k .ran .ticks) (k .bytes)) (k .ran .machine)
+      Follows s (runEntry (capacityOf s) (s .travel) b budget buffer) (runReply (k .ran .report) (k .ran .ticks) (k .bytes)) (k .ran .bench)
 
   run-parts : (budget buffer : ℕ) (at : Point) (mark : Bool) (r : ℕ) (w : InWork) → Sound (capacityOf s) (s .travel) (bookOf at mark r w) → Matches (bookOf at mark r w) budget buffer
   unfolding runOf runEntry movedOf

@@ -28,11 +28,11 @@ use Rattle.work.specs.declared.Cycle.{Cycle}
 use Rattle.work.specs.declared.Advance.{Advance}
 use Rattle.work.specs.Work.{following, lineCycle, arcCycle, cycleOf, feedOf, chargeOf, advanceBy, advanceOf}
 use Rattle.settings.specs.declared.Settings.{Settings}
-use Rattle.machine.specs.declared.Tick.{Tick}
-use Rattle.machine.specs.declared.Ticked.{Ticked as MachineTicked}
+use Rattle.bench.specs.declared.Tick.{Tick}
+use Rattle.bench.specs.declared.Ticked.{Ticked as MachineTicked}
 use Rattle.settings.specs.Settings.{capacityOf, settingsNo}
-use Rattle.machine.specs.Machine.{movedOf}
-use Rattle.machine.specs.Calls.{ticks, working, tickOf}
+use Rattle.bench.specs.Bench.{movedOf}
+use Rattle.bench.specs.Calls.{ticks, working, tickOf}
 use Rattle.book.specs.Book.{Job, InWork, Book, Ticked, cycleTick, fedTick, bookTick}
 use Rattle.book.specs.laws.Sound.{JobSound, Sound, bookOf}
 use Rattle.book.specs.laws.Here.{Here, ArcHere, after-one, job-here}

@@ -14,12 +14,12 @@ use Rattle.words.specs.Meaning.{Means}
 use Rattle.words.specs.laws.Scan.{lineOf}
 use Rattle.words.specs.laws.Reading.{line-means, means-unique}
 use Rattle.work.specs.Work.{isNothing, begunOf}
-use Rattle.machine.specs.declared.Machine.{Machine}
-use Rattle.machine.specs.declared.Answered.{Answered}
+use Rattle.bench.specs.declared.Bench.{Bench}
+use Rattle.bench.specs.declared.Answered.{Answered}
 use Rattle.settings.specs.declared.Settings.{Settings}
 use Rattle.settings.specs.Settings.{capacityOf}
-use Rattle.machine.specs.Machine.{soundOf}
-use Rattle.machine.specs.Calls.{taking, loadWith, loadOf}
+use Rattle.bench.specs.Bench.{soundOf}
+use Rattle.bench.specs.Calls.{taking, loadWith, loadOf}
 use Rattle.reader.specs.declared.Reader.{Reader}
 use Rattle.reader.specs.declared.«text_line».Read.{Read}
 use Rattle.reader.specs.declared.«text_line».ReadLine.{ReadLine}
@@ -29,12 +29,12 @@ use Rattle.job.specs.laws.Ended.{Accepted}
 use Rattle.job.specs.Job.{Asks, loadAsks, blockAsks, wordsAsk, lineAsks}
 
 -- a line read at the machine m with k known, side by side: what it asks, and what the call answers
-pub data Read-as (m : Machine) (k : Reader) : Asks → ReadLine → Type 0 where
+pub data Read-as (m : Bench) (k : Reader) : Asks → ReadLine → Type 0 where
   nothing : (known : Reader) → Read-as m k (Asks.nothing known) (reads Read.Nothing known m)
-  makes : (known : Reader) (b : Block) → Accepted m b → Read-as m k (Asks.makes known b) (reads (Read.Loaded (blockWidth (m .at) b)) known (loadOf m b .machine))
+  makes : (known : Reader) (b : Block) → Accepted m b → Read-as m k (Asks.makes known b) (reads (Read.Loaded (blockWidth (m .at) b)) known (loadOf m b .bench))
   refuses : (number : ℕ) → Read-as m k (Asks.refuses number) (reads (Read.Refused number) k m)
 
-module _ (m : Machine) (sound : soundOf m ≡ true) (idle : isNothing (m .work) ≡ true) where
+module _ (m : Bench) (sound : soundOf m ≡ true) (idle : isNothing (m .work) ≡ true) where
   load-is : (b : Block) → loadOf m b ≡ loadWith m b (loadNo (capacityOf (m .settings)) (m .settings .travel) true (m .at) b)
   unfolding loadOf
   load-is b = rw (sound, idle)
@@ -42,13 +42,13 @@ module _ (m : Machine) (sound : soundOf m ≡ true) (idle : isNothing (m .work) 
   pub load-accepted : (b : Block) → Accepted m b → loadOf m b ≡ taking m (begunOf (m .at) b)
   load-accepted b e = load-is b ∙ ap (loadWith m b) e
 
-module _ (m : Machine) (k : Reader) (sound : soundOf m ≡ true) (idle : isNothing (m .work) ≡ true) where
+module _ (m : Bench) (k : Reader) (sound : soundOf m ≡ true) (idle : isNothing (m .work) ≡ true) where
   load-asks : (k′ : Reader) (b : Block) (number : ℕ) → loadNo (capacityOf (m .settings)) (m .settings .travel) true (m .at) b ≡ number
-      → Read-as m k (loadAsks k′ b number) (loaded k k′ m (loadWith m b number .machine) (loadWith m b number .answer))
+      → Read-as m k (loadAsks k′ b number) (loaded k k′ m (loadWith m b number .bench) (loadWith m b number .answer))
   unfolding begunOf
   load-asks k′ b zero e =
-      subst (λ (n : Machine). Read-as m k (Asks.makes k′ b) (reads (Read.Loaded (blockWidth (m .at) b)) k′ n))
-      (ap (λ (a : Answered). a .machine) (load-accepted m sound idle b e))
+      subst (λ (n : Bench). Read-as m k (Asks.makes k′ b) (reads (Read.Loaded (blockWidth (m .at) b)) k′ n))
+      (ap (λ (a : Answered). a .bench) (load-accepted m sound idle b e))
       (Read-as.makes k′ b e)
   load-asks k′ b (suc n) e = Read-as.refuses (suc n)
 
@@ -57,7 +57,7 @@ module _ (m : Machine) (k : Reader) (sound : soundOf m ≡ true) (idle : isNothi
   block-asks k′ b = by (still (b .end) (m .at) (b .path))
     where
       by : (stays : Bool) → Read-as m k (cond stays (Asks.nothing k′) (loadAsks k′ b (loadNo (capacityOf (m .settings)) (m .settings .travel) true (m .at) b)))
-          (cond stays (reads Read.Nothing k′ m) (loaded k k′ m (loadOf m b .machine) (loadOf m b .answer)))
+          (cond stays (reads Read.Nothing k′ m) (loaded k k′ m (loadOf m b .bench) (loadOf m b .answer)))
       by true = Read-as.nothing k′
       by false = rw (load-is m sound idle b) (load-asks k′ b (loadNo (capacityOf (m .settings)) (m .settings .travel) true (m .at) b) refl)
 

@@ -14,14 +14,14 @@ use Rattle.book.specs.Ledger.{blockTicks}
 use Rattle.book.specs.Sums.{cyclesMarked}
 use Rattle.book.specs.laws.Begins.{Begun, accepted-begins}
 use Rattle.work.specs.Work.{isNothing}
-use Rattle.machine.specs.declared.Machine.{Machine}
-use Rattle.machine.specs.declared.Report.{Report}
+use Rattle.bench.specs.declared.Bench.{Bench}
+use Rattle.bench.specs.declared.Report.{Report}
 use Rattle.settings.specs.Settings.{capacityOf}
 use Rattle.settings.specs.laws.Right.{settings-right}
-use Rattle.machine.specs.Machine.{movedOf}
-use Rattle.machine.specs.Calls.{loadOf}
-use Rattle.machine.specs.Run.{runOf}
-use Rattle.machine.specs.laws.Sound.{sound}
+use Rattle.bench.specs.Bench.{movedOf}
+use Rattle.bench.specs.Calls.{loadOf}
+use Rattle.bench.specs.Run.{runOf}
+use Rattle.bench.specs.laws.Sound.{sound}
 use Rattle.finish.specs.declared.Finished.{Finished}
 use Rattle.finish.specs.Finish.{finishedOf, finishOf}
 use Rattle.finish.specs.laws.Record.{AtRest, ticks-most}
@@ -30,41 +30,41 @@ use Rattle.finish.specs.laws.Loaded.{loaded-at-work, finish-loaded, loaded-rest
 use Rattle.job.specs.Calls.{enough}
 
 -- no question refuses the load of this block
-abbrev pub Accepted : Machine → Block → Type 0
+abbrev pub Accepted : Bench → Block → Type 0
 Accepted m b = loadNo (capacityOf (m .settings)) (m .settings .travel) true (m .at) b ≡ 0
 
 -- what the block leaves
-abbrev pub endedOf : Machine → Block → Finished
+abbrev pub endedOf : Bench → Block → Finished
 endedOf m b = finishedOf m (b .end) (blockCycles (m .at) b) (blockCharges (m .at) b) (b .feed)
 
-module _ (m : Machine) (r : AtRest m) (b : Block) (ok : Accepted m b) where
+module _ (m : Bench) (r : AtRest m) (b : Block) (ok : Accepted m b) where
   asked : loadNo (capacityOf (m .settings)) (m .settings .travel) (isNothing (m .work)) (m .at) b ≡ 0
   asked = rw (r .idle) ok
 
-  pub ended : finishOf (loadOf m b .machine) ≡ endedOf m b
+  pub ended : finishOf (loadOf m b .bench) ≡ endedOf m b
   ended = finish-loaded m r b asked
 
-  pub ended-rests : AtRest (endedOf m b .machine)
-  ended-rests = subst (λ (f : Finished). AtRest (f .machine)) ended (loaded-rests m r b asked)
+  pub ended-rests : AtRest (endedOf m b .bench)
+  ended-rests = subst (λ (f : Finished). AtRest (f .bench)) ended (loaded-rests m r b asked)
 
   -- on the machine itself
-  pub ended-run : runOf (loadOf m b .machine) enough enough .ran
-      ≡ record { report = Report.Ended; ticks = endedOf m b .ticks; machine = endedOf m b .machine }
+  pub ended-run : runOf (loadOf m b .bench) enough enough .ran
+      ≡ record { report = Report.Ended; ticks = endedOf m b .ticks; bench = endedOf m b .bench }
   ended-run =
-      finish-is-run (loadOf m b .machine) (loaded-at-work m r b asked) enough enough (ticks-most _) (ticks-most _)
-      ∙ ap (λ (f : Finished). record { report = Report.Ended; ticks = f .ticks; machine = f .machine }) ended
+      finish-is-run (loadOf m b .bench) (loaded-at-work m r b asked) enough enough (ticks-most _) (ticks-most _)
+      ∙ ap (λ (f : Finished). record { report = Report.Ended; ticks = f .ticks; bench = f .bench }) ended
 
-  pub ended-cycles : cyclesMarked (runOf (loadOf m b .machine) enough enough .bytes) ≡ endedOf m b .cycles
+  pub ended-cycles : cyclesMarked (runOf (loadOf m b .bench) enough enough .bytes) ≡ endedOf m b .cycles
   ended-cycles =
-      finish-counts (loadOf m b .machine) (loaded-at-work m r b asked) enough enough (ticks-most _) (ticks-most _)
+      finish-counts (loadOf m b .bench) (loaded-at-work m r b asked) enough enough (ticks-most _) (ticks-most _)
       ∙ ap (λ (f : Finished). f .cycles) ended
 
 -- ---- from a remainder that pays for no cycle
 
-abbrev pub Low : Machine → Type 0
+abbrev pub Low : Bench → Type 0
 Low m = m .remainder < straight * capacityOf (m .settings)
 
-module _ (m : Machine) (r : AtRest m) (b : Block) (ok : Accepted m b) (low : Low m) where
+module _ (m : Bench) (r : AtRest m) (b : Block) (ok : Accepted m b) (low : Low m) where
   begins : Begun (capacityOf (m .settings)) (m .remainder) (m .at) b
   begins =
       let s = sound (r .sound) in
@@ -75,12 +75,12 @@ module _ (m : Machine) (r : AtRest m) (b : Block) (ok : Accepted m b) (low : Low
   ended-ticks = begins .ends
 
   pub ended-left : (let q0 = capacityOf (m .settings) in
-      endedOf m b .machine .remainder
+      endedOf m b .bench .remainder
       ≡ m .remainder + blockTicks q0 (m .remainder) (m .at) b * addedBy b - blockCharges (m .at) b * q0)
   unfolding movedOf
   ended-left = ap (λ (t : ℕ). m .remainder + t * addedBy b - blockCharges (m .at) b * capacityOf (m .settings)) ended-ticks
 
   -- for the next block
-  pub ended-low : Low (endedOf m b .machine)
+  pub ended-low : Low (endedOf m b .bench)
   unfolding movedOf
   ended-low = rw ended-ticks (begins .below)

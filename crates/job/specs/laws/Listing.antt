@@ -12,7 +12,7 @@ use Rattle.settings.specs.declared.Settings.{Settings}
 use Rattle.settings.specs.Settings.{capacityOf, settingsNo}
 use Rattle.settings.specs.laws.Right.{settings-right}
 use Rattle.finish.specs.laws.Record.{AtRest}
-use Rattle.machine.specs.Machine.{freshOf}
+use Rattle.bench.specs.Bench.{freshOf}
 use Rattle.keeps.specs.laws.Make.{fresh-sound}
 use lib.IntN.{pos}
 use Rattle.reader.specs.Reader.{unknown}

@@ -9,10 +9,10 @@ use Rattle.block.specs.declared.Block.{Block}
 use Rattle.letters.specs.declared.word.Word.{Word}
 use Rattle.letters.specs.declared.word.Words.{Words}
 use Rattle.words.specs.laws.Scan.{lineOf}
-use Rattle.machine.specs.declared.Machine.{Machine}
-use Rattle.machine.specs.declared.Answer.{Answer}
-use Rattle.machine.specs.Machine.{soundOf, movedOf}
-use Rattle.machine.specs.Calls.{loadOf}
+use Rattle.bench.specs.declared.Bench.{Bench}
+use Rattle.bench.specs.declared.Answer.{Answer}
+use Rattle.bench.specs.Bench.{soundOf, movedOf}
+use Rattle.bench.specs.Calls.{loadOf}
 use Rattle.finish.specs.laws.Record.{AtRest, cycles-most, ticks-most}
 use Rattle.reader.specs.declared.Feed.{Feed}
 use Rattle.reader.specs.declared.Reader.{Reader}
@@ -31,7 +31,7 @@ use Rattle.job.specs.Check.{FeedSmall, Reached}
 use Rattle.job.specs.laws.Ended.{ended, ended-rests}
 use Rattle.job.specs.laws.Asks.{Read-as, line-asks}
 
-pub start-reached : {m : Machine} → AtRest m → Reached 0 (tallyStart m)
+pub start-reached : {m : Bench} → AtRest m → Reached 0 (tallyStart m)
 unfolding tallyStart
 start-reached i =
     record {
@@ -55,8 +55,8 @@ feed-after f w h known = by (w .stands)
     by true = h
     by false = known
 
-module _ (k k′ : Reader) (m : Machine) (before : FeedSmall (k .feed)) (after : FeedSmall (k′ .feed)) where
-  feed-loaded : (next : Machine) (a : Answer) → FeedSmall (loaded k k′ m next a .reader .feed)
+module _ (k k′ : Reader) (m : Bench) (before : FeedSmall (k .feed)) (after : FeedSmall (k′ .feed)) where
+  feed-loaded : (next : Bench) (a : Answer) → FeedSmall (loaded k k′ m next a .reader .feed)
   feed-loaded next Answer.Done = after
   feed-loaded next (Answer.Width bits) = after
   feed-loaded next (Answer.Refused number) = before
@@ -65,9 +65,9 @@ module _ (k k′ : Reader) (m : Machine) (before : FeedSmall (k .feed)) (after :
   unfolding takenOf
   feed-taken b = by (still (b .end) (m .at) (b .path))
     where
-      by : (stays : Bool) → FeedSmall (cond stays (reads Read.Nothing k′ m) (loaded k k′ m (loadOf m b .machine) (loadOf m b .answer)) .reader .feed)
+      by : (stays : Bool) → FeedSmall (cond stays (reads Read.Nothing k′ m) (loaded k k′ m (loadOf m b .bench) (loadOf m b .answer)) .reader .feed)
       by true = after
-      by false = feed-loaded (loadOf m b .machine) (loadOf m b .answer)
+      by false = feed-loaded (loadOf m b .bench) (loadOf m b .answer)
 
   feed-words : (ws : Words) (number : ℕ) → FeedSmall (readWith k k′ m ws number .reader .feed)
   feed-words ws zero = by (moving ws)
@@ -77,7 +77,7 @@ module _ (k k′ : Reader) (m : Machine) (before : FeedSmall (k .feed)) (after :
       by false = after
   feed-words ws (suc n) = before
 
-feed-read : (k : Reader) (m : Machine) (line : List ℕ) → FeedSmall (k .feed) → FeedSmall (readLineOf k m line .reader .feed)
+feed-read : (k : Reader) (m : Bench) (line : List ℕ) → FeedSmall (k .feed) → FeedSmall (readLineOf k m line .reader .feed)
 unfolding readLineOf
 feed-read k m line h = by (soundOf m)
   where
@@ -93,7 +93,7 @@ feed-read k m line h = by (soundOf m)
 -- ---- a line
 
 module _ (t : Tally) {at next : ℕ} (r : Reached at t) (near : next ≤ 65537) where
-  rests : AtRest (t .machine)
+  rests : AtRest (t .bench)
   rests = record { sound = r .sound; free = r .free; idle = r .idle }
 
   stays : Reached next t
@@ -110,8 +110,8 @@ module _ (t : Tally) {at next : ℕ} (r : Reached at t) (near : next ≤ 65537) 
         ticks = r .ticks;
       }
 
-  by-line : Counts t → {a : Asks} {x : ReadLine} → Read-as (t .machine) (t .reader) a x → FeedSmall (x .reader .feed)
-      → Reached next (listedWith t (x .reader) (x .machine) (x .answer) .tally)
+  by-line : Counts t → {a : Asks} {x : ReadLine} → Read-as (t .bench) (t .reader) a x → FeedSmall (x .reader .feed)
+      → Reached next (listedWith t (x .reader) (x .bench) (x .answer) .tally)
   unfolding blockListed movedOf
   by-line c (Read-as.nothing known) f =
       record {
@@ -126,10 +126,10 @@ module _ (t : Tally) {at next : ℕ} (r : Reached at t) (near : next ≤ 65537) 
         ticks = omega (arith, c .ticks);
       }
   by-line c (Read-as.makes known b ok) f =
-      let e = ended (t .machine) rests b ok in
-      let i = ended-rests (t .machine) rests b ok in
-      let few = rw e at (cycles-most (loadOf (t .machine) b .machine)) in
-      let short = rw e at (ticks-most (loadOf (t .machine) b .machine)) in
+      let e = ended (t .bench) rests b ok in
+      let i = ended-rests (t .bench) rests b ok in
+      let few = rw e at (cycles-most (loadOf (t .bench) b .bench)) in
+      let short = rw e at (ticks-most (loadOf (t .bench) b .bench)) in
       rw e
       (record {
         sound = i .sound;
@@ -149,6 +149,6 @@ module _ (t : Tally) {at next : ℕ} (r : Reached at t) (near : next ≤ 65537) 
     where
       by : (right : Bool) → countsRight t ≡ right → Reached next (listedOf t line .tally)
       by true e =
-          rw (listed t line e {r = readLineOf (t .reader) (t .machine) line} refl)
-          (by-line (counts t e) (line-asks (t .machine) (t .reader) (r .sound) (r .idle) line) (feed-read (t .reader) (t .machine) line (r .feed)))
+          rw (listed t line e {r = readLineOf (t .reader) (t .bench) line} refl)
+          (by-line (counts t e) (line-asks (t .bench) (t .reader) (r .sound) (r .idle) line) (feed-read (t .reader) (t .bench) line (r .feed)))
       by false e = rw (not-listed t line e) stays

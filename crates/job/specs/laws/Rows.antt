@@ -11,8 +11,8 @@ use Rattle.block.specs.Block.{blockWidth}
 use Rattle.row.specs.Lines.{totalLine, refusedLine}
 use Rattle.work.specs.Work.{workAlong, begunOf}
 use Rattle.settings.specs.Settings.{capacityOf}
-use Rattle.machine.specs.Machine.{movedOf}
-use Rattle.machine.specs.Calls.{loadOf}
+use Rattle.bench.specs.Bench.{movedOf}
+use Rattle.bench.specs.Calls.{loadOf}
 use Rattle.finish.specs.laws.Record.{AtRest, cycles-most, ticks-most}
 use Rattle.reader.specs.declared.Reader.{Reader}
 use Rattle.reader.specs.declared.«text_line».ReadLine.{ReadLine}
@@ -33,7 +33,7 @@ lastAfter blocks cycles ticks q0 r ms End.complete = totalLine (blocks + length 
 lastAfter blocks cycles ticks q0 r ms (End.refused n number) = refusedLine n number
 
 abbrev pub lastOf : Tally → List Made → End → List ℕ
-lastOf t = lastAfter (t .blocks) (t .cycles) (t .ticks) (capacityOf (t .machine .settings)) (t .machine .remainder)
+lastOf t = lastAfter (t .blocks) (t .cycles) (t .ticks) (capacityOf (t .bench .settings)) (t .bench .remainder)
 
 abbrev pub listingAfter : Tally → Job → List ℕ
 listingAfter t j = rows (t .blocks + 1) (j .blocks) ++ lastOf t (j .blocks) (j .end)
@@ -43,39 +43,39 @@ total-same p q r = rw (p, q, r)
 
 -- ---- a line that makes a block
 
-module _ (t : Tally) (k : Reader) (b : Block) (i : AtRest (t .machine)) (low : Low (t .machine)) (ok : Accepted (t .machine) b) where
+module _ (t : Tally) (k : Reader) (b : Block) (i : AtRest (t .bench)) (low : Low (t .bench)) (ok : Accepted (t .bench) b) where
   abbrev made : Made
-  made = record { textLine = t .lines + 1; start = t .machine .at; block = b }
+  made = record { textLine = t .lines + 1; start = t .bench .at; block = b }
 
   abbrev next : Tally
   next =
-      let f = endedOf (t .machine) b in
-      record { reader = k; machine = f .machine; lines = t .lines + 1; blocks = t .blocks + 1; cycles = t .cycles + f .cycles; ticks = t .ticks + f .ticks }
+      let f = endedOf (t .bench) b in
+      record { reader = k; bench = f .bench; lines = t .lines + 1; blocks = t .blocks + 1; cycles = t .cycles + f .cycles; ticks = t .ticks + f .ticks }
 
-  kind-loaded : kindOf (loadOf (t .machine) b .machine .work) ≡ pathKind (b .path)
+  kind-loaded : kindOf (loadOf (t .bench) b .bench .work) ≡ pathKind (b .path)
   unfolding begunOf movedOf
-  kind-loaded = rw (load-accepted (t .machine) (i .sound) (i .idle) b ok) (by (b .path))
+  kind-loaded = rw (load-accepted (t .bench) (i .sound) (i .idle) b ok) (by (b .path))
     where
-      by : (p : Path) → kindOf (workAlong (t .machine .at) b p) ≡ pathKind p
+      by : (p : Path) → kindOf (workAlong (t .bench .at) b p) ≡ pathKind p
       by Path.Line = refl
       by (Path.Arc turn centre) = refl
 
-  block-given : blockListed t k (loadOf (t .machine) b .machine) (blockWidth (t .machine .at) b) ≡ record { bytes = madeLine (t .blocks + 1) made; over = false; tally = next }
+  block-given : blockListed t k (loadOf (t .bench) b .bench) (blockWidth (t .bench .at) b) ≡ record { bytes = madeLine (t .blocks + 1) made; over = false; tally = next }
   unfolding blockListed movedOf
-  block-given = rw (ended (t .machine) i b ok, kind-loaded)
+  block-given = rw (ended (t .bench) i b ok, kind-loaded)
 
   counted : Counts t → t .lines + 1 ≤ 65536 → Counts next
   counted c most =
-      let e = ended (t .machine) i b ok in
-      let few = rw e at (cycles-most (loadOf (t .machine) b .machine)) in
-      let short = rw e at (ticks-most (loadOf (t .machine) b .machine)) in
+      let e = ended (t .bench) i b ok in
+      let few = rw e at (cycles-most (loadOf (t .bench) b .bench)) in
+      let short = rw e at (ticks-most (loadOf (t .bench) b .bench)) in
       record { lines = omega arith; blocks = omega (arith, c .blocks); cycles = omega (arith, c .cycles); ticks = omega (arith, c .ticks) }
 
   last-next : (ms : List Made) (end : End) → lastOf next ms end ≡ lastOf t (made ∷ ms) end
   unfolding allCycles allTicks movedOf
   last-next ms End.complete =
-      let many = ended-ticks (t .machine) i b ok low in
-      let left = ap (λ (r : ℕ). allTicks (capacityOf (t .machine .settings)) r ms) (ended-left (t .machine) i b ok low) in
+      let many = ended-ticks (t .bench) i b ok low in
+      let left = ap (λ (r : ℕ). allTicks (capacityOf (t .bench .settings)) r ms) (ended-left (t .bench) i b ok low) in
       total-same (omega arith) (omega arith) (omega arith)
   last-next ms (End.refused n number) = refl
 
@@ -88,28 +88,28 @@ module _ (t : Tally) (k : Reader) (b : Block) (i : AtRest (t .machine)) (low : L
 -- ---- any line
 
 abbrev pub Lists : List (List ℕ) → Tally → Type 0
-Lists ls t = AtRest (t .machine) → Low (t .machine) → Counts t → t .lines + length ls ≤ 65536
-    → rowsFrom t ls ≡ listingAfter t (jobFrom (t .machine .settings) (t .lines + 1) (t .machine .at) (t .reader) ls)
+Lists ls t = AtRest (t .bench) → Low (t .bench) → Counts t → t .lines + length ls ≤ 65536
+    → rowsFrom t ls ≡ listingAfter t (jobFrom (t .bench .settings) (t .lines + 1) (t .bench .at) (t .reader) ls)
 
-by-line : (t : Tally) (ls : List (List ℕ)) → AtRest (t .machine) → Low (t .machine) → Counts t → t .lines + suc (length ls) ≤ 65536
+by-line : (t : Tally) (ls : List (List ℕ)) → AtRest (t .bench) → Low (t .bench) → Counts t → t .lines + suc (length ls) ≤ 65536
     → ((t′ : Tally) → Lists ls t′)
-    → {a : Asks} {r : ReadLine} → Read-as (t .machine) (t .reader) a r
-    → (let g = listedWith t (r .reader) (r .machine) (r .answer) in g .bytes ++ unless (g .over) (rowsFrom (g .tally) ls))
-    ≡ listingAfter t (onward (t .lines + 1) (t .machine .at) a (λ at k. jobFrom (t .machine .settings) (t .lines + 1 + 1) at k ls))
+    → {a : Asks} {r : ReadLine} → Read-as (t .bench) (t .reader) a r
+    → (let g = listedWith t (r .reader) (r .bench) (r .answer) in g .bytes ++ unless (g .over) (rowsFrom (g .tally) ls))
+    ≡ listingAfter t (onward (t .lines + 1) (t .bench .at) a (λ at k. jobFrom (t .bench .settings) (t .lines + 1 + 1) at k ls))
 unfolding rows movedOf
 by-line t ls i low c most rest (Read-as.nothing k) =
-    rest (record { reader = k; machine = t .machine; lines = t .lines + 1; blocks = t .blocks; cycles = t .cycles; ticks = t .ticks }) i low
+    rest (record { reader = k; bench = t .bench; lines = t .lines + 1; blocks = t .blocks; cycles = t .cycles; ticks = t .ticks }) i low
     (record { lines = omega arith; blocks = omega (arith, c .blocks); cycles = omega (arith, c .cycles); ticks = omega (arith, c .ticks) })
     (omega arith)
 by-line t ls i low c most rest (Read-as.makes k b ok) =
-    let j = ended-rests (t .machine) i b ok in
-    let later = rest (next t k b i low ok) j (ended-low (t .machine) i b ok low) (counted t k b i low ok c (omega arith)) (omega arith) in
-    rw (block-given t k b i low ok, later) (listed-next t k b i low ok (jobFrom (t .machine .settings) (t .lines + 1 + 1) (b .end) k ls))
+    let j = ended-rests (t .bench) i b ok in
+    let later = rest (next t k b i low ok) j (ended-low (t .bench) i b ok low) (counted t k b i low ok c (omega arith)) (omega arith) in
+    rw (block-given t k b i low ok, later) (listed-next t k b i low ok (jobFrom (t .bench .settings) (t .lines + 1 + 1) (b .end) k ls))
 by-line t ls i low c most rest (Read-as.refuses n) = append-nil (refusedLine (t .lines + 1) n)
 
 pub lists : (ls : List (List ℕ)) (t : Tally) → Lists ls t
 unfolding rowsFrom jobFrom rows allCycles allTicks
 lists [] t i low c most = total-same (omega arith) (omega arith) (omega arith)
 lists (l ∷ ls) t i low c most =
-    rw (listed t l (counts-test t c) {r = readLineOf (t .reader) (t .machine) l} refl)
-    (by-line t ls i low c most (lists ls) (line-asks (t .machine) (t .reader) (i .sound) (i .idle) l))
+    rw (listed t l (counts-test t c) {r = readLineOf (t .reader) (t .bench) l} refl)
+    (by-line t ls i low c most (lists ls) (line-asks (t .bench) (t .reader) (i .sound) (i .idle) l))

@@ -5,14 +5,14 @@ use Rattle.jobcheck.proofs.start.Tie as tie
 use Rattle.jobcheck.proofs.start.Reads as reads
 use Rattle.jobcheck.proofs.start.Lts as lts
 use Rattle.job.proofs.Check.start.Reads as start-reads
-use Rattle.machine.proofs.Machine.make.Reads as make-reads
+use Rattle.bench.proofs.Bench.make.Reads as make-reads
 use Rattle.settings.proofs.standard.Reads as standard-reads
 use Rattle.job.specs.declared.Check.{Check}
 use Rattle.job.specs.Check.{restOf, startOf}
 use mathlib.Core.Path.{_≡_, ap, _∙_}
 use Rattle.settings.specs.Settings.{standardSettings}
-use Rattle.machine.specs.Machine.{freshOf}
-use Rattle.machine.specs.Calls.{makeOf}
+use Rattle.bench.specs.Bench.{freshOf}
+use Rattle.bench.specs.Calls.{makeOf}
 use Rattle.settings.specs.laws.Right.{standard-passes}
 use Rattle.job.specs.laws.Listing.{listing-is}
 

@@ -5,14 +5,14 @@ use Rattle.jobticks.proofs.start.Tie as tie
 use Rattle.jobticks.proofs.start.Reads as reads
 use Rattle.jobticks.proofs.start.Lts as lts
 use Rattle.tape.proofs.Tape.start.Reads as start-reads
-use Rattle.machine.proofs.Machine.make.Reads as make-reads
+use Rattle.bench.proofs.Bench.make.Reads as make-reads
 use Rattle.settings.proofs.standard.Reads as standard-reads
 use Rattle.tape.specs.declared.Tape.{Tape}
 use Rattle.tape.specs.Tape.{restOf, startOf}
 use mathlib.Core.Path.{_≡_, ap, _∙_}
 use Rattle.settings.specs.Settings.{standardSettings}
-use Rattle.machine.specs.Machine.{freshOf}
-use Rattle.machine.specs.Calls.{makeOf}
+use Rattle.bench.specs.Bench.{freshOf}
+use Rattle.bench.specs.Calls.{makeOf}
 use Rattle.settings.specs.laws.Right.{standard-passes}
 use Rattle.tape.specs.laws.Told.{tape-tells}
 

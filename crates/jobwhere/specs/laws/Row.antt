@@ -20,9 +20,9 @@ standingOf a =
       line = wordOf (a .line);
       ticks = wordOf (a .ticks);
       left = wordOf (a .left);
-      x = a .machine .at .x;
-      y = a .machine .at .y;
-      remainder = wordOf (a .machine .remainder);
+      x = a .bench .at .x;
+      y = a .bench .at .y;
+      remainder = wordOf (a .bench .remainder);
     }
 
 abbrev pub rowWith : Standing → WorkWords → List ℤ

@@ -15,19 +15,19 @@ use Rattle.work.specs.declared.Work.{Work}
 use Rattle.work.specs.Work.{isNothing, workSound, advanceOf, begunOf}
 use Rattle.work.specs.laws.Keep.{SoundAt, keeps-sound}
 use Rattle.run.specs.Run.{Strip, stripOf}
-use Rattle.machine.specs.declared.Machine.{Machine}
+use Rattle.bench.specs.declared.Bench.{Bench}
 use Rattle.settings.specs.Settings.{capacityOf}
-use Rattle.machine.specs.Machine.{soundOf, movedOf}
-use Rattle.machine.specs.Calls.{loadWith, loadOf, ticks, working, tickOf, holdOf, releaseOf, stopOf}
-use Rattle.machine.specs.Run.{ranOver, noTick, runOf}
-use Rattle.machine.specs.declared.Report.{Report}
-use Rattle.machine.specs.declared.Tick.{Tick}
+use Rattle.bench.specs.Bench.{soundOf, movedOf}
+use Rattle.bench.specs.Calls.{loadWith, loadOf, ticks, working, tickOf, holdOf, releaseOf, stopOf}
+use Rattle.bench.specs.Run.{ranOver, noTick, runOf}
+use Rattle.bench.specs.declared.Report.{Report}
+use Rattle.bench.specs.declared.Tick.{Tick}
 use Rattle.settings.specs.laws.Right.{Right, settings-right}
-use Rattle.machine.specs.laws.Sound.{Sound, sound, sound-test, loadable}
+use Rattle.bench.specs.laws.Sound.{Sound, sound, sound-test, loadable}
 use Rattle.keeps.specs.laws.Load.{begun-sound}
 use Rattle.keeps.specs.laws.Run.{strip-keeps}
 
-module _ (m : Machine) (e : soundOf m ≡ true) where
+module _ (m : Bench) (e : soundOf m ≡ true) where
   abbrev q0 : ℕ
   q0 = capacityOf (m .settings)
 
@@ -47,19 +47,19 @@ module _ (m : Machine) (e : soundOf m ≡ true) where
   unfolding movedOf
   moved s = sound-test (record { settings = parts .settings; in-travel = inside-test (s .inside); below = s .below; work = s .sound })
 
-  pub hold-keeps : soundOf (holdOf m .machine) ≡ true
+  pub hold-keeps : soundOf (holdOf m .bench) ≡ true
   unfolding holdOf
   hold-keeps = rw e e
 
-  pub release-keeps : soundOf (releaseOf m .machine) ≡ true
+  pub release-keeps : soundOf (releaseOf m .bench) ≡ true
   unfolding releaseOf
   release-keeps = rw e e
 
-  pub stop-keeps : soundOf (stopOf m .machine) ≡ true
+  pub stop-keeps : soundOf (stopOf m .bench) ≡ true
   unfolding stopOf workSound
   stop-keeps = rw e (moved (record { inside = inside (parts .in-travel); below = omega (arith, right .clock-some); sound = refl }))
 
-  pub load-keeps : (b : Block) → soundOf (loadOf m b .machine) ≡ true
+  pub load-keeps : (b : Block) → soundOf (loadOf m b .bench) ≡ true
   unfolding loadOf loadNo begunOf
   load-keeps b = rw e (by (loadNo q0 t (isNothing (m .work)) (m .at) b) refl)
     where
@@ -72,26 +72,26 @@ module _ (m : Machine) (e : soundOf m ≡ true) where
           (loadable (m .at) (right .wide) (parts .in-travel) b q0 (isNothing (m .work)) none)
           (end .1)
 
-      by : (n : ℕ) → loadNo q0 t (isNothing (m .work)) (m .at) b ≡ n → soundOf (loadWith m b n .machine) ≡ true
+      by : (n : ℕ) → loadNo q0 t (isNothing (m .work)) (m .at) b ≡ n → soundOf (loadWith m b n .bench) ≡ true
       by zero none = moved (record { inside = inside (parts .in-travel); below = parts .below; sound = loaded none })
       by (suc n) some = e
 
-  pub tick-keeps : soundOf (tickOf m .machine) ≡ true
+  pub tick-keeps : soundOf (tickOf m .bench) ≡ true
   unfolding tickOf
   tick-keeps = rw e (by (m .held || isNothing (m .work)))
     where
-      by : (still : Bool) → soundOf (cond still (ticks (Tick.Byte 0) m) (working m (advanceOf q0 (m .at) (m .remainder) (m .work))) .machine) ≡ true
+      by : (still : Bool) → soundOf (cond still (ticks (Tick.Byte 0) m) (working m (advanceOf q0 (m .at) (m .remainder) (m .work))) .bench) ≡ true
       by true = e
       by false = moved (keeps-sound q0 t (m .work) here)
 
-  pub run-keeps : (budget buffer : ℕ) → soundOf (runOf m budget buffer .ran .machine) ≡ true
+  pub run-keeps : (budget buffer : ℕ) → soundOf (runOf m budget buffer .ran .bench) ≡ true
   unfolding runOf
   run-keeps budget buffer = rw e (by (isNothing (m .work)) (m .held))
     where
       strip : Strip
       strip = stripOf q0 (min budget buffer) (m .at) (m .remainder) (m .work)
 
-      by : (idle held : Bool) → soundOf (cond idle (noTick m Report.Idle) (cond held (noTick m Report.Held) (ranOver m budget strip)) .ran .machine) ≡ true
+      by : (idle held : Bool) → soundOf (cond idle (noTick m Report.Idle) (cond held (noTick m Report.Held) (ranOver m budget strip)) .ran .bench) ≡ true
       by true held = e
       by false true = e
       by false false = moved (strip-keeps q0 t (min budget buffer) (m .at) (m .remainder) (m .work) here)

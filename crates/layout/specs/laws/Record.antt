@@ -16,10 +16,10 @@ use Rattle.arc.specs.declared.arc.Arc.{Arc}
 use Rattle.work.specs.declared.Work.{Work}
 use Rattle.work.specs.Work.{workSound}
 use Rattle.work.specs.laws.Sound.{line-work, arc-work}
-use Rattle.machine.specs.declared.Machine.{Machine}
-use Rattle.machine.specs.Machine.{soundOf}
+use Rattle.bench.specs.declared.Bench.{Bench}
+use Rattle.bench.specs.Bench.{soundOf}
 use Rattle.settings.specs.laws.Right.{settings-right}
-use Rattle.machine.specs.laws.Sound.{sound}
+use Rattle.bench.specs.laws.Sound.{sound}
 use Rattle.layout.specs.Words.{wordOf, countOf, markWord, turnWord, workWords, workWordsOf, workOf, encodeOf, machineIn, isRecord}
 use Rattle.layout.specs.laws.Number.{word-small}
 use Rattle.layout.specs.laws.Same.{same-true, same-self}
@@ -82,7 +82,7 @@ small t at (Work.Arc a) most e =
     let i = arc-work {t = t} {at = at} e in
     record { square = omega (arith, on-circle-to _ _ (i .arc .on) .bound); feed = omega (arith, i .feed .most) }
 
-pub machine-back : (m : Machine) → soundOf m ≡ true → machineIn (encodeOf m) ≡ m
+pub machine-back : (m : Bench) → soundOf m ≡ true → machineIn (encodeOf m) ≡ m
 unfolding machineIn encodeOf
 machine-back m e =
     let s = sound e in
@@ -93,6 +93,6 @@ machine-back m e =
     let remainder : m .remainder < 2 ^ 63 = omega (arith, s .below, r .clock-most) in
     rw (count-word scale, count-word clock, mark-back (m .held), count-word remainder, work-back (m .work) w)
 
-pub record-of : (m : Machine) → soundOf m ≡ true → isRecord (encodeOf m) ≡ true
+pub record-of : (m : Bench) → soundOf m ≡ true → isRecord (encodeOf m) ≡ true
 unfolding isRecord
 record-of m e = rw (machine-back m e, same-self (encodeOf m))

@@ -7,7 +7,7 @@ use native.Mathlib.Nat.{add-zero}
 use lib.ListN.{length, take, take-append-drop}
 use Rattle.row.specs.declared.lines.Place.{Place}
 use Rattle.row.specs.Buffer.{hasRoom, placed, bufferAfter, placeAfter}
-use Rattle.machine.specs.declared.Machine.{Machine}
+use Rattle.bench.specs.declared.Bench.{Bench}
 use Rattle.reader.specs.declared.Reader.{Reader}
 use Rattle.reader.specs.declared.«text_line».ReadLine.{ReadLine}
 use Rattle.reader.specs.TextLine.{readLineOf}
@@ -39,8 +39,8 @@ module _ (t : Tally) (line : List ℕ) where
   unfolding listedOf
   not-listed e = rw e
 
-  pub listed : countsRight t ≡ true → {r : ReadLine} → r ≡ readLineOf (t .reader) (t .machine) line
-      → listedOf t line ≡ listedWith t (r .reader) (r .machine) (r .answer)
+  pub listed : countsRight t ≡ true → {r : ReadLine} → r ≡ readLineOf (t .reader) (t .bench) line
+      → listedOf t line ≡ listedWith t (r .reader) (r .bench) (r .answer)
   unfolding listedOf
   listed e {r} q = rw (e, ← q)
 
@@ -58,6 +58,6 @@ module _ (t : Tally) (line old : List ℕ) (at : ℕ) {r : Listed} {new : List �
   pub next-line : hasRoom old at ≡ true → r .over ≡ false → r .bytes ≡ length line → Both
   next-line room over bytes = (g, bytes ∙ rw (room, sym (rw room at (g .over)) ∙ over))
 
-pub block-on : (t : Tally) (k : Reader) (m : Machine) (bits : ℕ) → blockListed t k m bits .over ≡ false
+pub block-on : (t : Tally) (k : Reader) (m : Bench) (bits : ℕ) → blockListed t k m bits .over ≡ false
 unfolding blockListed
 block-on t k m bits = refl

@@ -7,8 +7,8 @@ use native.Mathlib.Omega.{arith}
 use lib.IntN.{ℤ}
 use borrow.Author.Tests.{lt-ltb}
 use Rattle.circle.specs.declared.plane.Turn.{Turn}
-use Rattle.machine.specs.declared.Machine.{Machine}
-use Rattle.machine.specs.Machine.{soundOf}
+use Rattle.bench.specs.declared.Bench.{Bench}
+use Rattle.bench.specs.Bench.{soundOf}
 use Rattle.reader.specs.declared.Motion.{Motion}
 use Rattle.reader.specs.declared.Feed.{Feed}
 use Rattle.reader.specs.declared.Reader.{Reader}
@@ -28,7 +28,7 @@ FeedFits (Feed.Known f) = f < 2 ^ 32
 
 -- a check whose numbers are words
 pub record Fits (c : Check) : Type 0 where
-  pub sound : soundOf (c .tally .machine) ≡ true
+  pub sound : soundOf (c .tally .bench) ≡ true
   pub at : c .at < 2 ^ 63
   pub feed : FeedFits (c .tally .reader .feed)
   pub lines : c .tally .lines < 2 ^ 63
@@ -59,7 +59,7 @@ known-decode k h = rw (motion-back (k .motion), feed-back (k .feed) h, same-self
 
 -- ---- a check
 
-check-back : (c : Check) → Fits c → checkIn (c .tally .machine) (encodeProgress c) ≡ c
+check-back : (c : Check) → Fits c → checkIn (c .tally .bench) (encodeProgress c) ≡ c
 unfolding checkIn encodeProgress
 check-back c f =
     rw (
@@ -73,7 +73,7 @@ check-back c f =
       count-word (f .ticks),
     )
 
-pub progress-decode : (c : Check) → Fits c → decodeProgress (c .tally .machine) (encodeProgress c) ≡ record { ok = true; check = c }
+pub progress-decode : (c : Check) → Fits c → decodeProgress (c .tally .bench) (encodeProgress c) ≡ record { ok = true; check = c }
 unfolding decodeProgress
 progress-decode c f = rw (check-back c f, same-self (encodeProgress c))
 

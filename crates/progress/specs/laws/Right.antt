@@ -18,7 +18,7 @@ use Rattle.circle.specs.declared.plane.Turn.{Turn}
 use Rattle.reader.specs.declared.Motion.{Motion}
 use Rattle.reader.specs.declared.Feed.{Feed}
 use Rattle.reader.specs.Reader.{motionOf}
-use Rattle.machine.specs.declared.Machine.{Machine}
+use Rattle.bench.specs.declared.Bench.{Bench}
 use Rattle.job.specs.declared.Stage.{Stage}
 use Rattle.layout.specs.Words.{countOf, at, sameWords}
 use Rattle.layout.specs.laws.Right.{count-again, count-right, each}
@@ -114,7 +114,7 @@ pub record Fits (p : Progress) : Type 0 where
   pub cycles : SFits w64 (p .cycles)
   pub ticks : SFits w64 (p .ticks)
 
-module _ (m : Machine) (p : Progress) where
+module _ (m : Bench) (p : Progress) where
   progress-again : Fits p → progressRight p ≡ true → progressOf (checkOf m p) ≡ p
   unfolding progressRight countsRight
   progress-again f t =
@@ -146,7 +146,7 @@ module _ (m : Machine) (p : Progress) where
       (joined (count-right (p .cycles) (ap (λ (q : Progress). q .cycles) e))
       (count-right (p .ticks) (ap (λ (q : Progress). q .ticks) e)))))))
 
-pub progress-same : (m : Machine) (ws : List ℤ) → length ws ≡ 8 → Fits (progressIn ws)
+pub progress-same : (m : Bench) (ws : List ℤ) → length ws ≡ 8 → Fits (progressIn ws)
     → progressRight (progressIn ws) ≡ sameWords ws (encodeProgress (checkIn m ws))
 unfolding encodeProgress checkIn
 progress-same m ws all f =

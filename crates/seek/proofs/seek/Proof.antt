@@ -8,7 +8,7 @@ use native.Mathlib.Omega.{arith}
 use lib.ListN.{length, drop, length-drop}
 use Rattle.words.specs.laws.Scan.{firstLine}
 use Rattle.words.specs.laws.FirstLine.{first-short}
-use Rattle.machine.specs.Machine.{soundOf}
+use Rattle.bench.specs.Bench.{soundOf}
 use Rattle.reader.specs.declared.«text_line».ReadLine.{ReadLine}
 use Rattle.reader.specs.TextLine.{readLineOf}
 use Rattle.listing.specs.laws.Keeps.{loaded-sound}
@@ -71,7 +71,7 @@ abbrev Line : (c : tie.After-read-first Inv-loop μ-loop) → (rest : List ℕ) 
 Line c rest =
     let l = c .before .before .before .before .before .before .loop in
     let r = c .read-first .result in
-    (r .read ≡ readLineOf (l .search .reader) (l .search .sought .machine) (firstLine rest)) × (r .bytes ≡ length (firstLine rest))
+    (r .read ≡ readLineOf (l .search .reader) (l .search .sought .bench) (firstLine rest)) × (r .bytes ≡ length (firstLine rest))
 
 given :
     (c : tie.After-read-first Inv-loop μ-loop)
@@ -99,8 +99,8 @@ line-requires c κs =
     let l = i .before .loop in
     let read = given f .0 in (
       counted (l .inv) (i .loop-test .taken),
-      λ bits is. subst (λ (r : ReadLine). soundOf (r .machine) ≡ true) (sym read)
-          (loaded-sound (l .search .reader) (l .search .sought .machine) _ (ap (λ (r : ReadLine). r .answer) (sym read) ∙ is)),
+      λ bits is. subst (λ (r : ReadLine). soundOf (r .bench) ≡ true) (sym read)
+          (loaded-sound (l .search .reader) (l .search .sought .bench) _ (ap (λ (r : ReadLine). r .answer) (sym read) ∙ is)),
     )
 
 returns-2 : tie.Need-returns-2 Inv-loop μ-loop

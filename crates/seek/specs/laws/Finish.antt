@@ -10,12 +10,12 @@ use Rattle.work.specs.Rest.{Countable, leftOf}
 use Rattle.run.specs.laws.Skip.{skip-counts}
 use Rattle.ahead.specs.Ahead.{tickingOf}
 use Rattle.ahead.specs.laws.Ticks.{ticking-sound}
-use Rattle.machine.specs.declared.Machine.{Machine}
-use Rattle.machine.specs.declared.Ran.{Ran}
-use Rattle.machine.specs.Machine.{soundOf}
-use Rattle.machine.specs.Run.{runOf}
-use Rattle.machine.specs.laws.Sound.{sound, running}
-use Rattle.machine.specs.laws.Run.{ticks-are}
+use Rattle.bench.specs.declared.Bench.{Bench}
+use Rattle.bench.specs.declared.Ran.{Ran}
+use Rattle.bench.specs.Bench.{soundOf}
+use Rattle.bench.specs.Run.{runOf}
+use Rattle.bench.specs.laws.Sound.{sound, running}
+use Rattle.bench.specs.laws.Run.{ticks-are}
 use Rattle.finish.specs.declared.Finished.{Finished}
 use Rattle.finish.specs.Finish.{worksOf, finishOf}
 use Rattle.finish.specs.laws.Record.{works, ticks-most}
@@ -28,27 +28,27 @@ use Rattle.seek.specs.declared.Search.{Search}
 use Rattle.seek.specs.Seek.{answer}
 use Rattle.seek.specs.laws.Search.{blockWith, blockOf}
 
-pub record Ends (m : Machine) : Type 0 where
+pub record Ends (m : Bench) : Type 0 where
   pub ticks : runOf m enough enough .ran .ticks ≡ finishOf m .ticks
-  pub machine : runOf m enough enough .ran .machine ≡ finishOf m .machine
+  pub bench : runOf m enough enough .ran .bench ≡ finishOf m .bench
 
 -- held or idle neither does a tick
-resting : (m : Machine) → worksOf m ≡ false → Ends m
+resting : (m : Bench) → worksOf m ≡ false → Ends m
 unfolding finishOf
 resting m rests =
     let s = still m rests enough enough in
-    record { ticks = ticks-are m enough enough ∙ rw (s .0, rests); machine = rw (s .1, rests) }
+    record { ticks = ticks-are m enough enough ∙ rw (s .0, rests); bench = rw (s .1, rests) }
 
-pub run-ends : (m : Machine) → Ends m
+pub run-ends : (m : Bench) → Ends m
 run-ends m = by (worksOf m) refl
   where
     by : (b : Bool) → worksOf m ≡ b → Ends m
     by true e =
         let is = finish-is-run m (works e) enough enough (ticks-most m) (ticks-most m) in
-        record { ticks = ap (λ (r : Ran). r .ticks) is; machine = ap (λ (r : Ran). r .machine) is }
+        record { ticks = ap (λ (r : Ran). r .ticks) is; bench = ap (λ (r : Ran). r .bench) is }
     by false e = resting m e
 
-sound-counts : (m : Machine) → soundOf m ≡ true → Countable (m .at) (m .work)
+sound-counts : (m : Bench) → soundOf m ≡ true → Countable (m .at) (m .work)
 sound-counts m e = by (m .work) (λ busy. skip-counts (running (sound e) busy))
   where
     by : (w : Work) → (isNothing w ≡ false → Countable (m .at) w) → Countable (m .at) w
@@ -57,20 +57,20 @@ sound-counts m e = by (m .work) (λ busy. skip-counts (running (sound e) busy))
     by (Work.Arc a) busy = busy refl
 
 -- a block of a search, finished
-module _ (s : Search) (k : Reader) (m : Machine) {f : Finished} (is : f ≡ finishOf m) where
-  block-ends : blockOf s k m ≡ blockWith s k m (f .ticks) (f .machine)
+module _ (s : Search) (k : Reader) (m : Bench) {f : Finished} (is : f ≡ finishOf m) where
+  block-ends : blockOf s k m ≡ blockWith s k m (f .ticks) (f .bench)
   unfolding blockOf
-  block-ends = rw (is, run-ends m .ticks, run-ends m .machine)
+  block-ends = rw (is, run-ends m .ticks, run-ends m .bench)
 
   abbrev n : ℕ
   n = s .sought .ticks
 
   -- the record after n ticks tells the cycles left
-  pub then-counts : soundOf m ≡ true → {then : Machine} → then ≡ tickingOf n m .machine → Countable (then .at) (then .work)
+  pub then-counts : soundOf m ≡ true → {then : Bench} → then ≡ tickingOf n m .bench → Countable (then .at) (then .work)
   then-counts e {then} here =
-      sound-counts then (subst (λ (k : Machine). soundOf k ≡ true) (sym here) (ticking-sound n m e))
+      sound-counts then (subst (λ (k : Bench). soundOf k ≡ true) (sym here) (ticking-sound n m e))
 
-  pub block-here : ltb n (f .ticks) ≡ true → {then : Machine} → then ≡ tickingOf n m .machine
+  pub block-here : ltb n (f .ticks) ≡ true → {then : Bench} → then ≡ tickingOf n m .bench
       → {left : Left} → left ≡ leftOf (then .at) (then .work)
       → record {
         decided = ltb n (f .ticks);
@@ -82,7 +82,7 @@ module _ (s : Search) (k : Reader) (m : Machine) {f : Finished} (is : f ≡ fini
               line = s .sought .line + 1;
               ticks = n;
               left = left .cycles;
-              machine = then;
+              bench = then;
             };
       } ≡ blockOf s k m
   block-here more here left = rw (block-ends, more, left, here)
@@ -91,6 +91,6 @@ module _ (s : Search) (k : Reader) (m : Machine) {f : Finished} (is : f ≡ fini
       → record {
         decided = ltb n (f .ticks);
         reader = k;
-        sought = answer Found.Over (s .sought .block + 1) (s .sought .line + 1) (n - f .ticks) (f .machine);
+        sought = answer Found.Over (s .sought .block + 1) (s .sought .line + 1) (n - f .ticks) (f .bench);
       } ≡ blockOf s k m
   block-on all = rw (block-ends, all)

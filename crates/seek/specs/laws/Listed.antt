@@ -10,11 +10,11 @@ use lib.ListN.{length, drop, take}
 use Rattle.block.specs.declared.Block.{Block}
 use Rattle.settings.specs.declared.Settings.{Settings}
 use Rattle.settings.specs.Settings.{settingsNo}
-use Rattle.machine.specs.declared.Machine.{Machine}
-use Rattle.machine.specs.declared.Ran.{Ran}
-use Rattle.machine.specs.Machine.{movedOf, freshOf}
-use Rattle.machine.specs.Calls.{makeOf, loadOf}
-use Rattle.machine.specs.Run.{runOf}
+use Rattle.bench.specs.declared.Bench.{Bench}
+use Rattle.bench.specs.declared.Ran.{Ran}
+use Rattle.bench.specs.Bench.{movedOf, freshOf}
+use Rattle.bench.specs.Calls.{makeOf, loadOf}
+use Rattle.bench.specs.Run.{runOf}
 use Rattle.finish.specs.laws.Record.{AtRest}
 use Rattle.ahead.specs.Ahead.{tickingOf}
 use Rattle.reader.specs.declared.Reader.{Reader}
@@ -57,46 +57,46 @@ among-later Found.InWork before block line m ms a =
 among-later Found.Over before block line m ms a = tt
 among-later (Found.Refused number) before block line m ms a = tt
 
-module _ (m : Machine) (i : AtRest m) (b : Block) (ok : Accepted m b) (blocks line n : ℕ) (later : (n : ℕ) → Machine → Sought) where
+module _ (m : Bench) (i : AtRest m) (b : Block) (ok : Accepted m b) (blocks line n : ℕ) (later : (n : ℕ) → Bench → Sought) where
   abbrev made : Made
   made = record { textLine = line; start = m .at; block = b }
 
-  abbrev loaded : Machine
-  loaded = loadOf m b .machine
+  abbrev loaded : Bench
+  loaded = loadOf m b .bench
 
   abbrev x : Ran
   x = runOf loaded enough enough .ran
 
-  block-listed : (ms : List Made) → ((k : ℕ) → Listed (later k (endedOf m b .machine)) (blocks + 1) ms)
+  block-listed : (ms : List Made) → ((k : ℕ) → Listed (later k (endedOf m b .bench)) (blocks + 1) ms)
       → Listed (afterBlock (blocks + 1) line n loaded later) blocks (made ∷ ms)
   block-listed ms rest = by (ltb n (x .ticks))
     where
       by : (more : Bool)
-          → (let here = answer Found.InWork (blocks + 1) line n (tickingOf n loaded .machine) in
-          Listed (cond more here (later (n - x .ticks) (x .machine))) blocks (made ∷ ms))
+          → (let here = answer Found.InWork (blocks + 1) line n (tickingOf n loaded .bench) in
+          Listed (cond more here (later (n - x .ticks) (x .bench))) blocks (made ∷ ms))
       by true = among-first blocks made ms
       by false =
-          let a = later (n - x .ticks) (x .machine) in
-          let left = ap (λ (r : Ran). r .machine) (ended-run m i b ok) in
+          let a = later (n - x .ticks) (x .bench) in
+          let left = ap (λ (r : Ran). r .bench) (ended-run m i b ok) in
           among-later (a .found) blocks (a .block) (a .line) made ms
-          (subst (λ (k : Machine). Listed (later (n - x .ticks) k) (blocks + 1) ms) (sym left) (rest (n - x .ticks)))
+          (subst (λ (k : Bench). Listed (later (n - x .ticks) k) (blocks + 1) ms) (sym left) (rest (n - x .ticks)))
 
 abbrev Listing : List (List ℕ) → Type 0
 Listing ls =
-    (blocks lines n : ℕ) (m : Machine) (k : Reader) → AtRest m
+    (blocks lines n : ℕ) (m : Bench) (k : Reader) → AtRest m
     → Listed (seekFrom blocks lines n m k ls) blocks (jobFrom (m .settings) (lines + 1) (m .at) k ls .blocks)
 
-by-line : (blocks lines n : ℕ) (m : Machine) (k : Reader) (ls : List (List ℕ)) → AtRest m → Listing ls
+by-line : (blocks lines n : ℕ) (m : Bench) (k : Reader) (ls : List (List ℕ)) → AtRest m → Listing ls
     → {a : Asks} {r : ReadLine} → Read-as m k a r
     → Listed
-    (afterLine blocks (lines + 1) n (r .machine) (r .answer) (λ blocks′ n′ m′. seekFrom blocks′ (lines + 1) n′ m′ (r .reader) ls))
+    (afterLine blocks (lines + 1) n (r .bench) (r .answer) (λ blocks′ n′ m′. seekFrom blocks′ (lines + 1) n′ m′ (r .reader) ls))
     blocks (onward (lines + 1) (m .at) a (λ at k′. jobFrom (m .settings) (lines + 1 + 1) at k′ ls) .blocks)
 unfolding movedOf
 by-line blocks lines n m k ls i rest (Read-as.nothing known) = rest blocks (lines + 1) n m known i
 by-line blocks lines n m k ls i rest (Read-as.makes known b ok) =
     block-listed m i b ok blocks (lines + 1) n (λ n′ m′. seekFrom (blocks + 1) (lines + 1) n′ m′ known ls)
     (jobFrom (m .settings) (lines + 1 + 1) (b .end) known ls .blocks)
-    (λ n′. rest (blocks + 1) (lines + 1) n′ (endedOf m b .machine) known (ended-rests m i b ok))
+    (λ n′. rest (blocks + 1) (lines + 1) n′ (endedOf m b .bench) known (ended-rests m i b ok))
 by-line blocks lines n m k ls i rest (Read-as.refuses number) = tt
 
 lines-listed : (ls : List (List ℕ)) → Listing ls

@@ -6,10 +6,10 @@ use Prim.Native.Nat.{ℕ, _+_, _-_, _≤_}
 use native.Mathlib.Omega.{arith}
 use lib.Dec.{ltb}
 use Rattle.settings.specs.declared.Settings.{Settings}
-use Rattle.machine.specs.declared.Machine.{Machine}
-use Rattle.machine.specs.Machine.{soundOf}
-use Rattle.machine.specs.Calls.{makeOf}
-use Rattle.machine.specs.Run.{runOf}
+use Rattle.bench.specs.declared.Bench.{Bench}
+use Rattle.bench.specs.Bench.{soundOf}
+use Rattle.bench.specs.Calls.{makeOf}
+use Rattle.bench.specs.Run.{runOf}
 use Rattle.ahead.specs.Ahead.{tickingOf}
 use Rattle.reader.specs.declared.Reader.{Reader}
 use Rattle.reader.specs.declared.«text_line».Read.{Read}
@@ -30,17 +30,17 @@ Counted s = (s .sought .block ≤ s .sought .line) × (s .sought .line ≤ 65536
 
 -- a line that made a block left a sound record
 abbrev pub Tested : ReadLine → Type 0
-Tested r = (bits : ℕ) → r .answer ≡ Read.Loaded bits → soundOf (r .machine) ≡ true
+Tested r = (bits : ℕ) → r .answer ≡ Read.Loaded bits → soundOf (r .bench) ≡ true
 
 unfoldable pub startOf : Settings → (n : ℕ) → Search
-startOf s n = record { decided = false; reader = unknown; sought = answer Found.Over 0 0 n (makeOf s .machine) }
+startOf s n = record { decided = false; reader = unknown; sought = answer Found.Over 0 0 n (makeOf s .bench) }
 
-abbrev pub passedOf : Search → Reader → Machine → Search
+abbrev pub passedOf : Search → Reader → Bench → Search
 passedOf s k m =
     record { decided = false; reader = k; sought = answer Found.Over (s .sought .block) (s .sought .line + 1) (s .sought .ticks) m }
 
 -- a block, whose run to the end does so many ticks
-abbrev pub blockWith : Search → Reader → (loaded : Machine) (ticks : ℕ) (ended : Machine) → Search
+abbrev pub blockWith : Search → Reader → (loaded : Bench) (ticks : ℕ) (ended : Bench) → Search
 blockWith s k m t ended =
     let block = s .sought .block + 1 in
     let line = s .sought .line + 1 in
@@ -49,35 +49,35 @@ blockWith s k m t ended =
     record {
       decided = decided;
       reader = k;
-      sought = cond decided (answer Found.InWork block line n (tickingOf n m .machine)) (answer Found.Over block line (n - t) ended);
+      sought = cond decided (answer Found.InWork block line n (tickingOf n m .bench)) (answer Found.Over block line (n - t) ended);
     }
 
-unfoldable pub blockOf : Search → Reader → (loaded : Machine) → Search
-blockOf s k m = let x = runOf m enough enough .ran in blockWith s k m (x .ticks) (x .machine)
+unfoldable pub blockOf : Search → Reader → (loaded : Bench) → Search
+blockOf s k m = let x = runOf m enough enough .ran in blockWith s k m (x .ticks) (x .bench)
 
-abbrev pub refusedOf : Search → Machine → (number : ℕ) → Search
+abbrev pub refusedOf : Search → Bench → (number : ℕ) → Search
 refusedOf s m number =
     let t = s .sought in
     record { decided = true; reader = s .reader; sought = answer (Found.Refused number) (t .block) (t .line + 1) (t .ticks) m }
 
-abbrev pub lineWith : Search → Reader → Machine → Read → Search
+abbrev pub lineWith : Search → Reader → Bench → Read → Search
 lineWith s k m Read.Nothing = passedOf s k m
 lineWith s k m (Read.Loaded bits) = blockOf s k m
 lineWith s k m (Read.Refused number) = refusedOf s m number
 
 abbrev pub lineOf : Search → ReadLine → Search
-lineOf s r = lineWith s (r .reader) (r .machine) (r .answer)
+lineOf s r = lineWith s (r .reader) (r .bench) (r .answer)
 
 -- ---- what is sought is found
 
 -- what a search that goes on is still to find in these lines
 abbrev pub toFind : Search → (lines : List (List ℕ)) → Sought
-toFind s ls = let t = s .sought in seekFrom (t .block) (t .line) (t .ticks) (t .machine) (s .reader) ls
+toFind s ls = let t = s .sought in seekFrom (t .block) (t .line) (t .ticks) (t .bench) (s .reader) ls
 
 abbrev pub outcome : Search → (lines : List (List ℕ)) → Sought
 outcome s ls = cond (s .decided) (s .sought) (toFind s ls)
 
-block-found : (s : Search) (k : Reader) (m : Machine) (ls : List (List ℕ))
+block-found : (s : Search) (k : Reader) (m : Bench) (ls : List (List ℕ))
     → (let b = s .sought .block + 1 in
     let l = s .sought .line + 1 in
     afterBlock b l (s .sought .ticks) m (λ n m′. seekFrom b l n m′ k ls) ≡ outcome (blockOf s k m) ls)
@@ -89,25 +89,25 @@ block-found s k m ls = by (ltb (s .sought .ticks) (runOf m enough enough .ran .t
         let l = s .sought .line + 1 in
         let n = s .sought .ticks in
         let x = runOf m enough enough .ran in
-        let here = answer Found.InWork b l n (tickingOf n m .machine) in
-        let on = answer Found.Over b l (n - x .ticks) (x .machine) in
-        cond decided here (seekFrom b l (n - x .ticks) (x .machine) k ls)
+        let here = answer Found.InWork b l n (tickingOf n m .bench) in
+        let on = answer Found.Over b l (n - x .ticks) (x .bench) in
+        cond decided here (seekFrom b l (n - x .ticks) (x .bench) k ls)
         ≡ outcome (record { decided = decided; reader = k; sought = cond decided here on }) ls)
     by true = refl
     by false = refl
 
 -- a line takes the first of the lines that are left
-pub line-found : (s : Search) (l : List ℕ) (ls : List (List ℕ)) {r : ReadLine} → r ≡ readLineOf (s .reader) (s .sought .machine) l
+pub line-found : (s : Search) (l : List ℕ) (ls : List (List ℕ)) {r : ReadLine} → r ≡ readLineOf (s .reader) (s .sought .bench) l
     → toFind s (l ∷ ls) ≡ outcome (lineOf s r) ls
 unfolding seekFrom
 line-found s l ls {r} read = rw (← read) (by (r .answer))
   where
     by : (a : Read)
         → (let t = s .sought in
-        afterLine (t .block) (t .line + 1) (t .ticks) (r .machine) a (λ b n m. seekFrom b (t .line + 1) n m (r .reader) ls)
-        ≡ outcome (lineWith s (r .reader) (r .machine) a) ls)
+        afterLine (t .block) (t .line + 1) (t .ticks) (r .bench) a (λ b n m. seekFrom b (t .line + 1) n m (r .reader) ls)
+        ≡ outcome (lineWith s (r .reader) (r .bench) a) ls)
     by Read.Nothing = refl
-    by (Read.Loaded bits) = block-found s (r .reader) (r .machine) ls
+    by (Read.Loaded bits) = block-found s (r .reader) (r .bench) ls
     by (Read.Refused number) = refl
 
 -- a line that is counted, with its block
@@ -120,7 +120,7 @@ pub one-line-more : (s : Search) (r : ReadLine) → OneLineMore s (lineOf s r)
 unfolding blockOf
 one-line-more s r = by (r .answer)
   where
-    block : (decided : Bool) (m n : Machine) (k : ℕ)
+    block : (decided : Bool) (m n : Bench) (k : ℕ)
         → (let b = s .sought .block + 1 in
         let l = s .sought .line + 1 in
         OneLineMore s (record {
@@ -131,10 +131,10 @@ one-line-more s r = by (r .answer)
     block true m n k = record { blocks = omega arith; lines = refl; going = λ e. absurd (true≢false e) }
     block false m n k = record { blocks = omega arith; lines = refl; going = λ e. (refl, refl) }
 
-    by : (a : Read) → OneLineMore s (lineWith s (r .reader) (r .machine) a)
+    by : (a : Read) → OneLineMore s (lineWith s (r .reader) (r .bench) a)
     by Read.Nothing = record { blocks = omega arith; lines = refl; going = λ e. (refl, refl) }
     by (Read.Loaded bits) =
-        let x = runOf (r .machine) enough enough .ran in
+        let x = runOf (r .bench) enough enough .ran in
         let n = s .sought .ticks in
-        block (ltb n (x .ticks)) (tickingOf n (r .machine) .machine) (x .machine) (n - x .ticks)
+        block (ltb n (x .ticks)) (tickingOf n (r .bench) .bench) (x .bench) (n - x .ticks)
     by (Read.Refused number) = record { blocks = omega arith; lines = refl; going = λ e. absurd (true≢false e) }

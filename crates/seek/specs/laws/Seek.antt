@@ -25,7 +25,7 @@ module _ (c : Settings) (n : ℕ) where
   start-counted is = rw is (omega arith, omega arith)
 
   pub seek-long : (text : List ℕ) → 65536 < length text
-      → refusedOf (startOf c n) (startOf c n .sought .machine) 30 .sought ≡ seekOf c text n
+      → refusedOf (startOf c n) (startOf c n .sought .bench) 30 .sought ≡ seekOf c text n
   unfolding seekOf startOf
   seek-long text long = rw (lt-leb (length text) 65536 long)
 
@@ -54,14 +54,14 @@ module _ {text : List ℕ} {answer : Sought} {s : Search} {at : ℕ} (g : Seekin
   unfolding seekFrom linesOf
   seeking-end end =
       let t = s .sought in
-      (λ i. record { found = g .going i; block = t .block; line = t .line; ticks = t .ticks; left = g .none i; machine = t .machine })
+      (λ i. record { found = g .going i; block = t .block; line = t .line; ticks = t .ticks; left = g .none i; bench = t .bench })
       ∙ rw (drop-of-length-le text end) at (g .rest)
 
   module _ (more : at < length text) where
     pub counted : Counted s
     counted = (g .blocks, omega (arith, g .lines, g .short))
 
-    module _ {r : ReadLine} (read : r ≡ readLineOf (s .reader) (s .sought .machine) (firstLine (drop at text))) where
+    module _ {r : ReadLine} (read : r ≡ readLineOf (s .reader) (s .sought .bench) (firstLine (drop at text))) where
       cut : outcome (lineOf s r) (linesOf (drop (suc (length (firstLine (drop at text)))) (drop at text))) ≡ answer
       cut =
           let some : 1 ≤ length (drop at text) = rw (length-drop at text) (omega arith) in

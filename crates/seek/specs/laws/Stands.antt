@@ -15,13 +15,13 @@ use Rattle.plane.specs.Byte.{codeX, codeY}
 use Rattle.block.specs.declared.Block.{Block}
 use Rattle.settings.specs.declared.Settings.{Settings}
 use Rattle.settings.specs.Settings.{capacityOf, settingsNo}
-use Rattle.machine.specs.declared.Machine.{Machine}
-use Rattle.machine.specs.declared.Answered.{Answered}
-use Rattle.machine.specs.declared.Ran.{Ran}
-use Rattle.machine.specs.Machine.{movedOf, freshOf}
-use Rattle.machine.specs.Calls.{makeOf, loadOf}
-use Rattle.machine.specs.Run.{Run, runOf}
-use Rattle.machine.specs.laws.Run.{ticks-are}
+use Rattle.bench.specs.declared.Bench.{Bench}
+use Rattle.bench.specs.declared.Answered.{Answered}
+use Rattle.bench.specs.declared.Ran.{Ran}
+use Rattle.bench.specs.Bench.{movedOf, freshOf}
+use Rattle.bench.specs.Calls.{makeOf, loadOf}
+use Rattle.bench.specs.Run.{Run, runOf}
+use Rattle.bench.specs.laws.Run.{ticks-are}
 use Rattle.book.specs.Sums.{pulsesIn}
 use Rattle.finish.specs.laws.Record.{AtRest, AtWork}
 use Rattle.finish.specs.laws.Loaded.{loaded-at-work}
@@ -53,7 +53,7 @@ Counts Found.Over n all ticks = n ≡ all + ticks
 Counts (Found.Refused number) n all ticks = n ≡ all + ticks
 
 pub record Stands (from : Point) (n : ℕ) (bytes : List ℕ) (a : Sought) : Type 0 where
-  pub leads : Leads from (take n bytes) (a .machine .at)
+  pub leads : Leads from (take n bytes) (a .bench .at)
   pub counts : Counts (a .found) n (length bytes) (a .ticks)
 
 no-bytes : (at : Point) (n : ℕ) → Leads at (take n []) at
@@ -67,10 +67,10 @@ counts-after (Found.Refused number) done n all ticks c = omega arith
 
 -- ---- a block that a machine at rest accepts, in front of what follows
 
-module _ (m : Machine) (i : AtRest m) (b : Block) (ok : Accepted m b) (block line n : ℕ) (bytes : Machine → List ℕ)
-    (later : (n : ℕ) → Machine → Sought) where
-  abbrev loaded : Machine
-  loaded = loadOf m b .machine
+module _ (m : Bench) (i : AtRest m) (b : Block) (ok : Accepted m b) (block line n : ℕ) (bytes : Bench → List ℕ)
+    (later : (n : ℕ) → Bench → Sought) where
+  abbrev loaded : Bench
+  loaded = loadOf m b .bench
 
   works : AtWork loaded
   works = loaded-at-work m i b (rw (i .idle) ok)
@@ -83,16 +83,16 @@ module _ (m : Machine) (i : AtRest m) (b : Block) (ok : Accepted m b) (block lin
 
   starts : loaded .at ≡ m .at
   unfolding movedOf
-  starts = ap (λ (a : Answered). a .machine .at) (load-accepted m (i .sound) (i .idle) b ok)
+  starts = ap (λ (a : Answered). a .bench .at) (load-accepted m (i .sound) (i .idle) b ok)
 
-  rests : AtRest (run .ran .machine)
-  rests = subst AtRest (sym (ap (λ (r : Ran). r .machine) (ended-run m i b ok))) (ended-rests m i b ok)
+  rests : AtRest (run .ran .bench)
+  rests = subst AtRest (sym (ap (λ (r : Ran). r .bench) (ended-run m i b ok))) (ended-rests m i b ok)
 
   abbrev others : List ℕ
-  others = bytes (run .ran .machine)
+  others = bytes (run .ran .bench)
 
   -- the block is in work
-  here : n < run .ran .ticks → Stands (loaded .at) n (run .bytes ++ others) (answer Found.InWork block line n (tickingOf n loaded .machine))
+  here : n < run .ran .ticks → Stands (loaded .at) n (run .bytes ++ others) (answer Found.InWork block line n (tickingOf n loaded .bench))
   here more =
       let few : n ≤ length (run .bytes) = omega (arith, long) in
       record {
@@ -103,11 +103,11 @@ module _ (m : Machine) (i : AtRest m) (b : Block) (ok : Accepted m b) (block lin
   -- or it has ended
   past : run .ran .ticks ≤ n
       → (let k = n - run .ran .ticks in
-      Stands (run .ran .machine .at) k others (later k (run .ran .machine))
-      → Stands (loaded .at) n (run .bytes ++ others) (later k (run .ran .machine)))
+      Stands (run .ran .bench .at) k others (later k (run .ran .bench))
+      → Stands (loaded .at) n (run .bytes ++ others) (later k (run .ran .bench)))
   past all rest =
       let k = n - run .ran .ticks in
-      let a = later k (run .ran .machine) in
+      let a = later k (run .ran .bench) in
       let t = length (run .bytes) in
       let sum : t + k ≡ n = omega (arith, long) in
       subst (λ (j : ℕ). Stands (loaded .at) j (run .bytes ++ others) a) sum
@@ -116,7 +116,7 @@ module _ (m : Machine) (i : AtRest m) (b : Block) (ok : Accepted m b) (block lin
         counts = rw (length-append (run .bytes) others) (counts-after (a .found) t k (length others) (a .ticks) (rest .counts));
       })
 
-  block-stands : ((k : ℕ) (m′ : Machine) → AtRest m′ → Stands (m′ .at) k (bytes m′) (later k m′))
+  block-stands : ((k : ℕ) (m′ : Bench) → AtRest m′ → Stands (m′ .at) k (bytes m′) (later k m′))
       → Stands (m .at) n (runThen loaded bytes) (afterBlock block line n loaded later)
   block-stands rest =
       subst (λ (p : Point). Stands p n (runThen loaded bytes) (afterBlock block line n loaded later)) starts
@@ -124,22 +124,22 @@ module _ (m : Machine) (i : AtRest m) (b : Block) (ok : Accepted m b) (block lin
     where
       by : (more : Bool) → ltb n (run .ran .ticks) ≡ more
           → Stands (loaded .at) n (run .bytes ++ others)
-          (cond more (answer Found.InWork block line n (tickingOf n loaded .machine)) (later (n - run .ran .ticks) (run .ran .machine)))
+          (cond more (answer Found.InWork block line n (tickingOf n loaded .bench)) (later (n - run .ran .ticks) (run .ran .bench)))
       by true more = here (ltb-true n (run .ran .ticks) more)
-      by false all = past (ltb-false n (run .ran .ticks) all) (rest (n - run .ran .ticks) (run .ran .machine) rests)
+      by false all = past (ltb-false n (run .ran .ticks) all) (rest (n - run .ran .ticks) (run .ran .bench) rests)
 
 -- ---- the lines of a job
 
 abbrev Standing : List (List ℕ) → Type 0
 Standing ls =
-    (blocks lines n : ℕ) (m : Machine) (k : Reader) → AtRest m → Stands (m .at) n (bytesFrom m k ls) (seekFrom blocks lines n m k ls)
+    (blocks lines n : ℕ) (m : Bench) (k : Reader) → AtRest m → Stands (m .at) n (bytesFrom m k ls) (seekFrom blocks lines n m k ls)
 
-by-line : (blocks line n : ℕ) (m : Machine) (k : Reader) (ls : List (List ℕ)) → AtRest m → Standing ls
+by-line : (blocks line n : ℕ) (m : Bench) (k : Reader) (ls : List (List ℕ)) → AtRest m → Standing ls
     → {a : Asks} {r : ReadLine} → Read-as m k a r
-    → Stands (m .at) n (unless (isRefused (r .answer)) (runThen (r .machine) (λ m′. bytesFrom m′ (r .reader) ls)))
-    (afterLine blocks line n (r .machine) (r .answer) (λ blocks′ n′ m′. seekFrom blocks′ line n′ m′ (r .reader) ls))
+    → Stands (m .at) n (unless (isRefused (r .answer)) (runThen (r .bench) (λ m′. bytesFrom m′ (r .reader) ls)))
+    (afterLine blocks line n (r .bench) (r .answer) (λ blocks′ n′ m′. seekFrom blocks′ line n′ m′ (r .reader) ls))
 by-line blocks line n m k ls i rest (Read-as.nothing known) =
-    rw (nothing-left m (λ (m′ : Machine). bytesFrom m′ known ls) (still-idle m (i .idle))) (rest blocks line n m known i)
+    rw (nothing-left m (λ (m′ : Bench). bytesFrom m′ known ls) (still-idle m (i .idle))) (rest blocks line n m known i)
 by-line blocks line n m k ls i rest (Read-as.makes known b ok) =
     block-stands m i b ok (blocks + 1) line n (λ m′. bytesFrom m′ known ls) (λ n′ m′. seekFrom (blocks + 1) line n′ m′ known ls)
     (λ n′ m′ i′. rest (blocks + 1) line n′ m′ known i′)
@@ -169,7 +169,7 @@ module _ (s : Settings) (passed : settingsNo s ≡ 0) (text : List ℕ) (n : ℕ
   -- "Pulses sent are their codes, 1 as plus one and 2 as minus one": those of the first n tick bytes sum to the point, also where the job
   -- is over or a line is refused
   pub seek-adds-up : (let bytes = take n (tickBytesOf s text) in
-      (result .machine .at .x ≡ pulsesIn codeX bytes) × (result .machine .at .y ≡ pulsesIn codeY bytes))
+      (result .bench .at .x ≡ pulsesIn codeX bytes) × (result .bench .at .y ≡ pulsesIn codeY bytes))
   seek-adds-up = (text-stands .leads .x ∙ origin _, text-stands .leads .y ∙ origin _)
     where
       origin : (z : ℤ) → pos 0 +ℤ z ≡ z

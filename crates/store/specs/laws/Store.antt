@@ -8,7 +8,7 @@ use Rattle.plane.specs.Point.{equalPoint}
 use Rattle.line.specs.declared.line.Line.{Line}
 use Rattle.arc.specs.declared.arc.Arc.{Arc}
 use Rattle.work.specs.declared.Work.{Work}
-use Rattle.machine.specs.declared.Machine.{Machine}
+use Rattle.bench.specs.declared.Bench.{Bench}
 use Rattle.line.specs.Line.{steppedOf}
 use Rattle.arc.specs.Arc.{arcStepped}
 use Rattle.divider.specs.Divider.{fedOf}
@@ -18,11 +18,11 @@ use Rattle.work.specs.declared.Advance.{Advance}
 use Rattle.block.specs.declared.Block.{Block}
 use Rattle.block.specs.Questions.{loadNo}
 use Rattle.settings.specs.Settings.{capacityOf}
-use Rattle.machine.specs.declared.Tick.{Tick}
-use Rattle.machine.specs.declared.Report.{Report}
-use Rattle.machine.specs.Machine.{soundOf, movedOf}
-use Rattle.machine.specs.Calls.{loadWith, loadOf, ticks, working, tickOf, markedOf}
-use Rattle.machine.specs.Run.{ranOver, noTick, runOf}
+use Rattle.bench.specs.declared.Tick.{Tick}
+use Rattle.bench.specs.declared.Report.{Report}
+use Rattle.bench.specs.Bench.{soundOf, movedOf}
+use Rattle.bench.specs.Calls.{loadWith, loadOf, ticks, working, tickOf, markedOf}
+use Rattle.bench.specs.Run.{ranOver, noTick, runOf}
 use Rattle.layout.specs.Words.{wordOf, workWordsOf, encodeOf}
 use Rattle.store.specs.Store.{setMark, setWork, storedOf, stoppedOf}
 
@@ -37,7 +37,7 @@ Follows Work.Nothing (Work.Arc b) = ⊥
 Follows (Work.Line l) (Work.Arc b) = ⊥
 Follows (Work.Arc a) (Work.Arc b) = a ≡ b
 
-module _ (m : Machine) where
+module _ (m : Bench) where
   pub marked-words : (held : Bool) → setMark (encodeOf m) held ≡ encodeOf (markedOf m held)
   unfolding encodeOf
   marked-words held = refl
@@ -51,7 +51,7 @@ module _ (m : Machine) where
   unfolding encodeOf
   kept-words = refl
 
-ticked : (s : Machine) (at : Point) (r : ℕ) (v w : Work) → s .work ≡ v → Follows v w
+ticked : (s : Bench) (at : Point) (r : ℕ) (v w : Work) → s .work ≡ v → Follows v w
     → storedOf (encodeOf s) at r w ≡ encodeOf (movedOf s at r w)
 unfolding encodeOf movedOf
 ticked s at r v Work.Nothing e f = refl
@@ -62,7 +62,7 @@ ticked s at r Work.Nothing (Work.Arc b) e f = absurd f
 ticked s at r (Work.Line l) (Work.Arc b) e f = absurd f
 ticked s at r (Work.Arc a) (Work.Arc b) e f = rw (e, f)
 
-pub stored-words : (m : Machine) (at : Point) (r : ℕ) (w : Work) → Follows (m .work) w
+pub stored-words : (m : Bench) (at : Point) (r : ℕ) (w : Work) → Follows (m .work) w
     → storedOf (encodeOf m) at r w ≡ encodeOf (movedOf m at r w)
 stored-words m at r w f = ticked m at r (m .work) w refl f
 
@@ -121,37 +121,37 @@ strip-follows q0 (suc n) at r w = let a = advanceOf q0 at r w in by (isNothing (
     by false f g = let a = advanceOf q0 at r w in follows-again w (a .work) (stripOf q0 n (a .at) (a .remainder) (a .work) .work) f g
 
 -- a record after ticks: settings and mark as they were
-record Later (m n : Machine) : Type 0 where
+record Later (m n : Bench) : Type 0 where
   same : n ≡ movedOf m (n .at) (n .remainder) (n .work)
   follows : Follows (m .work) (n .work)
 
-unmoved : (m : Machine) → Later m m
+unmoved : (m : Bench) → Later m m
 unfolding movedOf
 unmoved m = record { same = refl; follows = follows-self (m .work) }
 
-moved : (m : Machine) (at : Point) (r : ℕ) (w : Work) → Follows (m .work) w → Later m (movedOf m at r w)
+moved : (m : Bench) (at : Point) (r : ℕ) (w : Work) → Follows (m .work) w → Later m (movedOf m at r w)
 unfolding movedOf
 moved m at r w f = record { same = refl; follows = f }
 
-later-words : (m n : Machine) → Later m n → storedOf (encodeOf m) (n .at) (n .remainder) (n .work) ≡ encodeOf n
+later-words : (m n : Bench) → Later m n → storedOf (encodeOf m) (n .at) (n .remainder) (n .work) ≡ encodeOf n
 later-words m n l = stored-words m (n .at) (n .remainder) (n .work) (l .follows) ∙ ap encodeOf (sym (l .same))
 
-module _ (m : Machine) (sound : soundOf m ≡ true) where
-  tick-later : Later m (tickOf m .machine)
+module _ (m : Bench) (sound : soundOf m ≡ true) where
+  tick-later : Later m (tickOf m .bench)
   unfolding tickOf
   tick-later = rw sound (by (m .held || isNothing (m .work)))
     where
       a : Advance
       a = advanceOf (capacityOf (m .settings)) (m .at) (m .remainder) (m .work)
 
-      by : (still : Bool) → Later m (cond still (ticks (Tick.Byte 0) m) (working m a) .machine)
+      by : (still : Bool) → Later m (cond still (ticks (Tick.Byte 0) m) (working m a) .bench)
       by true = unmoved m
       by false = moved m (a .at) (a .remainder) (a .work) (advance-follows (capacityOf (m .settings)) (m .at) (m .remainder) (m .work))
 
-  pub tick-words : (let n = tickOf m .machine in storedOf (encodeOf m) (n .at) (n .remainder) (n .work) ≡ encodeOf n)
-  tick-words = later-words m (tickOf m .machine) tick-later
+  pub tick-words : (let n = tickOf m .bench in storedOf (encodeOf m) (n .at) (n .remainder) (n .work) ≡ encodeOf n)
+  tick-words = later-words m (tickOf m .bench) tick-later
 
-  run-later : (budget buffer : ℕ) → Later m (runOf m budget buffer .ran .machine)
+  run-later : (budget buffer : ℕ) → Later m (runOf m budget buffer .ran .bench)
   unfolding runOf
   run-later budget buffer = rw sound (by (isNothing (m .work)) (m .held))
     where
@@ -159,7 +159,7 @@ module _ (m : Machine) (sound : soundOf m ≡ true) where
       s = stripOf (capacityOf (m .settings)) (min budget buffer) (m .at) (m .remainder) (m .work)
 
       by : (nothing held : Bool)
-          → Later m (cond nothing (noTick m Report.Idle) (cond held (noTick m Report.Held) (ranOver m budget s)) .ran .machine)
+          → Later m (cond nothing (noTick m Report.Idle) (cond held (noTick m Report.Held) (ranOver m budget s)) .ran .bench)
       by true held = unmoved m
       by false true = unmoved m
       by false false =
@@ -167,14 +167,14 @@ module _ (m : Machine) (sound : soundOf m ≡ true) where
           (strip-follows (capacityOf (m .settings)) (min budget buffer) (m .at) (m .remainder) (m .work))
 
   pub run-words : (budget buffer : ℕ)
-      → (let n = runOf m budget buffer .ran .machine in storedOf (encodeOf m) (n .at) (n .remainder) (n .work) ≡ encodeOf n)
-  run-words budget buffer = later-words m (runOf m budget buffer .ran .machine) (run-later budget buffer)
+      → (let n = runOf m budget buffer .ran .bench in storedOf (encodeOf m) (n .at) (n .remainder) (n .work) ≡ encodeOf n)
+  run-words budget buffer = later-words m (runOf m budget buffer .ran .bench) (run-later budget buffer)
 
   -- a load changes what is in work, or nothing
-  pub load-words : (b : Block) → setWork (encodeOf m) (workWordsOf (loadOf m b .machine .work)) ≡ encodeOf (loadOf m b .machine)
+  pub load-words : (b : Block) → setWork (encodeOf m) (workWordsOf (loadOf m b .bench .work)) ≡ encodeOf (loadOf m b .bench)
   unfolding loadOf encodeOf movedOf
   load-words b = rw sound (by (loadNo (capacityOf (m .settings)) (m .settings .travel) (isNothing (m .work)) (m .at) b))
     where
-      by : (n : ℕ) → setWork (encodeOf m) (workWordsOf (loadWith m b n .machine .work)) ≡ encodeOf (loadWith m b n .machine)
+      by : (n : ℕ) → setWork (encodeOf m) (workWordsOf (loadWith m b n .bench .work)) ≡ encodeOf (loadWith m b n .bench)
       by zero = refl
       by (suc n) = refl

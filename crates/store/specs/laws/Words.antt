@@ -4,8 +4,8 @@ use mathlib.Core.Bool.{true}
 use mathlib.Core.List.{List}
 use lib.IntN.{ℤ}
 use Rattle.whole.specs.laws.Test.{both}
-use Rattle.machine.specs.declared.Machine.{Machine}
-use Rattle.machine.specs.Machine.{soundOf}
+use Rattle.bench.specs.declared.Bench.{Bench}
+use Rattle.bench.specs.Bench.{soundOf}
 use Rattle.layout.specs.Words.{encodeOf, machineIn, isRecord}
 use Rattle.layout.specs.laws.Record.{record-words, machine-back, record-of}
 use Rattle.store.specs.Words.{soundWords}
@@ -21,6 +21,6 @@ module _ (ws : List ℤ) (t : soundWords ws ≡ true) where
   told-sound = let b = both {a = isRecord ws} {b = soundOf (machineIn ws)} t in b .1
 
 -- the words of a sound machine
-pub sound-words : (m : Machine) → soundOf m ≡ true → soundWords (encodeOf m) ≡ true
+pub sound-words : (m : Bench) → soundOf m ≡ true → soundWords (encodeOf m) ≡ true
 unfolding soundWords
 sound-words m e = rw (record-of m e, machine-back m e, e)

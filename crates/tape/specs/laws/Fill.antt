@@ -7,10 +7,10 @@ use native.Mathlib.Omega.{arith}
 use lib.ListN.{length, drop}
 use lib.Seq.{take-append-seam, drop-append-seam}
 use Rattle.run.specs.Run.{written}
-use Rattle.machine.specs.declared.Machine.{Machine}
-use Rattle.machine.specs.declared.Ran.{Ran}
-use Rattle.machine.specs.Run.{runOf}
-use Rattle.machine.specs.laws.Run.{ticks-are}
+use Rattle.bench.specs.declared.Bench.{Bench}
+use Rattle.bench.specs.declared.Ran.{Ran}
+use Rattle.bench.specs.Run.{runOf}
+use Rattle.bench.specs.laws.Run.{ticks-are}
 use Rattle.job.specs.Calls.{enough}
 use Rattle.job.specs.laws.Fill.{less-to-come}
 use Rattle.tape.specs.declared.Tape.{Tape}
@@ -34,22 +34,22 @@ module _ {t : Tape} {text old new : List ℕ} {tape : Tape} (g : Reading t text 
   fill-over over =
       record { bytes = g .rest; later = g .same; room = omega arith; onward = λ room going. absurd (true≢false (sym over ∙ going)) }
 
-  module _ {x : Ran} {after : List ℕ} (going : tape .over ≡ false) (ran : x ≡ runOf (tape .machine) enough (length new) .ran)
-      (wrote : after ≡ written (runOf (tape .machine) enough (length new) .bytes) new) where
+  module _ {x : Ran} {after : List ℕ} (going : tape .over ≡ false) (ran : x ≡ runOf (tape .bench) enough (length new) .ran)
+      (wrote : after ≡ written (runOf (tape .bench) enough (length new) .bytes) new) where
     abbrev bytes : List ℕ
-    bytes = runOf (tape .machine) enough (length new) .bytes
+    bytes = runOf (tape .bench) enough (length new) .bytes
 
-    abbrev lines : Machine → List ℕ
+    abbrev lines : Bench → List ℕ
     lines m = linesBytes m (tape .reader) (tape .at) text
 
     many : x .ticks ≡ length bytes
-    many = ap (λ (r : Ran). r .ticks) ran ∙ ticks-are (tape .machine) enough (length new)
+    many = ap (λ (r : Ran). r .ticks) ran ∙ ticks-are (tape .bench) enough (length new)
 
-    pub fill-some : 0 < x .ticks → Fills t text old (record { len = x .ticks; tape = atMachine tape (x .machine) }) after
+    pub fill-some : 0 < x .ticks → Fills t text old (record { len = x .ticks; tape = atMachine tape (x .bench) }) after
     unfolding restOf written
     fill-some some =
-        let p = pieces (tape .machine) (length new) lines in
-        let b : length bytes ≤ length old = omega (arith, run-fits (tape .machine) (length new), ap length (g .same)) in
+        let p = pieces (tape .bench) (length new) lines in
+        let b : length bytes ≤ length old = omega (arith, run-fits (tape .bench) (length new), ap length (g .same)) in
         record {
           bytes = rw (many, wrote, take-append-seam bytes (drop (length bytes) new), ran, going) (p ∙ rw going at (g .rest));
           later = rw (many, wrote, drop-append-seam bytes (drop (length bytes) new), g .same);
@@ -60,10 +60,10 @@ module _ {t : Tape} {text old new : List ℕ} {tape : Tape} (g : Reading t text 
     pub read-on : x .ticks ≤ 0 → {next : Tape} → NextLine tape text next → Reading t text old after next
     unfolding restOf written
     read-on none n =
-        let zero : runOf (tape .machine) enough (length new) .ran .ticks ≡ 0 = sym (ap (λ (r : Ran). r .ticks) ran) ∙ omega arith in
-        let s = no-tick (tape .machine) (length new) (omega (arith, g .room, ap length (g .same))) zero in
+        let zero : runOf (tape .bench) enough (length new) .ran .ticks ≡ 0 = sym (ap (λ (r : Ran). r .ticks) ran) ∙ omega arith in
+        let s = no-tick (tape .bench) (length new) (omega (arith, g .room, ap length (g .same))) zero in
         record {
-          rest = n .rest ∙ sym (nothing-left (tape .machine) lines s) ∙ rw going at (g .rest);
+          rest = n .rest ∙ sym (nothing-left (tape .bench) lines s) ∙ rw going at (g .rest);
           same = (rw (s enough (length new) .0) at wrote) ∙ g .same;
           room = g .room;
         }

@@ -7,7 +7,7 @@ use native.Mathlib.Omega.{arith}
 use lib.ListN.{length, drop, length-drop, drop-of-length-le}
 use lib.Seq.{drop-drop}
 use borrow.Author.Tests.{le-leb, lt-leb}
-use Rattle.machine.specs.declared.Machine.{Machine}
+use Rattle.bench.specs.declared.Bench.{Bench}
 use Rattle.reader.specs.declared.«text_line».ReadLine.{ReadLine}
 use Rattle.reader.specs.TextLine.{readLineOf}
 use Rattle.words.specs.laws.Scan.{firstLine}
@@ -19,7 +19,7 @@ use Rattle.tape.specs.Tape.{runThen, isRefused, bytesFrom, linesBytes, r
 
 module _ (t : Tape) (text : List ℕ) (going : t .over ≡ false) where
   -- nothing follows
-  last : linesBytes (t .machine) (t .reader) (t .at) text ≡ [] → NextLine t text (endedOf t)
+  last : linesBytes (t .bench) (t .reader) (t .at) text ≡ [] → NextLine t text (endedOf t)
   unfolding restOf
   last none = record { rest = sym none; fewer = rw going (omega arith) }
 
@@ -32,21 +32,21 @@ module _ (t : Tape) (text : List ℕ) (going : t .over ≡ false) where
     next-none end = last (rw (le-leb (length text) 65536 short, drop-of-length-le text end))
 
     module _ {r : ReadLine} {end : ℕ} (more : t .at < length text) (found : end ≡ t .at + length (firstLine (drop (t .at) text)))
-        (read : r ≡ readLineOf (t .reader) (t .machine) (firstLine (drop (t .at) text))) where
+        (read : r ≡ readLineOf (t .reader) (t .bench) (firstLine (drop (t .at) text))) where
       after : drop (suc (length (firstLine (drop (t .at) text)))) (drop (t .at) text) ≡ drop (end + 1) text
       after =
           let same : t .at + suc (length (firstLine (drop (t .at) text))) ≡ end + 1 = omega (arith, found) in
           drop-drop _ (t .at) text ∙ ap (λ (n : ℕ). drop n text) same
 
-      cut : linesBytes (t .machine) (t .reader) (t .at) text
-          ≡ unless (isRefused (r .answer)) (runThen (r .machine) (λ (m : Machine). bytesFrom m (r .reader) (linesOf (drop (end + 1) text))))
+      cut : linesBytes (t .bench) (t .reader) (t .at) text
+          ≡ unless (isRefused (r .answer)) (runThen (r .bench) (λ (m : Bench). bytesFrom m (r .reader) (linesOf (drop (end + 1) text))))
       unfolding bytesFrom
       cut = rw (le-leb (length text) 65536 short, lines-next (drop (t .at) text) (rw (length-drop (t .at) text) (omega arith)), after, read)
 
       pub next-refused : isRefused (r .answer) ≡ true → NextLine t text (endedOf t)
       next-refused e = last (cut ∙ rw e)
 
-      pub next-read : isRefused (r .answer) ≡ false → NextLine t text (record { over = false; at = end + 1; reader = r .reader; machine = r .machine })
+      pub next-read : isRefused (r .answer) ≡ false → NextLine t text (record { over = false; at = end + 1; reader = r .reader; bench = r .bench })
       unfolding restOf
       next-read e =
           let few = le-leb (length text) 65536 short in

@@ -9,12 +9,12 @@ use lib.ListN.{length}
 use Rattle.work.specs.Work.{isNothing}
 use Rattle.run.specs.Run.{Strip, stripOf}
 use Rattle.run.specs.laws.Going.{after}
-use Rattle.machine.specs.declared.Machine.{Machine}
-use Rattle.machine.specs.declared.Report.{Report}
+use Rattle.bench.specs.declared.Bench.{Bench}
+use Rattle.bench.specs.declared.Report.{Report}
 use Rattle.settings.specs.Settings.{capacityOf}
-use Rattle.machine.specs.Machine.{soundOf, movedOf}
-use Rattle.machine.specs.Run.{Run, ranOver, noTick, runOf}
-use Rattle.machine.specs.laws.Run.{ticks-are}
+use Rattle.bench.specs.Bench.{soundOf, movedOf}
+use Rattle.bench.specs.Run.{Run, ranOver, noTick, runOf}
+use Rattle.bench.specs.laws.Run.{ticks-are}
 use Rattle.keeps.specs.laws.Calls.{run-keeps}
 use Rattle.run.specs.laws.Strip.{Ended, strip-ends, end-tick}
 use Rattle.finish.specs.declared.Finished.{Finished}
@@ -25,23 +25,23 @@ use Rattle.tape.specs.Tape.{runThen}
 use Rattle.tape.specs.laws.Split.{andThen, then-ended, then-going, strip-split, strip-busy, strip-some, strip-few}
 
 -- a record whose runs do no tick
-abbrev pub Still : Machine → Type 0
-Still m = (budget buffer : ℕ) → (runOf m budget buffer .bytes ≡ []) × (runOf m budget buffer .ran .machine ≡ m)
+abbrev pub Still : Bench → Type 0
+Still m = (budget buffer : ℕ) → (runOf m budget buffer .bytes ≡ []) × (runOf m budget buffer .ran .bench ≡ m)
 
-pub still : (m : Machine) → worksOf m ≡ false → Still m
+pub still : (m : Bench) → worksOf m ≡ false → Still m
 unfolding worksOf runOf
 still m none budget buffer =
     by (soundOf m) (isNothing (m .work)) (m .held) (ranOver m budget (stripOf (capacityOf (m .settings)) (min budget buffer) (m .at) (m .remainder) (m .work))) none
   where
     by : (sound idle held : Bool) (run : Run) → sound && not (idle || held) ≡ false
         → (let r = cond sound (cond idle (noTick m Report.Idle) (cond held (noTick m Report.Held) run)) (noTick m (Report.Refused 9)) in
-        (r .bytes ≡ []) × (r .ran .machine ≡ m))
+        (r .bytes ≡ []) × (r .ran .bench ≡ m))
     by true true held run e = (refl, refl)
     by true false true run e = (refl, refl)
     by true false false run e = absurd (subst T e tt)
     by false idle held run e = (refl, refl)
 
-pub still-idle : (m : Machine) → isNothing (m .work) ≡ true → Still m
+pub still-idle : (m : Bench) → isNothing (m .work) ≡ true → Still m
 unfolding worksOf
 still-idle m e = still m (rw e (by (soundOf m)))
   where
@@ -49,7 +49,7 @@ still-idle m e = still m (rw e (by (soundOf m)))
     by true = refl
     by false = refl
 
-module _ (m : Machine) (a : AtWork m) where
+module _ (m : Bench) (a : AtWork m) where
   abbrev ticking : ℕ → Strip
   ticking n = stripOf (capacityOf (m .settings)) n (m .at) (m .remainder) (m .work)
 
@@ -68,7 +68,7 @@ module _ (m : Machine) (a : AtWork m) where
 
 -- ---- a run of some of the ticks, and the run to the end of what it leaves
 
-module _ (m : Machine) (a : AtWork m) (buffer : ℕ) (rest : Machine → List ℕ) where
+module _ (m : Bench) (a : AtWork m) (buffer : ℕ) (rest : Bench → List ℕ) where
   abbrev q0 : ℕ
   q0 = capacityOf (m .settings)
 
@@ -78,7 +78,7 @@ module _ (m : Machine) (a : AtWork m) (buffer : ℕ) (rest : Machine → List �
   abbrev first : Strip
   first = ticking m a done
 
-  abbrev left : Machine
+  abbrev left : Bench
   left = movedOf m (first .at) (first .remainder) (first .work)
 
   abbrev others : Strip
@@ -116,7 +116,7 @@ module _ (m : Machine) (a : AtWork m) (buffer : ℕ) (rest : Machine → List �
       } in
       rw (runs m a enough enough, runs left still-works enough enough, same, whole) (sym (append-assoc (first .bytes) (others .bytes) _))
 
-  work-pieces : (let x = runOf m enough buffer in x .bytes ++ runThen (x .ran .machine) rest ≡ runThen m rest)
+  work-pieces : (let x = runOf m enough buffer in x .bytes ++ runThen (x .ran .bench) rest ≡ runThen m rest)
   work-pieces = rw (runs m a enough buffer) (by (first .ended) refl)
     where
       by : (over : Bool) → first .ended ≡ over → first .bytes ++ runThen left rest ≡ runThen m rest
@@ -125,22 +125,22 @@ module _ (m : Machine) (a : AtWork m) (buffer : ℕ) (rest : Machine → List �
 
 -- ---- whatever the record is
 
-pub pieces : (m : Machine) (buffer : ℕ) (rest : Machine → List ℕ) → (let x = runOf m enough buffer in x .bytes ++ runThen (x .ran .machine) rest ≡ runThen m rest)
+pub pieces : (m : Bench) (buffer : ℕ) (rest : Bench → List ℕ) → (let x = runOf m enough buffer in x .bytes ++ runThen (x .ran .bench) rest ≡ runThen m rest)
 pieces m buffer rest = by (worksOf m) refl
   where
-    by : (b : Bool) → worksOf m ≡ b → (let x = runOf m enough buffer in x .bytes ++ runThen (x .ran .machine) rest ≡ runThen m rest)
+    by : (b : Bool) → worksOf m ≡ b → (let x = runOf m enough buffer in x .bytes ++ runThen (x .ran .bench) rest ≡ runThen m rest)
     by true e = work-pieces m (works e) buffer rest
     by false e = rw (still m e enough buffer .0, still m e enough buffer .1)
 
 -- a run that did no tick into a buffer with room has none to do
-pub no-tick : (m : Machine) (buffer : ℕ) → 1 ≤ buffer → runOf m enough buffer .ran .ticks ≡ 0 → Still m
+pub no-tick : (m : Bench) (buffer : ℕ) → 1 ≤ buffer → runOf m enough buffer .ran .ticks ≡ 0 → Still m
 no-tick m buffer room none = by (worksOf m) refl
   where
     by : (b : Bool) → worksOf m ≡ b → Still m
     by true e = absurd (omega (arith, some-tick m (works e) enough buffer (omega arith) room, ticks-are m enough buffer))
     by false e = still m e
 
-pub run-fits : (m : Machine) (buffer : ℕ) → length (runOf m enough buffer .bytes) ≤ buffer
+pub run-fits : (m : Bench) (buffer : ℕ) → length (runOf m enough buffer .bytes) ≤ buffer
 run-fits m buffer = by (worksOf m) refl
   where
     by : (b : Bool) → worksOf m ≡ b → length (runOf m enough buffer .bytes) ≤ buffer
@@ -148,5 +148,5 @@ run-fits m buffer = by (worksOf m) refl
         rw (runs m (works e) enough buffer) (omega (arith, strip-few (capacityOf (m .settings)) (min enough buffer) (m .at) (m .remainder) (m .work)))
     by false e = rw (still m e enough buffer .0) (omega arith)
 
-pub nothing-left : (m : Machine) (rest : Machine → List ℕ) → Still m → runThen m rest ≡ rest m
+pub nothing-left : (m : Bench) (rest : Bench → List ℕ) → Still m → runThen m rest ≡ rest m
 nothing-left m rest s = rw (s enough enough .0, s enough enough .1)

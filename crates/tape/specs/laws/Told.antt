@@ -9,14 +9,14 @@ use lib.IntN.{pos}
 use lib.ListN.{length, drop, length-append}
 use Rattle.block.specs.declared.Block.{Block}
 use Rattle.book.specs.Sums.{cyclesMarked}
-use Rattle.machine.specs.declared.Machine.{Machine}
-use Rattle.machine.specs.declared.Ran.{Ran}
+use Rattle.bench.specs.declared.Bench.{Bench}
+use Rattle.bench.specs.declared.Ran.{Ran}
 use Rattle.settings.specs.declared.Settings.{Settings}
 use Rattle.settings.specs.Settings.{capacityOf, settingsNo}
-use Rattle.machine.specs.Machine.{movedOf, freshOf}
-use Rattle.machine.specs.Calls.{loadOf}
-use Rattle.machine.specs.Run.{runOf}
-use Rattle.machine.specs.laws.Run.{ticks-are}
+use Rattle.bench.specs.Bench.{movedOf, freshOf}
+use Rattle.bench.specs.Calls.{loadOf}
+use Rattle.bench.specs.Run.{runOf}
+use Rattle.bench.specs.laws.Run.{ticks-are}
 use Rattle.finish.specs.laws.Record.{AtRest}
 use Rattle.reader.specs.declared.Reader.{Reader}
 use Rattle.reader.specs.declared.«text_line».ReadLine.{ReadLine}
@@ -34,7 +34,7 @@ use Rattle.tape.specs.laws.Pieces.{still-idle, nothing-left}
 
 pub tape-tells : (s : Settings) → Tells s (startOf (freshOf s))
 unfolding restOf startOf tickBytesOf freshOf
-tape-tells s text = nothing-left (freshOf s) (λ (m : Machine). linesBytes m unknown 0 text) (still-idle (freshOf s) refl)
+tape-tells s text = nothing-left (freshOf s) (λ (m : Bench). linesBytes m unknown 0 text) (still-idle (freshOf s) refl)
 
 -- ---- ticks and cycles
 
@@ -51,36 +51,36 @@ unfolding allTicks allCycles
 none q0 r = record { ticks = refl; cycles = refl }
 
 -- the bytes of a block in front
-module _ (m : Machine) (n : ℕ) (b : Block) (i : AtRest m) (low : Low m) (ok : Accepted m b) (rest : Machine → List ℕ) where
-  counts-block : {ms : List Made} → Counts (capacityOf (m .settings)) (endedOf m b .machine .remainder) ms (rest (endedOf m b .machine))
-      → Counts (capacityOf (m .settings)) (m .remainder) (record { textLine = n; start = m .at; block = b } ∷ ms) (runThen (loadOf m b .machine) rest)
+module _ (m : Bench) (n : ℕ) (b : Block) (i : AtRest m) (low : Low m) (ok : Accepted m b) (rest : Bench → List ℕ) where
+  counts-block : {ms : List Made} → Counts (capacityOf (m .settings)) (endedOf m b .bench .remainder) ms (rest (endedOf m b .bench))
+      → Counts (capacityOf (m .settings)) (m .remainder) (record { textLine = n; start = m .at; block = b } ∷ ms) (runThen (loadOf m b .bench) rest)
   unfolding allTicks allCycles movedOf
   counts-block {ms} c =
-      let x = runOf (loadOf m b .machine) enough enough in
+      let x = runOf (loadOf m b .bench) enough enough in
       let ran = ended-run m i b ok in
-      let many : length (x .bytes) ≡ endedOf m b .ticks = sym (ticks-are (loadOf m b .machine) enough enough) ∙ ap (λ (r : Ran). r .ticks) ran in
+      let many : length (x .bytes) ≡ endedOf m b .ticks = sym (ticks-are (loadOf m b .bench) enough enough) ∙ ap (λ (r : Ran). r .ticks) ran in
       let given = ended-ticks m i b ok low in
       let kept = ap (λ (r : ℕ). allTicks (capacityOf (m .settings)) r ms) (ended-left m i b ok low) in
-      let left : x .ran .machine ≡ endedOf m b .machine = ap (λ (r : Ran). r .machine) ran in
+      let left : x .ran .bench ≡ endedOf m b .bench = ap (λ (r : Ran). r .bench) ran in
       rw left
       (record {
-        ticks = omega (arith, length-append (x .bytes) (rest (endedOf m b .machine)), many, c .ticks);
-        cycles = omega (arith, marked-both (x .bytes) (rest (endedOf m b .machine)), ended-cycles m i b ok, c .cycles);
+        ticks = omega (arith, length-append (x .bytes) (rest (endedOf m b .bench)), many, c .ticks);
+        cycles = omega (arith, marked-both (x .bytes) (rest (endedOf m b .bench)), ended-cycles m i b ok, c .cycles);
       })
 
 abbrev pub Told : List (List ℕ) → Type 0
-Told ls = (n : ℕ) (m : Machine) (k : Reader) → AtRest m → Low m
+Told ls = (n : ℕ) (m : Bench) (k : Reader) → AtRest m → Low m
     → Counts (capacityOf (m .settings)) (m .remainder) (jobFrom (m .settings) n (m .at) k ls .blocks) (bytesFrom m k ls)
 
-by-line : (m : Machine) (n : ℕ) (k : Reader) (ls : List (List ℕ)) → AtRest m → Low m → Told ls → {a : Asks} {r : ReadLine} → Read-as m k a r
+by-line : (m : Bench) (n : ℕ) (k : Reader) (ls : List (List ℕ)) → AtRest m → Low m → Told ls → {a : Asks} {r : ReadLine} → Read-as m k a r
     → Counts (capacityOf (m .settings)) (m .remainder) (onward n (m .at) a (λ at k′. jobFrom (m .settings) (n + 1) at k′ ls) .blocks)
-    (unless (isRefused (r .answer)) (runThen (r .machine) (λ m′. bytesFrom m′ (r .reader) ls)))
+    (unless (isRefused (r .answer)) (runThen (r .bench) (λ m′. bytesFrom m′ (r .reader) ls)))
 unfolding movedOf
 by-line m n k ls i low rest (Read-as.nothing known) =
-    rw (nothing-left m (λ (m′ : Machine). bytesFrom m′ known ls) (still-idle m (i .idle))) (rest (n + 1) m known i low)
+    rw (nothing-left m (λ (m′ : Bench). bytesFrom m′ known ls) (still-idle m (i .idle))) (rest (n + 1) m known i low)
 by-line m n k ls i low rest (Read-as.makes known b ok) =
     counts-block m n b i low ok (λ m′. bytesFrom m′ known ls)
-    (rest (n + 1) (endedOf m b .machine) known (ended-rests m i b ok) (ended-low m i b ok low))
+    (rest (n + 1) (endedOf m b .bench) known (ended-rests m i b ok) (ended-low m i b ok low))
 by-line m n k ls i low rest (Read-as.refuses number) = none (capacityOf (m .settings)) (m .remainder)
 
 lines-told : (ls : List (List ℕ)) → Told ls

@@ -1,6 +1,6 @@
 -- `settled` is right because it writes nothing anew where nothing stands.
 use borrow.Author.Needs.{needs}
-use Rattle.machine.specs.Machine.{movedOf}
+use Rattle.bench.specs.Bench.{movedOf}
 use Rattle.job.proofs.Check.settled.Statement.{statement}
 use Rattle.job.proofs.Check.settled.Tie as tie
 

@@ -34,25 +34,25 @@ abbrev line : tie.After-block → List ℕ
 line c =
     let s = c .before .before .before .before .before .before .before .before .before .before .before .args in
     let f = c .before .before .before .before .before .before .before .before .before .finish .result in
-    blockLine (s .self .blocks + 1) (s .self .lines + 1) (c .before .before .before .kind-of .result) (f .cycles) (f .machine .at .x) (f .machine .at .y) (s .bits)
+    blockLine (s .self .blocks + 1) (s .self .lines + 1) (c .before .before .before .kind-of .result) (f .cycles) (f .bench .at .x) (f .bench .at .y) (s .bits)
 
 line-short : (c : tie.After-block) → length (line c) ≤ 160
 line-short c =
     let s = c .before .before .before .before .before .before .before .before .before .before .before .args in
     let f = c .before .before .before .before .before .before .before .before .before .finish .result in
-    block-short (s .self .blocks + 1) (s .self .lines + 1) (c .before .before .before .kind-of .result) (f .cycles) (f .machine .at .x) (f .machine .at .y) (s .bits)
+    block-short (s .self .blocks + 1) (s .self .lines + 1) (c .before .before .before .kind-of .result) (f .cycles) (f .bench .at .x) (f .bench .at .y) (s .bits)
     (omega (arith, has-room (c .before .before .before .before .before .before .before .before .before) .blocks)) (omega (arith, has-room (c .before .before .before .before .before .before .before .before .before) .lines)) (omega (arith, has-room (c .before .before .before .before .before .before .before .before .before) .cycles)) (search needs) (search needs) (search needs)
 
 buffer-is : (c : tie.After-block) → c .block .last .0 ≡ bufferAfter (line c) (c .before .before .before .before .before .before .before .before .before .before .before .args .out .now) (c .before .before .before .before .before .before .before .before .before .before .before .args .at)
 buffer-is c =
-    let x : SFits w64 (c .before .before .before .before .before .before .before .before .before .finish .result .machine .at .x) = search needs in
-    let y : SFits w64 (c .before .before .before .before .before .before .before .before .before .finish .result .machine .at .y) = search needs in
+    let x : SFits w64 (c .before .before .before .before .before .before .before .before .before .finish .result .bench .at .x) = search needs in
+    let y : SFits w64 (c .before .before .before .before .before .before .before .before .before .finish .result .bench .at .y) = search needs in
     simp toZ-ofZ at (c .block .ensures .0)
 
 place-is : (c : tie.After-block) → c .block .result ≡ placeAfter (line c) (c .before .before .before .before .before .before .before .before .before .before .before .args .out .now) (c .before .before .before .before .before .before .before .before .before .before .before .args .at)
 place-is c =
-    let x : SFits w64 (c .before .before .before .before .before .before .before .before .before .finish .result .machine .at .x) = search needs in
-    let y : SFits w64 (c .before .before .before .before .before .before .before .before .before .finish .result .machine .at .y) = search needs in
+    let x : SFits w64 (c .before .before .before .before .before .before .before .before .before .finish .result .bench .at .x) = search needs in
+    let y : SFits w64 (c .before .before .before .before .before .before .before .before .before .finish .result .bench .at .y) = search needs in
     simp toZ-ofZ at (c .block .ensures .1)
 
 finish-requires : tie.Need-finish-requires

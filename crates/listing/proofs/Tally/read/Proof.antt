@@ -1,6 +1,6 @@
 -- `read` is right because it asks for room and the counts, and then does what the reader's answer says.
 use borrow.Author.Needs.{needs}
-use Rattle.machine.specs.Machine.{soundOf}
+use Rattle.bench.specs.Bench.{soundOf}
 use Rattle.reader.specs.declared.«text_line».Read.{Read}
 use Rattle.reader.specs.declared.«text_line».ReadLine.{ReadLine}
 use Rattle.listing.specs.laws.Keeps.{loaded-sound}
@@ -52,14 +52,14 @@ module _ (c : tie.After-after) where
       {a : Read}
       → (let s = entered .before .before .before .before .before .before .args in
       let r = reading .read-first .result .read in
-      r .answer ≡ a → readOf (s .self) (firstLine (s .text .now)) (s .out .now) (s .at) ≡ listedWith (s .self) (r .reader) (r .machine) a)
+      r .answer ≡ a → readOf (s .self) (firstLine (s .text .now)) (s .out .now) (s .at) ≡ listedWith (s .self) (r .reader) (r .bench) a)
   gives is =
       let s = entered .before .before .before .before .before .before .args in
       let r = reading .read-first .result .read in
       let line = firstLine (s .text .now) in
       with-room (s .self) line (s .out .now) (s .at) room
       ∙ listed (s .self) line (counted entered) (reading .read-first .ensures .0)
-      ∙ ap (listedWith (s .self) (r .reader) (r .machine)) is
+      ∙ ap (listedWith (s .self) (r .reader) (r .bench)) is
 
 -- what writes nothing leaves the buffer as it is
 silent :
@@ -122,8 +122,8 @@ block-requires c κs =
     let s = e .before .before .before .before .before .before .args in
     let r = reading a .read-first .ensures .0 in
     let is = ap (λ (l : ReadLine). l .answer) (sym r) ∙ c .before .before .answer .given .1 in
-    let loaded = loaded-sound (s .self .reader) (s .self .machine) (firstLine (s .text .now)) is in
-    (counted e, room a, subst (λ (l : ReadLine). soundOf (l .machine) ≡ true) (sym r) loaded)
+    let loaded = loaded-sound (s .self .reader) (s .self .bench) (firstLine (s .text .now)) is in
+    (counted e, room a, subst (λ (l : ReadLine). soundOf (l .bench) ≡ true) (sym r) loaded)
 
 enum-known-answer-2 : tie.Need-enum-known-answer-2
 enum-known-answer-2 c = search needs

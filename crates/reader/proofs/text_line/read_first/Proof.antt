@@ -4,7 +4,7 @@ use mathlib.Core.Path.{_≡_, sym, _∙_}
 use mathlib.Core.Bool.{true}
 use native.Mathlib.Omega.{arith}
 use borrow.Author.Tests.{not-true, not-false}
-use Rattle.machine.specs.Machine.{soundOf}
+use Rattle.bench.specs.Bench.{soundOf}
 use Rattle.reader.specs.TextLine.{readLineOf}
 use Rattle.reader.specs.laws.Small.{line-writable}
 use Rattle.reader.proofs.text_line.read_first.Statement.{statement}

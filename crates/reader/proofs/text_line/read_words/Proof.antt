@@ -3,7 +3,7 @@ use borrow.Author.Needs.{needs}
 use mathlib.Core.Path.{_≡_, sym, _∙_}
 use borrow.Author.Tests.{not-true, not-false}
 use Rattle.settings.specs.laws.Right.{settings-right}
-use Rattle.machine.specs.laws.Sound.{sound}
+use Rattle.bench.specs.laws.Sound.{sound}
 use Rattle.reader.specs.Reader.{readerAfter, lineNo}
 use Rattle.reader.specs.laws.Small.{small-words}
 use Rattle.reader.specs.laws.TextLine.{read-refused}

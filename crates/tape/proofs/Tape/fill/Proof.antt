@@ -3,7 +3,7 @@ use Rattle.tape.proofs.Tape.fill.Statement.{statement}
 use Rattle.tape.proofs.Tape.fill.Tie as tie
 use Rattle.tape.proofs.Tape.fill.Reads as reads
 use Rattle.tape.proofs.Tape.fill.Lts as lts
-use Rattle.machine.proofs.Machine.run.Reads as run-reads
+use Rattle.bench.proofs.Bench.run.Reads as run-reads
 use Rattle.tape.proofs.Tape.at_machine.Reads as at-machine-reads
 use Rattle.tape.proofs.Tape.next_line.Reads as next-line-reads
 use borrow.Author.Needs.{needs}

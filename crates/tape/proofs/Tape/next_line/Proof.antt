@@ -23,7 +23,7 @@ abbrev Line : (c : tie.After-read-first) → (rest : List ℕ) → Type 0
 Line c rest =
     let s = c .before .before .before .before .before .before .before .args in
     let r = c .read-first .result in
-    (r .read ≡ readLineOf (s .self .reader) (s .self .machine) (firstLine rest)) × (r .bytes ≡ length (firstLine rest))
+    (r .read ≡ readLineOf (s .self .reader) (s .self .bench) (firstLine rest)) × (r .bytes ≡ length (firstLine rest))
 
 given :
     (c : tie.After-read-first)

@@ -1,0 +1,78 @@
+-- What each call answers and the record that it hands back, for any record whatever.
+use mathlib.Core.Bool.{Bool, true, false, cond, _||_}
+use Prim.Native.Nat.{ℕ, zero, suc}
+use Rattle.block.specs.declared.Block.{Block}
+use Rattle.block.specs.Questions.{loadNo}
+use Rattle.work.specs.declared.Work.{Work}
+use Rattle.work.specs.declared.Advance.{Advance}
+use Rattle.work.specs.declared.Begun.{Begun}
+use Rattle.work.specs.Work.{isNothing, advanceOf, begunOf}
+use Rattle.settings.specs.declared.Settings.{Settings}
+use Rattle.bench.specs.declared.Bench.{Bench}
+use Rattle.bench.specs.declared.Answer.{Answer}
+use Rattle.bench.specs.declared.Answered.{Answered}
+use Rattle.bench.specs.declared.Tick.{Tick}
+use Rattle.bench.specs.declared.Ticked.{Ticked}
+use Rattle.settings.specs.Settings.{capacityOf, settingsNo, standardSettings}
+use Rattle.bench.specs.Bench.{soundOf, freshOf, movedOf}
+
+abbrev pub answers : Answer → Bench → Answered
+answers a m = record { answer = a; bench = m }
+
+-- "Any call on a record: is it sound? 9." A refusal hands the record back as it was.
+abbrev pub ifSound : Bench → Answered → Answered
+ifSound m a = cond (soundOf m) a (answers (Answer.Refused 9) m)
+
+-- ---- make
+
+-- "A refused make answers the number and the fresh machine with p 50, w 5,000 and the widest travel."
+abbrev pub makeWith : Settings → (number : ℕ) → Answered
+makeWith s zero = answers Answer.Done (freshOf s)
+makeWith s (suc n) = answers (Answer.Refused (suc n)) (freshOf standardSettings)
+
+unfoldable pub makeOf : Settings → Answered
+makeOf s = makeWith s (settingsNo s)
+
+-- ---- load
+
+abbrev pub taking : Bench → Begun → Answered
+taking m g = answers (Answer.Width (g .width)) (movedOf m (m .at) (m .remainder) (g .work))
+
+abbrev pub loadWith : Bench → Block → (number : ℕ) → Answered
+loadWith m b zero = taking m (begunOf (m .at) b)
+loadWith m b (suc n) = answers (Answer.Refused (suc n)) m
+
+unfoldable pub loadOf : Bench → Block → Answered
+loadOf m b = ifSound m (loadWith m b (loadNo (capacityOf (m .settings)) (m .settings .travel) (isNothing (m .work)) (m .at) b))
+
+-- ---- tick
+
+abbrev pub ticks : Tick → Bench → Ticked
+ticks t m = record { tick = t; bench = m }
+
+abbrev pub working : Bench → Advance → Ticked
+working m a = ticks (Tick.Byte (a .byte)) (movedOf m (a .at) (a .remainder) (a .work))
+
+-- 01, Ticks and runs: "Idle or held gives 0 and changes nothing."
+unfoldable pub tickOf : Bench → Ticked
+tickOf m =
+    cond (soundOf m)
+    (cond (m .held || isNothing (m .work)) (ticks (Tick.Byte 0) m)
+    (working m (advanceOf (capacityOf (m .settings)) (m .at) (m .remainder) (m .work))))
+    (ticks (Tick.Refused 9) m)
+
+-- ---- hold, release, stop
+
+-- "Hold and release only set a mark."
+abbrev pub markedOf : Bench → Bool → Bench
+markedOf m mark = record { settings = m .settings; at = m .at; held = mark; remainder = m .remainder; work = m .work }
+
+unfoldable pub holdOf : Bench → Answered
+holdOf m = ifSound m (answers Answer.Done (markedOf m true))
+
+unfoldable pub releaseOf : Bench → Answered
+releaseOf m = ifSound m (answers Answer.Done (markedOf m false))
+
+-- "Stop drops the block in work, keeps the point and the mark and sets the remainder to 0, also when idle."
+unfoldable pub stopOf : Bench → Answered
+stopOf m = ifSound m (answers Answer.Done (movedOf m (m .at) 0 Work.Nothing))

@@ -1,0 +1,5 @@
+-- To be believed: Machine, Calls, Run. Proved of them: laws.
+pub mod Bench
+pub mod Calls
+pub mod Run
+pub mod laws
