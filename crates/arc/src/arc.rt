@@ -4,6 +4,7 @@ ghost use mathlib.Core.Bool.{true};
 ghost use Prim.Native.Nat.{_<_};
 ghost use Rattle.plane.specs.Travel.{insideOf, visitsInside};
 ghost use Rattle.circle.specs.Circle.{onCircle};
+ghost use Rattle.circle.specs.Count.{quarterOf};
 ghost use Rattle.arc.specs.Centre.{Near, Wide, seenFrom};
 ghost use Rattle.arc.specs.Charge.{arcCharge, arcSpanOf, arcPaidOf};
 ghost use Rattle.arc.specs.Arc.{OnArc, arcAfter, arcCycles, arcWidth, arcAt, arcStepped, centres};
@@ -130,6 +131,23 @@ impl Arc {
         let end = self.end;
         let turn = self.turn;
         circle::count::span(self.square, turn, seen(centre, at), seen(centre, end))
+    }
+
+    // The cycles of that span alone, from those of a quarter turn, which the caller knows: no root is taken.
+    pub fn cycles(self, quarter: u64, at: Point) -> u64
+        requires { ⌜ OnArc self at × (quarter ≡ quarterOf (self .square)) ⌝ }
+        ensures { λ r. ⌜ r ≡ arcCycles self at ⌝ }
+    {
+        let centre = self.centre;
+        let end = self.end;
+        let turn = self.turn;
+        circle::count::cycles(
+            self.square,
+            quarter,
+            turn,
+            seen(centre, at),
+            seen(centre, end),
+        )
     }
 
     // What the next cycle is charged.

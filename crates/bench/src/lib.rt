@@ -103,7 +103,7 @@ fn report_of(ended: bool, spent: bool) -> Report
     Report::Full
 }
 
-fn fresh(settings: Settings) -> Bench
+pub fn fresh(settings: Settings) -> Bench
     ensures { λ r. ⌜ r ≡ freshOf settings ⌝ }
 {
     let origin = Point { x: 0, y: 0 };

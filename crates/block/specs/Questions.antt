@@ -42,9 +42,10 @@ abbrev pub pathNo : Travel → (start : Point) → Block → Path → ℕ
 pathNo t start b Path.Line = ask (differ start (b .end)) 0 13
 pathNo t start b (Path.Arc turn centre) = ask (offsetRight centre) (arcNo t (arcOf start b turn centre) start) 14
 
--- "Load, after 9, in this order: is nothing in work? 10. Is f in 1..q0? 11. Is the end in travel? 12."
-unfoldable pub loadNo : (q0 : ℕ) → Travel → (idle : Bool) (start : Point) → Block → ℕ
-loadNo q0 t idle start b = ask idle (ask (feedRight q0 (b .feed)) (ask (insideOf t (b .end)) (pathNo t start b (b .path)) 12) 11) 10
+-- "Load, after 9, in this order: is nothing in work? 10. Is f in 1..q0? 11. Is the end in travel? 12." 02 §3: "Question 10 becomes: are
+-- fewer than 16 waiting?" Either way it is whether there is room for the block.
+unfoldable pub loadNo : (q0 : ℕ) → Travel → (room : Bool) (start : Point) → Block → ℕ
+loadNo q0 t room start b = ask room (ask (feedRight q0 (b .feed)) (ask (insideOf t (b .end)) (pathNo t start b (b .path)) 12) 11) 10
 
 -- what the code asks of an arc that begins at a start in travel
 pub record Begins (t : Travel) (start : Point) (a : Arc) : Type 0 where

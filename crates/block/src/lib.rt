@@ -1,5 +1,6 @@
 // A block as a load is given it, and load's questions about it.
 pub mod questions;
+pub mod root;
 
 use circle::plane::Offset;
 use circle::plane::Turn;

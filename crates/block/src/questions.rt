@@ -99,11 +99,11 @@ fn path_no(travel: Travel, start: Point, b: Block) -> u64
 }
 
 // Questions 10 to 16.
-pub fn load_no(capacity: u64, travel: Travel, idle: bool, start: Point, b: Block) -> u64
+pub fn load_no(capacity: u64, travel: Travel, room: bool, start: Point, b: Block) -> u64
     requires { ⌜ Wide travel × (insideOf travel start ≡ true) ⌝ }
-    ensures { λ r. ⌜ r ≡ loadNo capacity travel idle start b ⌝ }
+    ensures { λ r. ⌜ r ≡ loadNo capacity travel room start b ⌝ }
 {
-    if !idle {
+    if !room {
         return 10;
     }
     if !feed_right(capacity, b.feed) {

@@ -40,10 +40,8 @@ pub struct Stepped {
     pub pulses: Pulses,
 }
 
-// The longest increment that a line within travel can have, and a bound on the cycles that it then takes.
+// The longest increment that a line within travel can have.
 const LONGEST: u64 = 2_000_000;
-
-const MOST_CYCLES: u64 = 4_000_000;
 
 fn cycles(a: u64, b: u64) -> u64
     requires { ⌜ (a ≤ 2000000) × (b ≤ 2000000) ⌝ }
@@ -57,18 +55,7 @@ fn takes(q: u64, a: u64, b: u64) -> bool
     requires { ⌜ (a ≤ 2000000) × (b ≤ 2000000) ⌝ }
     ensures { λ r. ⌜ r ≡ eqb q (leastRoot (a * a + b * b)) ⌝ }
 {
-    let sum = a * a + b * b;
-    if q == 0 {
-        return sum == 0;
-    }
-    if MOST_CYCLES < q {
-        return false;
-    }
-    let less = q - 1;
-    if sum <= less * less {
-        return false;
-    }
-    sum <= q * q
+    whole::root::is_least_root(a * a + b * b, q)
 }
 
 // Whether an axis that was to go `way` has gone `gone` after `done` of q cycles.

@@ -11,3 +11,4 @@ pub mod ArcRun
 pub mod Strip
 pub mod Skip
 pub mod Paid
+pub mod Keep

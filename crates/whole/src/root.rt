@@ -1,6 +1,7 @@
 // The least root (a line's cycles) and the nearest root (a circle's radius on an axis).
 ghost use mathlib.Core.Path.{_≡_};
 ghost use Prim.Native.Nat.{_*_, _^_, _≤_};
+ghost use lib.Dec.{eqb};
 ghost use Rattle.whole.specs.Root.{leastRoot, nearestRoot};
 
 // The least q with q * q >= s, which is at most `reach`. Halves the gap between a number whose square is below s and one whose square is not.
@@ -92,4 +93,43 @@ pub fn nearest_root(n: u64) -> u64
     }
     let down = q - 1;
     if n <= q * down { down } else { q }
+}
+
+// The root of 2^44; either root of a number up to there is at most this.
+const MOST_ROOT: u64 = 4_194_304;
+
+// Whether q is the least root of s, by two squares; any q may be asked.
+pub fn is_least_root(s: u64, q: u64) -> bool
+    requires { ⌜ s ≤ 2 ^ 44 ⌝ }
+    ensures { λ r. ⌜ r ≡ eqb q (leastRoot s) ⌝ }
+{
+    if q == 0 {
+        return s == 0;
+    }
+    if MOST_ROOT < q {
+        return false;
+    }
+    let less = q - 1;
+    if s <= less * less {
+        return false;
+    }
+    s <= q * q
+}
+
+// Whether r is the nearest root of n, by its square; any r may be asked.
+pub fn is_nearest_root(n: u64, r: u64) -> bool
+    requires { ⌜ n ≤ 2 ^ 44 ⌝ }
+    ensures { λ y. ⌜ y ≡ eqb r (nearestRoot n) ⌝ }
+{
+    if r == 0 {
+        return n == 0;
+    }
+    if MOST_ROOT < r {
+        return false;
+    }
+    let square = r * r;
+    if n <= square - r {
+        return false;
+    }
+    n <= square + r
 }

@@ -1,6 +1,8 @@
--- What is left of the block in work, for the contract of an inner function; no contract of a call for users rests on it.
-use Prim.Native.Nat.{_≤_}
+-- What is left of the block in work, for the contracts of inner functions, and the root that a machine's record keeps of it.
+use Prim.Native.Nat.{ℕ, _≤_}
 use Rattle.plane.specs.declared.point.Point.{Point}
+use Rattle.circle.specs.Circle.{largestN}
+use Rattle.circle.specs.Count.{quarterOf}
 use Rattle.arc.specs.Arc.{OnArc}
 use Rattle.work.specs.declared.Work.{Work}
 use Rattle.work.specs.declared.rest.Left.{Left}
@@ -14,3 +16,17 @@ abbrev pub Countable : (at : Point) → Work → Type 0
 Countable at Work.Nothing = Unit {0}
 Countable at (Work.Line l) = (l .done ≤ l .cycles) × (l .cycles ≤ 8000000)
 Countable at (Work.Arc a) = OnArc a at
+
+-- ---- the root of what is in work, by which the cycles left are known without taking one
+
+-- q of a line, the cycles of a quarter turn of an arc: that of its block, `rootOf`
+abbrev pub rootIn : Work → ℕ
+rootIn Work.Nothing = 0
+rootIn (Work.Line l) = l .cycles
+rootIn (Work.Arc a) = quarterOf (a .square)
+
+-- what the code asks: an arc whose N is small enough for the product
+abbrev pub Rooted : Work → Type 0
+Rooted Work.Nothing = Unit {0}
+Rooted (Work.Line l) = Unit {0}
+Rooted (Work.Arc a) = a .square ≤ largestN

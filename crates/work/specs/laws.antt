@@ -3,3 +3,4 @@ pub mod Cycle
 pub mod Charge
 pub mod Keep
 pub mod Rest
+pub mod Left

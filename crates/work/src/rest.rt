@@ -1,9 +1,13 @@
 // What is left of the block in work, without walking to its end.
 ghost use mathlib.Core.Path.{_≡_};
-ghost use Rattle.work.specs.Rest.{Countable, leftOf};
+ghost use lib.Dec.{eqb};
+ghost use Rattle.work.specs.Work.{cyclesLeft, endOf};
+ghost use Rattle.work.specs.Rest.{Countable, leftOf, rootIn, Rooted};
 use crate::Work;
 use circle::step::STRAIGHT;
 use plane::point::Point;
+use whole::root::is_nearest_root;
+use whole::root::nearest_root;
 
 // What the end of the block in work depends on.
 pub struct Left {
@@ -45,5 +49,52 @@ pub fn work_left(at: Point, work: Work) -> Left
                 end: end,
             }
         }
+    }
+}
+
+// The root by which the cycles left are known: q of a line, the cycles of a quarter turn of an arc, 0 of nothing.
+pub fn root_of(work: Work) -> u64
+    requires { ⌜ Rooted work ⌝ }
+    ensures { λ r. ⌜ r ≡ rootIn work ⌝ }
+{
+    match work {
+        Work::Nothing => 0,
+        Work::Line(l) => l.cycles,
+        Work::Arc(a) => nearest_root(2 * a.square),
+    }
+}
+
+// Whether this is the root, by its square; any number may be asked.
+pub fn is_root(work: Work, root: u64) -> bool
+    requires { ⌜ Rooted work ⌝ }
+    ensures { λ r. ⌜ r ≡ eqb root (rootIn work) ⌝ }
+{
+    match work {
+        Work::Nothing => root == 0,
+        Work::Line(l) => root == l.cycles,
+        Work::Arc(a) => is_nearest_root(2 * a.square, root),
+    }
+}
+
+// The cycles left, from the root.
+pub fn cycles_left(at: Point, work: Work, root: u64) -> u64
+    requires { ⌜ Countable at work × (root ≡ rootIn work) ⌝ }
+    ensures { λ r. ⌜ r ≡ cyclesLeft at work ⌝ }
+{
+    match work {
+        Work::Nothing => 0,
+        Work::Line(l) => l.cycles - l.done,
+        Work::Arc(a) => a.cycles(root, at),
+    }
+}
+
+// Where what is in work ends; of nothing the point.
+pub fn end_of(at: Point, work: Work) -> Point
+    ensures { λ r. ⌜ r ≡ endOf at work ⌝ }
+{
+    match work {
+        Work::Nothing => at,
+        Work::Line(l) => l.end,
+        Work::Arc(a) => a.end,
     }
 }

@@ -67,7 +67,7 @@ working q0 t at (Work.Arc a) e busy =
       least = charges-least a at on;
     }
 
-counts : (q0 : ℕ) (t : Travel) (at : Point) (w : Work) → workSound q0 t at w ≡ true → isNothing w ≡ false
+pub counts : (q0 : ℕ) (t : Travel) (at : Point) (w : Work) → workSound q0 t at w ≡ true → isNothing w ≡ false
     → cyclesLeft at w ≡ suc (cyclesLeft (cycleOf at w .at) (cycleOf at w .work))
 unfolding workSound cycleOf lineCycle arcCycle arcStepped
 counts q0 t at Work.Nothing e busy = absurd (subst T busy tt)
@@ -137,7 +137,8 @@ arc-ends a at true e = equal-point _ _ e
 arc-ends a at false e = refl
 
 -- a cycle does not move the end; after the last cycle the point is there
-ends : (q0 : ℕ) (t : Travel) (at : Point) (w : Work) → workSound q0 t at w ≡ true → endOf (cycleOf at w .at) (cycleOf at w .work) ≡ endOf at w
+pub ends : (q0 : ℕ) (t : Travel) (at : Point) (w : Work) → workSound q0 t at w ≡ true
+    → endOf (cycleOf at w .at) (cycleOf at w .work) ≡ endOf at w
 unfolding workSound cycleOf lineCycle arcCycle arcStepped
 ends q0 t at Work.Nothing e = refl
 ends q0 t at (Work.Line l) e = line-ends l (line-work e .line .drawing) (eqb (l .done + 1) (l .cycles)) refl

@@ -1,17 +1,17 @@
 -- A run from cycle to cycle: its n bytes are cleared before, and each turn writes one cycle's byte.
-use mathlib.Core.Path.{_≡_, refl, sym, ap, subst, _∙_}
+use mathlib.Core.Path.{_≡_, refl, sym, ap, _∙_}
 use mathlib.Core.Bool.{Bool, true, false}
 use mathlib.Core.List.{List}
 use Prim.Native.Nat.{ℕ, suc, _+_, _-_, _*_, _≤_, _<_, min}
 use native.Mathlib.Nat.{mul-le-mul-left}
 use native.Mathlib.Omega.{arith}
-use lib.Dec.{T}
 use lib.ListN.{length, set}
 use Rattle.plane.specs.declared.point.Point.{Point}
 use Rattle.divider.specs.Divider.{lastTick}
 use Rattle.work.specs.declared.Work.{Work}
 use Rattle.work.specs.declared.Cycle.{Cycle}
 use Rattle.work.specs.laws.Charge.{due-range}
+use Rattle.work.specs.laws.Left.{nothing-is}
 use Rattle.work.specs.Work.{isNothing, cycleOf, feedOf, cyclesLeft, chargesLeft, dueOf, addedOf, endOf, advanceOf}
 use Rattle.run.specs.declared.gap.Gap.{Gap}
 use Rattle.run.specs.Run.{Strip, stripOf, SoundIn}
@@ -64,11 +64,6 @@ pub some-left : (at : Point) (w : Work) → 1 ≤ cyclesLeft at w → isNothing 
 some-left at Work.Nothing h = absurd (omega arith)
 some-left at (Work.Line l) h = refl
 some-left at (Work.Arc a) h = refl
-
-nothing-is : (w : Work) → isNothing w ≡ true → w ≡ Work.Nothing
-nothing-is Work.Nothing e = refl
-nothing-is (Work.Line l) e = absurd (subst T (sym e) tt)
-nothing-is (Work.Arc a) e = absurd (subst T (sym e) tt)
 
 module _ {q0 f most : ℕ} {all : Strip} {out₀ out : List ℕ} {last n : ℕ} {at : Point} {w : Work} {g : Gap} (s : Cycling q0 f most all out₀ out last n at w g) where
   -- the gap, counted from the last cycle

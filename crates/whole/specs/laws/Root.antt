@@ -1,5 +1,5 @@
 -- The least and the nearest root by inequalities, and that these settle them.
-use mathlib.Core.Path.{_≡_, refl, sym, _∙_}
+use mathlib.Core.Path.{_≡_, refl, sym, ap, _∙_}
 use Prim.Native.Nat.{ℕ, zero, suc, _+_, _-_, _*_, _≤_, _<_, zero-le}
 use native.Mathlib.Nat.{lt-of-not-le, not-le-of-lt, lt-of-lt-of-le, le-trans, add-le-add}
 use native.Mathlib.Decide.{decLe}
@@ -126,6 +126,37 @@ nearest-over n k h = lt-of-not-le (λ g. not-le-of-lt h (le-trans (nearest-above
 pub nearest-root-zero : nearestRoot 0 ≡ 0
 unfolding nearestRoot firstFrom
 nearest-root-zero = refl
+
+-- the test that a number is the nearest root, by its square
+pub nearest-test-zero : (n : ℕ) → eqb n 0 ≡ eqb 0 (nearestRoot n)
+nearest-test-zero n = same-test to from
+  where
+    to : eqb n 0 ≡ true → eqb 0 (nearestRoot n) ≡ true
+    to e = eq-eqb 0 _ (sym (ap nearestRoot (eqb-true n 0 e) ∙ nearest-root-zero))
+
+    from : eqb 0 (nearestRoot n) ≡ true → eqb n 0 ≡ true
+    from e = eq-eqb n 0 (omega (arith, rw (sym (eqb-true 0 (nearestRoot n) e)) at (nearest-above n)))
+
+module _ (n r : ℕ) (some : 0 < r) where
+  -- r² - r is (r - 1)² + (r - 1)
+  before-product : (r - 1) * (r - 1) + (r - 1) ≡ r * r - r
+  before-product = by r some
+    where
+      by : (k : ℕ) → 0 < k → (k - 1) * (k - 1) + (k - 1) ≡ k * k - k
+      by zero h = absurd (omega arith)
+      by (suc k) h = rw (suc-sub-one k) (omega arith)
+
+  pub nearest-test-low : n ≤ r * r - r → eqb r (nearestRoot n) ≡ false
+  nearest-test-low h = ne-eqb r (nearestRoot n) (λ e. omega (arith, nearest-least n (r - 1) (omega (arith, before-product))))
+
+  pub nearest-test : r * r - r < n → leb n (r * r + r) ≡ eqb r (nearestRoot n)
+  nearest-test low = same-test to from
+    where
+      to : leb n (r * r + r) ≡ true → eqb r (nearestRoot n) ≡ true
+      to e = eq-eqb r (nearestRoot n) (nearest-root-is (record { below = omega arith; above = leb-true n (r * r + r) e }))
+
+      from : eqb r (nearestRoot n) ≡ true → leb n (r * r + r) ≡ true
+      from e = le-leb n (r * r + r) (rw (← eqb-true r (nearestRoot n) e) at (nearest-above n))
 
 -- from the least root by one comparison
 module _ (n q : ℕ) (root : LeastRoot n (suc q)) where

@@ -1,0 +1,106 @@
+-- Ticks leave the end of the block where it was, and its root as it was; a tick whose byte marks a cycle takes one off the cycles left.
+use mathlib.Core.Path.{_≡_, refl, subst, _∙_}
+use mathlib.Core.Bool.{Bool, true, false, cond}
+use Prim.Native.Nat.{ℕ, zero, suc, _+_, _≤_}
+use native.Mathlib.Omega.{arith}
+use lib.Dec.{T, eqb, ltb}
+use borrow.Author.Tests.{le-ltb}
+use Rattle.plane.specs.declared.point.Point.{Point}
+use Rattle.plane.specs.declared.travel.Travel.{Travel}
+use Rattle.plane.specs.Point.{equalPoint}
+use Rattle.line.specs.Line.{steppedOf}
+use Rattle.arc.specs.Arc.{arcStepped}
+use Rattle.divider.specs.Divider.{fedOf}
+use Rattle.work.specs.declared.Work.{Work}
+use Rattle.work.specs.Work.{isNothing, workSound, following, lineCycle, arcCycle, cycleOf}
+use Rattle.work.specs.Work.{cyclesLeft, endOf, dueOf, addedOf, advanceBy, advanceOf}
+use Rattle.work.specs.Rest.{rootIn}
+use Rattle.work.specs.laws.Keep.{SoundAt, keeps-sound}
+use Rattle.run.specs.Run.{Strip, inFront, stripOf}
+use Rattle.run.specs.laws.Cycles.{counts, ends}
+
+-- ---- a cycle
+
+marked : (at : Point) (w : Work) → isNothing w ≡ false → 16 ≤ cycleOf at w .byte
+unfolding cycleOf lineCycle arcCycle
+marked at Work.Nothing busy = absurd (subst T busy tt)
+marked at (Work.Line l) busy = omega arith
+marked at (Work.Arc a) busy = omega arith
+
+same-root : (at : Point) (w : Work) → isNothing (cycleOf at w .work) ≡ false → rootIn (cycleOf at w .work) ≡ rootIn w
+unfolding cycleOf lineCycle arcCycle steppedOf
+same-root at Work.Nothing more = refl
+same-root at (Work.Line l) more = by (eqb (l .done + 1) (l .cycles)) more
+  where
+    by : (ended : Bool) → isNothing (following ended (Work.Line (steppedOf l .line))) ≡ false
+        → rootIn (following ended (Work.Line (steppedOf l .line))) ≡ l .cycles
+    by true m = absurd (subst T m tt)
+    by false m = refl
+same-root at (Work.Arc a) more = by (equalPoint (arcStepped a at .at) (a .end)) more
+  where
+    by : (ended : Bool) → isNothing (following ended (Work.Arc a)) ≡ false → rootIn (following ended (Work.Arc a)) ≡ rootIn (Work.Arc a)
+    by true m = absurd (subst T m tt)
+    by false m = refl
+
+-- ---- a working tick
+
+pub advance-root : (q0 : ℕ) (at : Point) (r : ℕ) (w : Work) → isNothing (advanceOf q0 at r w .work) ≡ false
+    → rootIn (advanceOf q0 at r w .work) ≡ rootIn w
+unfolding advanceOf
+advance-root q0 at r w = let f = fedOf (dueOf q0 at w) (addedOf w) r in by (f .cycle) (f .remainder)
+  where
+    by : (cycle : Bool) (rest : ℕ) → (let a = advanceBy at w (record { remainder = rest; cycle = cycle }) in
+        isNothing (a .work) ≡ false → rootIn (a .work) ≡ rootIn w)
+    by true rest more = same-root at w more
+    by false rest more = refl
+
+module _ (q0 : ℕ) (t : Travel) (at : Point) (r : ℕ) (w : Work) (sound : workSound q0 t at w ≡ true) where
+  -- after the last cycle the point is at the end
+  pub advance-end : endOf (advanceOf q0 at r w .at) (advanceOf q0 at r w .work) ≡ endOf at w
+  unfolding advanceOf
+  advance-end = let f = fedOf (dueOf q0 at w) (addedOf w) r in by (f .cycle) (f .remainder)
+    where
+      by : (cycle : Bool) (rest : ℕ)
+          → (let a = advanceBy at w (record { remainder = rest; cycle = cycle }) in endOf (a .at) (a .work) ≡ endOf at w)
+      by true rest = ends q0 t at w sound
+      by false rest = refl
+
+  pub advance-left : isNothing w ≡ false
+      → (let a = advanceOf q0 at r w in cyclesLeft at w ≡ cyclesLeft (a .at) (a .work) + cond (ltb (a .byte) 16) 0 1)
+  unfolding advanceOf
+  advance-left busy = let f = fedOf (dueOf q0 at w) (addedOf w) r in by (f .cycle) (f .remainder)
+    where
+      by : (cycle : Bool) (rest : ℕ) → (let a = advanceBy at w (record { remainder = rest; cycle = cycle }) in
+          cyclesLeft at w ≡ cyclesLeft (a .at) (a .work) + cond (ltb (a .byte) 16) 0 1)
+      by true rest = rw (le-ltb (cycleOf at w .byte) 16 (marked at w busy)) (omega (arith, counts q0 t at w sound busy))
+      by false rest = omega arith
+
+-- ---- a run
+
+pub strip-root : (q0 n : ℕ) (at : Point) (r : ℕ) (w : Work) → isNothing (stripOf q0 n at r w .work) ≡ false
+    → rootIn (stripOf q0 n at r w .work) ≡ rootIn w
+unfolding stripOf
+strip-root q0 zero at r w more = refl
+strip-root q0 (suc n) at r w more =
+    let a = advanceOf q0 at r w in
+    by (isNothing (a .work)) refl (stripOf q0 n (a .at) (a .remainder) (a .work)) (strip-root q0 n (a .at) (a .remainder) (a .work)) more
+  where
+    by : (ended : Bool) → isNothing (advanceOf q0 at r w .work) ≡ ended
+        → (s : Strip) → (isNothing (s .work) ≡ false → rootIn (s .work) ≡ rootIn (advanceOf q0 at r w .work))
+        → (let f = inFront ended (advanceOf q0 at r w) s in isNothing (f .work) ≡ false → rootIn (f .work) ≡ rootIn w)
+    by true e s rest m = advance-root q0 at r w m
+    by false e s rest m = rest m ∙ advance-root q0 at r w e
+
+pub strip-end : (q0 : ℕ) (t : Travel) (n : ℕ) (at : Point) (r : ℕ) (w : Work) → SoundAt q0 t at r w
+    → endOf (stripOf q0 n at r w .at) (stripOf q0 n at r w .work) ≡ endOf at w
+unfolding stripOf
+strip-end q0 t zero at r w i = refl
+strip-end q0 t (suc n) at r w i =
+    let a = advanceOf q0 at r w in
+    by (isNothing (a .work)) (stripOf q0 n (a .at) (a .remainder) (a .work))
+    (strip-end q0 t n (a .at) (a .remainder) (a .work) (keeps-sound q0 t w i))
+  where
+    by : (ended : Bool) (s : Strip) → (let a = advanceOf q0 at r w in endOf (s .at) (s .work) ≡ endOf (a .at) (a .work))
+        → (let f = inFront ended (advanceOf q0 at r w) s in endOf (f .at) (f .work) ≡ endOf at w)
+    by true s e = advance-end q0 t at r w (i .sound)
+    by false s e = e ∙ advance-end q0 t at r w (i .sound)
