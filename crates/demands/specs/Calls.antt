@@ -31,10 +31,11 @@ use Rattle.demands.specs.Answers.{ReadsLine}
 pub record LineTaken (k : Reader) (m : Bench) (l : Line) (r : ReadLine) : Type 0 where
   -- "A line without X, Y, I, J makes no block; nor does a straight line to the point where it stands": the machine stays. "G and F count
   -- from their own line until changed".
-  pub no-block : makesBlock k m l ≡ false → r ≡ record { answer = Read.Nothing; reader = readerAfter k (l .words); bench = m }
+  pub no-block : makesBlock k (m .settings .scale) (m .at) l ≡ false
+      → r ≡ record { answer = Read.Nothing; reader = readerAfter k (l .words); bench = m }
   -- any other is a load of its block
-  pub block : makesBlock k m l ≡ true
-      → (a : Answered) × (bits : ℕ) × Loads m (lineBlock k m l) a × (a .answer ≡ Answer.Width bits)
+  pub block : makesBlock k (m .settings .scale) (m .at) l ≡ true
+      → (a : Answered) × (bits : ℕ) × Loads m (lineBlock k (m .settings .scale) (m .at) l) a × (a .answer ≡ Answer.Width bits)
       × (r ≡ record { answer = Read.Loaded bits; reader = readerAfter k (l .words); bench = a .bench })
 
 pub record EveryCall : Type 0 where

@@ -7,6 +7,7 @@ use mathlib.Core.List.{List}
 use Prim.Native.Nat.{ℕ, _*_, _%_, _≤_}
 use lib.IntN.{natAbs}
 use lib.ListN.{length}
+use Rattle.plane.specs.declared.point.Point.{Point}
 use Rattle.circle.specs.declared.plane.Offset.{Offset}
 use Rattle.circle.specs.declared.plane.Turn.{Turn}
 use Rattle.circle.specs.Circle.{Circle}
@@ -15,6 +16,7 @@ use Rattle.block.specs.declared.Block.{Block}
 use Rattle.block.specs.declared.Path.{Path}
 use Rattle.block.specs.Block.{squareOf, arcOf}
 use Rattle.work.specs.declared.Work.{Work}
+use Rattle.settings.specs.declared.Settings.{Settings}
 use Rattle.settings.specs.Settings.{capacityOf}
 use Rattle.bench.specs.declared.Bench.{Bench}
 use Rattle.letters.specs.declared.letter.Letter.{Letter}
@@ -26,7 +28,7 @@ use Rattle.words.specs.Grammar.{LineOfWords}
 use Rattle.reader.specs.declared.Motion.{Motion}
 use Rattle.reader.specs.declared.Reader.{Reader}
 use Rattle.reader.specs.Reader.{readerAfter, placed, centred, moving, motionKnown, feedKnown, isArc, blockOf}
-use Rattle.reader.specs.TextLine.{still}
+use Rattle.reader.specs.Asked.{still}
 use Rattle.demands.specs.Asked.{Questions, none, question, andThen}
 use Rattle.demands.specs.Sound.{InTravel, FeedRight, VisitsInTravel, Sound}
 
@@ -38,23 +40,23 @@ soundQuestion m later = question 9 (Sound m) later
 abbrev pub lookQuestions : Bench → (ticks : ℕ) → Questions
 lookQuestions m ticks = soundQuestion m (question 38 (ticks ≤ 1000000) none)
 
--- ---- load
+-- ---- load, by the settings and the place where the block starts
 
 -- "is nothing in work? 10."
 abbrev pub NothingInWork : Bench → Type 0
 NothingInWork m = m .work ≡ Work.Nothing
 
 -- "Is f in 1..q0? 11."
-abbrev pub BlockFeedRight : Bench → Block → Type 0
-BlockFeedRight m b = FeedRight (capacityOf (m .settings)) (b .feed)
+abbrev pub BlockFeedRight : Settings → Block → Type 0
+BlockFeedRight s b = FeedRight (capacityOf s) (b .feed)
 
 -- "Is the end in travel? 12."
-abbrev pub EndInTravel : Bench → Block → Type 0
-EndInTravel m b = InTravel (m .settings .travel) (b .end)
+abbrev pub EndInTravel : Settings → Block → Type 0
+EndInTravel s b = InTravel (s .travel) (b .end)
 
 -- "Line: do start and end differ? 13."
-abbrev pub StartAndEndDiffer : Bench → Block → Type 0
-StartAndEndDiffer m b = m .at ≢ b .end
+abbrev pub StartAndEndDiffer : (start : Point) → Block → Type 0
+StartAndEndDiffer start b = start ≢ b .end
 
 -- "Arc: are I and J within ±1,000,000 and not both 0? 14."
 pub record CentreRight (centre : Offset) : Type 0 where
@@ -63,25 +65,26 @@ pub record CentreRight (centre : Offset) : Type 0 where
   pub some : ¬ ((natAbs (centre .x) ≡ 0) × (natAbs (centre .y) ≡ 0))
 
 -- "Is the end a circle point? 15."
-abbrev pub EndOnCircle : Bench → Block → (centre : Offset) → Type 0
-EndOnCircle m b centre = Circle (squareOf centre) (seenFrom (backFrom (m .at) centre) (b .end))
+abbrev pub EndOnCircle : (start : Point) → Block → (centre : Offset) → Type 0
+EndOnCircle start b centre = Circle (squareOf centre) (seenFrom (backFrom start centre) (b .end))
 
 -- "Is every visited point in travel? 16."
-abbrev pub EveryVisitInTravel : Bench → Block → Turn → (centre : Offset) → Type 0
-EveryVisitInTravel m b turn centre = VisitsInTravel (m .settings .travel) (arcOf (m .at) b turn centre) (m .at)
+abbrev pub EveryVisitInTravel : Settings → (start : Point) → Block → Turn → (centre : Offset) → Type 0
+EveryVisitInTravel s start b turn centre = VisitsInTravel (s .travel) (arcOf start b turn centre) start
 
-abbrev pub pathQuestions : Bench → Block → Path → Questions
-pathQuestions m b Path.Line = question 13 (StartAndEndDiffer m b) none
-pathQuestions m b (Path.Arc turn centre) =
-    question 14 (CentreRight centre) (question 15 (EndOnCircle m b centre) (question 16 (EveryVisitInTravel m b turn centre) none))
+abbrev pub pathQuestions : Settings → (start : Point) → Block → Path → Questions
+pathQuestions s start b Path.Line = question 13 (StartAndEndDiffer start b) none
+pathQuestions s start b (Path.Arc turn centre) =
+    question 14 (CentreRight centre)
+    (question 15 (EndOnCircle start b centre) (question 16 (EveryVisitInTravel s start b turn centre) none))
 
--- "Load, after 9, in this order"
-abbrev pub blockQuestions : Bench → Block → Questions
-blockQuestions m b =
-    question 10 (NothingInWork m) (question 11 (BlockFeedRight m b) (question 12 (EndInTravel m b) (pathQuestions m b (b .path))))
+-- "Load, after 9, in this order"; Room is what 10 asks: whether there is room for the block
+abbrev pub blockQuestions : (Room : Type 0) → Settings → (start : Point) → Block → Questions
+blockQuestions Room s start b =
+    question 10 Room (question 11 (BlockFeedRight s b) (question 12 (EndInTravel s b) (pathQuestions s start b (b .path))))
 
 abbrev pub loadQuestions : Bench → Block → Questions
-loadQuestions m b = soundQuestion m (blockQuestions m b)
+loadQuestions m b = soundQuestion m (blockQuestions (NothingInWork m) (m .settings) (m .at) b)
 
 -- ---- a text line; l is what its bytes mean, after the G and F known with it
 
@@ -112,20 +115,20 @@ pub record CentreStands (m : Motion) (ws : Words) : Type 0 where
   pub only : centred ws ≡ true → isArc m ≡ true
   pub there : isArc m ≡ true → placed ws ≡ true → centred ws ≡ true
 
-abbrev pub wordQuestions : (after : Reader) → Bench → (bytes : List ℕ) → Line → Questions
-wordQuestions after m bytes l =
+abbrev pub wordQuestions : (after : Reader) → (scale : ℕ) → (bytes : List ℕ) → Line → Questions
+wordQuestions after scale bytes l =
     question 31 (length bytes ≤ 80)
     (question 32 (LineOfWords bytes)
     (question 33 (NoLetterTwice (l .words))
     (question 34 (MotionRight (l .words))
-    (question 35 (OnPulses (m .settings .scale) (l .words))
+    (question 35 (OnPulses scale (l .words))
     (question 36 (MotionAndFeedKnown after (l .words))
     (question 37 (CentreStands (after .motion) (l .words)) none))))))
 
 -- ---- the block of a text line; k is the G and F known before it. "G and F count from their own line"
 
-abbrev pub lineBlock : Reader → Bench → Line → Block
-lineBlock k m l = blockOf (m .settings .scale) (readerAfter k (l .words)) (l .words) (m .at)
+abbrev pub lineBlock : Reader → (scale : ℕ) → (start : Point) → Line → Block
+lineBlock k scale start l = blockOf scale (readerAfter k (l .words)) (l .words) start
 
 -- "A line without X, Y, I, J makes no block; nor does a straight line to the point where it stands, and then 10 to 13 are not put."
 abbrev pub isBlock : (moves stays : Bool) → Bool
@@ -133,18 +136,19 @@ isBlock true false = true
 isBlock true true = false
 isBlock false stays = false
 
-abbrev pub makesBlock : Reader → Bench → Line → Bool
-makesBlock k m l = let b = lineBlock k m l in isBlock (moving (l .words)) (still (b .end) (m .at) (b .path))
+abbrev pub makesBlock : Reader → (scale : ℕ) → (start : Point) → Line → Bool
+makesBlock k scale start l = let b = lineBlock k scale start l in isBlock (moving (l .words)) (still (b .end) start (b .path))
 
 abbrev pub ifBlock : (makes : Bool) → Questions → Questions
 ifBlock true qs = qs
 ifBlock false qs = none
 
 -- 31 to 37. "Then load's questions."
-abbrev pub textQuestions : Reader → Bench → (bytes : List ℕ) → Line → Questions
-textQuestions k m bytes l =
-    andThen (wordQuestions (readerAfter k (l .words)) m bytes l) (ifBlock (makesBlock k m l) (blockQuestions m (lineBlock k m l)))
+abbrev pub textQuestions : (Room : Type 0) → Reader → Settings → (start : Point) → (bytes : List ℕ) → Line → Questions
+textQuestions Room k s start bytes l =
+    andThen (wordQuestions (readerAfter k (l .words)) (s .scale) bytes l)
+    (ifBlock (makesBlock k (s .scale) start l) (blockQuestions Room s start (lineBlock k (s .scale) start l)))
 
 -- "Any call on a record: is it sound? 9."
 abbrev pub lineQuestions : Reader → Bench → (bytes : List ℕ) → Line → Questions
-lineQuestions k m bytes l = soundQuestion m (textQuestions k m bytes l)
+lineQuestions k m bytes l = soundQuestion m (textQuestions (NothingInWork m) k (m .settings) (m .at) bytes l)

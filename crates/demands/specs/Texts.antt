@@ -9,7 +9,6 @@ use lib.ListN.{length, take, drop}
 use denote.Ref.{RefT, now}
 use contract.Lifetimes.{Lfts}
 use Rattle.plane.specs.declared.point.Point.{Point}
-use Rattle.work.specs.declared.Work.{Work}
 use Rattle.settings.specs.declared.Settings.{Settings}
 use Rattle.settings.specs.Settings.{capacityOf}
 use Rattle.bench.specs.declared.Bench.{Bench}
@@ -32,31 +31,26 @@ use Rattle.demands.specs.Asked.{FirstNo, AllYes}
 use Rattle.demands.specs.Sound.{settingsQuestions}
 use Rattle.demands.specs.Questions.{lineBlock, makesBlock, textQuestions}
 
--- ---- one line, read at a point with nothing in work: "Each block is loaded once the one before has ended". No question looks at the mark
--- or at the remainder, which is kept from block to block.
-
-abbrev pub standing : Settings → (at : Point) → Bench
-standing s at = record { settings = s; at = at; held = false; remainder = 0; work = Work.Nothing }
-
--- ---- the lines of a text, from number n on, read at a point with a G and an F known, mean these blocks, and end so
+-- ---- the lines of a text, from number n on, read at a point with a G and an F known, mean these blocks, and end so. "Each block is loaded
+-- once the one before has ended": it starts at the point, and nothing is in work then, so that 10 always has a yes.
 
 pub data LinesMean (s : Settings) : (n : ℕ) (at : Point) (known : Reader) → List (List ℕ) → List Made → End → Type 0 where
   over : {n : ℕ} {at : Point} {k : Reader} → LinesMean s n at k [] [] End.complete
   -- "At a refusal the rows so far stand", and no line after it is read
   refused : {n : ℕ} {at : Point} {k : Reader} {bytes : List ℕ} {lines : List (List ℕ)} (l : Line) → Means bytes l → (number : ℕ)
-      → FirstNo (textQuestions k (standing s at) bytes l) number
+      → FirstNo (textQuestions (Unit {0}) k s at bytes l) number
       → LinesMean s n at k (bytes ∷ lines) [] (End.refused n number)
   -- "G and F count from their own line until changed"
   nothing : {n : ℕ} {at : Point} {k : Reader} {bytes : List ℕ} {lines : List (List ℕ)} {made : List Made} {end : End} (l : Line)
       → Means bytes l
-      → AllYes (textQuestions k (standing s at) bytes l) → makesBlock k (standing s at) l ≡ false
+      → AllYes (textQuestions (Unit {0}) k s at bytes l) → makesBlock k (s .scale) at l ≡ false
       → LinesMean s (n + 1) at (readerAfter k (l .words)) lines made end
       → LinesMean s n at k (bytes ∷ lines) made end
   block : {n : ℕ} {at : Point} {k : Reader} {bytes : List ℕ} {lines : List (List ℕ)} {made : List Made} {end : End} (l : Line)
       → Means bytes l
-      → AllYes (textQuestions k (standing s at) bytes l) → makesBlock k (standing s at) l ≡ true
-      → LinesMean s (n + 1) (lineBlock k (standing s at) l .end) (readerAfter k (l .words)) lines made end
-      → LinesMean s n at k (bytes ∷ lines) (record { textLine = n; start = at; block = lineBlock k (standing s at) l } ∷ made) end
+      → AllYes (textQuestions (Unit {0}) k s at bytes l) → makesBlock k (s .scale) at l ≡ true
+      → LinesMean s (n + 1) (lineBlock k (s .scale) at l .end) (readerAfter k (l .words)) lines made end
+      → LinesMean s n at k (bytes ∷ lines) (record { textLine = n; start = at; block = lineBlock k (s .scale) at l } ∷ made) end
 
 -- what a text means. "A fresh machine stands at (0, 0)", and nothing is known before its first line.
 pub data TextMeans (s : Settings) (text : List ℕ) : List Made → End → Type 0 where

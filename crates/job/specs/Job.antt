@@ -15,7 +15,7 @@ use Rattle.settings.specs.declared.Settings.{Settings}
 use Rattle.settings.specs.Settings.{capacityOf}
 use Rattle.reader.specs.declared.Reader.{Reader}
 use Rattle.reader.specs.Reader.{readerAfter, moving, lineNo, blockOf}
-use Rattle.reader.specs.TextLine.{still}
+use Rattle.reader.specs.Asked.{still}
 use Rattle.reader.specs.Reader.{unknown}
 use Rattle.job.specs.Text.{linesOf}
 

@@ -1,2 +1,3 @@
 pub mod Small
+pub mod Asked
 pub mod TextLine

@@ -2,6 +2,7 @@
 ghost use mathlib.Core.Path.{_≡_};
 ghost use Rattle.reader.specs.Reader.{unknown};
 
+pub mod asked;
 mod command;
 mod questions;
 pub mod text_line;

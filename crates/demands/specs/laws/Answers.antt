@@ -12,6 +12,7 @@ use lib.ListN.{length, take}
 use denote.Ref.{RefT, now}
 use contract.Lifetimes.{Lfts}
 use Rattle.whole.specs.laws.Test.{joined}
+use Rattle.plane.specs.declared.point.Point.{Point}
 use Rattle.plane.specs.Travel.{insideOf, visitsInside}
 use Rattle.circle.specs.declared.plane.Offset.{Offset}
 use Rattle.circle.specs.Circle.{onCircle}
@@ -87,38 +88,37 @@ centre-is o = (
     by zero (suc b) f = rw (ne-eqb (suc b) 0 (λ e. omega arith))
     by (suc a) b f = rw (ne-eqb (suc a) 0 (λ e. omega arith))
 
-module _ (m : Bench) (b : Block) where
+module _ (s : Settings) (start : Point) (b : Block) where
   -- question 14 bounds N, so question 15 is the circle's alone
   end-is : (centre : Offset) → CentreRight centre
-      → (onCircle (squareOf centre) (seenFrom (backFrom (m .at) centre) (b .end)) ≡ true) ↔ EndOnCircle m b centre
+      → (onCircle (squareOf centre) (seenFrom (backFrom start centre) (b .end)) ≡ true) ↔ EndOnCircle start b centre
   end-is o c =
       let r = offset-right o (centre-is o .1 c) in (
         λ e. on-circle-to _ _ e .circle,
         λ p. on-circle-of _ _ (record { some = square-some o r; bound = square-most o r; circle = p }),
       )
 
-  path-verdict : (p : Path) → Verdict (pathQuestions m b p) (pathNo (m .settings .travel) (m .at) b p)
+  path-verdict : (p : Path) → Verdict (pathQuestions s start b p) (pathNo (s .travel) start b p)
   unfolding arcOf
-  path-verdict Path.Line = asked (differ (m .at) (b .end)) 12 (line-differs (m .at) (b .end)) (λ _. none-asked)
+  path-verdict Path.Line = asked (differ start (b .end)) 12 (line-differs start (b .end)) (λ _. none-asked)
   path-verdict (Path.Arc turn centre) =
-      let a = arcOf (m .at) b turn centre in
+      let a = arcOf start b turn centre in
       asked (offsetRight centre) 13 (centre-is centre) (λ right.
-      asked (onCircle (squareOf centre) (seenFrom (backFrom (m .at) centre) (b .end))) 14 (end-is centre right) (λ there.
-      let here = on-circle-to _ _ (start-on (m .at) centre (offset-right centre (centre-is centre .1 right))) .circle in
-      asked (visitsInside (m .settings .travel) (arcAfter a (m .at)) (arcCycles a (m .at))) 15
-      (visits-is (m .settings .travel) a (m .at) here there) (λ _. none-asked)))
+      asked (onCircle (squareOf centre) (seenFrom (backFrom start centre) (b .end))) 14 (end-is centre right) (λ there.
+      let here = on-circle-to _ _ (start-on start centre (offset-right centre (centre-is centre .1 right))) .circle in
+      asked (visitsInside (s .travel) (arcAfter a start) (arcCycles a start)) 15 (visits-is (s .travel) a start here there)
+      (λ _. none-asked)))
 
-  abbrev loadNumber : ℕ
-  loadNumber = loadNo (capacityOf (m .settings)) (m .settings .travel) (isNothing (m .work)) (m .at) b
-
-  pub block-verdict : Verdict (blockQuestions m b) loadNumber
+  pub block-verdict : {Room : Type 0} (room : Bool) → (room ≡ true) ↔ Room
+      → Verdict (blockQuestions Room s start b) (loadNo (capacityOf s) (s .travel) room start b)
   unfolding loadNo
-  block-verdict =
-      asked (isNothing (m .work)) 9 (nothing-is (m .work)) (λ _.
-      asked (feedRight (capacityOf (m .settings)) (b .feed)) 10 (in-range 1 (capacityOf (m .settings)) (b .feed)) (λ _.
-      asked (insideOf (m .settings .travel) (b .end)) 11 (in-travel (m .settings .travel) (b .end)) (λ _.
+  block-verdict room is =
+      asked room 9 is (λ _.
+      asked (feedRight (capacityOf s) (b .feed)) 10 (in-range 1 (capacityOf s) (b .feed)) (λ _.
+      asked (insideOf (s .travel) (b .end)) 11 (in-travel (s .travel) (b .end)) (λ _.
       path-verdict (b .path))))
 
+module _ (m : Bench) (b : Block) where
   load-says : (n : ℕ) → Says n (answerReply (loadWith m b n .answer))
   load-says zero = refl
   load-says (suc n) = refl
@@ -127,11 +127,14 @@ module _ (m : Bench) (b : Block) where
   load-kept zero some = absurd (some refl)
   load-kept (suc n) some = refl
 
+  abbrev loadNumber : ℕ
+  loadNumber = loadNo (capacityOf (m .settings)) (m .settings .travel) (isNothing (m .work)) (m .at) b
+
   abbrev pub load-number : ℕ
   load-number = ask (soundOf m) loadNumber 9
 
   pub load-verdict : Verdict (loadQuestions m b) load-number
-  load-verdict = asked (soundOf m) 8 (sound-is m) (λ _. block-verdict)
+  load-verdict = asked (soundOf m) 8 (sound-is m) (λ _. block-verdict (m .settings) (m .at) b (isNothing (m .work)) (nothing-is (m .work)))
 
   load-by : (sound : Bool) (n : ℕ) → cond sound (loadWith m b n) (answers (Answer.Refused 9) m) ≡ loadWith m b (ask sound n 9)
   load-by true n = refl

@@ -68,7 +68,7 @@ use Rattle.demands.specs.laws.Lines.{loaded, tick-of, work-of}
 -- question 14 has a yes
 offset-asked : (m : Bench) (b : Block) (turn : Turn) (centre : Offset) → b .path ≡ Path.Arc turn centre → AllYes (loadQuestions m b)
     → CentreRight centre
-offset-asked m b turn centre e all = subst (λ (p : Path). AllYes (pathQuestions m b p)) e (all .1 .1 .1 .1) .0
+offset-asked m b turn centre e all = subst (λ (p : Path). AllYes (pathQuestions (m .settings) (m .at) b p)) e (all .1 .1 .1 .1) .0
 
 pub arc-loaded : (m : Bench) (b : Block) (r : Answered) → Loads m b r → AllYes (loadQuestions m b) → (turn : Turn) (centre : Offset)
     → b .path ≡ Path.Arc turn centre

@@ -299,7 +299,7 @@ isLoaded (Read.Refused number) = 0
 -- a line whose answer is a width has loaded a block of that width
 loaded-width : (k : Reader) (m : Bench) (line : RefT (List ℕ)) {bits : ℕ} → readLineOf k m (now line) .answer ≡ Read.Loaded bits
     → bits < 2 ^ 63
-loaded-width k m line {bits} e = by (makesBlock k m l) refl
+loaded-width k m line {bits} e = by (makesBlock k (m .settings .scale) (m .at) l) refl
   where
     l : Line
     l = lineOf (now line)
@@ -313,12 +313,13 @@ loaded-width k m line {bits} e = by (makesBlock k m l) refl
     all : AllYes (lineQuestions k m (now line) l)
     all = line-answers ([], tt) k m line r refl l (line-means (now line)) .accepted .0 not-refused
 
-    by : (block : Bool) → makesBlock k m l ≡ block → bits < 2 ^ 63
+    by : (block : Bool) → makesBlock k (m .settings .scale) (m .at) l ≡ block → bits < 2 ^ 63
     by true b =
         let t = line-taken ([], tt) k m line r refl l (line-means (now line)) all .block b in
         let width = ap bitsOf (sym (ap (λ (x : ReadLine). x .answer) (t .4)) ∙ e) in
         subst (λ (w : ℕ). w < 2 ^ 63) width
-        (width-word m (sound-is m .1 (all .0)) (lineBlock k m l) (ap (λ (x : Answered). x .answer) (sym (t .2)) ∙ t .3))
+        (width-word m (sound-is m .1 (all .0)) (lineBlock k (m .settings .scale) (m .at) l)
+        (ap (λ (x : Answered). x .answer) (sym (t .2)) ∙ t .3))
     by false b =
         let t = line-taken ([], tt) k m line r refl l (line-means (now line)) all .no-block b in
         omega (arith, ap isLoaded (sym (ap (λ (x : ReadLine). x .answer) t) ∙ e))

@@ -11,9 +11,11 @@ use lib.ListN.{length}
 use denote.Ref.{RefT, now}
 use contract.Lifetimes.{Lfts}
 use Rattle.whole.specs.laws.Test.{both, joined}
+use Rattle.plane.specs.declared.point.Point.{Point}
 use Rattle.block.specs.declared.Block.{Block}
 use Rattle.block.specs.Questions.{ask, loadNo}
 use Rattle.work.specs.Work.{isNothing}
+use Rattle.settings.specs.declared.Settings.{Settings}
 use Rattle.settings.specs.Settings.{capacityOf}
 use Rattle.bench.specs.declared.Bench.{Bench}
 use Rattle.bench.specs.Bench.{soundOf}
@@ -27,18 +29,20 @@ use Rattle.words.specs.Grammar.{LineOfWords}
 use Rattle.words.specs.Meaning.{Means}
 use Rattle.reader.specs.declared.Motion.{Motion}
 use Rattle.reader.specs.declared.Reader.{Reader}
+use Rattle.reader.specs.declared.asked.ToLoad.{ToLoad}
 use Rattle.reader.specs.declared.«text_line».Read.{Read}
 use Rattle.reader.specs.declared.«text_line».ReadLine.{ReadLine}
 use Rattle.reader.specs.Reader.{readerAfter, motionRight, onPulse, allOnPulse, placed, centred, moving, allKnown, isArc, centreRight, lineNo, blockOf}
-use Rattle.reader.specs.TextLine.{reads, still, loaded, takenOf, readWith}
+use Rattle.reader.specs.Asked.{still, askedWith, askedOf}
+use Rattle.reader.specs.TextLine.{reads, loaded, takes, takenOf}
 use Rattle.reader.specs.laws.TextLine.{read-means}
-use Rattle.demands.specs.Asked.{AsAsked, AllYes}
-use Rattle.demands.specs.Questions.{blockQuestions, NoLetterTwice, MotionRight, OnPulse, OnPulses, MotionAndFeedKnown, CentreStands, isBlock, ifBlock, wordQuestions, lineQuestions}
+use Rattle.demands.specs.Asked.{Questions, AsAsked, AllYes}
+use Rattle.demands.specs.Questions.{NoLetterTwice, MotionRight, OnPulse, OnPulses, MotionAndFeedKnown, CentreStands, wordQuestions, lineBlock, isBlock, ifBlock, textQuestions, lineQuestions}
 use Rattle.demands.specs.Answers.{readReply, ReadsLine}
 use Rattle.demands.specs.Calls.{LineTaken}
 use Rattle.demands.specs.laws.Asked.{Verdict, asked, none-asked, orElse, then-asked, passed, Says, judged}
 use Rattle.demands.specs.laws.Sound.{in-range, sound-is}
-use Rattle.demands.specs.laws.Answers.{block-verdict, load-is}
+use Rattle.demands.specs.laws.Answers.{nothing-is, block-verdict, load-is}
 
 -- ---- tests
 
@@ -133,19 +137,42 @@ centre-stands m ws = by (isArc m) (centred ws) refl refl
     by false false a e =
         rw (a, e) (λ h. record { only = λ t. absurd (false≢true (sym e ∙ t)); there = λ t. absurd (false≢true (sym a ∙ t)) }, λ s. refl)
 
-pub word-verdict : (k : Reader) (m : Bench) (bytes : List ℕ) (l : Line) → Means bytes l
-    → Verdict (wordQuestions k m bytes l) (lineNo (m .settings .scale) k (length bytes) l)
+word-verdict : (k : Reader) (scale : ℕ) (bytes : List ℕ) (l : Line) → Means bytes l
+    → Verdict (wordQuestions k scale bytes l) (lineNo scale k (length bytes) l)
 unfolding lineNo
-word-verdict k m bytes l means =
+word-verdict k scale bytes l means =
     let ws = l .words in
     let once = own-once bytes l means in
     asked (leb (length bytes) 80) 30 (leb-true _ 80, le-leb _ 80) (λ _.
     asked (l .formed) 31 (formed-is bytes l means) (λ _.
     asked (l .once) 32 (λ e. once-is ws .0 (sym once ∙ e), λ f. once ∙ once-is ws .1 f) (λ _.
     asked (motionRight (ws .g)) 33 (motion-is ws) (λ _.
-    asked (allOnPulse (m .settings .scale) ws) 34 (pulses-are (m .settings .scale) ws) (λ _.
+    asked (allOnPulse scale ws) 34 (pulses-are scale ws) (λ _.
     asked (allKnown k ws) 35 (known-is k ws) (λ _.
     asked (centreRight (k .motion) ws) 36 (centre-stands (k .motion) ws) (λ _. none-asked)))))))
+
+-- the number of the block, where the line makes one
+abbrev pub blockNumber : (moves stays : Bool) (n : ℕ) → ℕ
+blockNumber true false n = n
+blockNumber true true n = 0
+blockNumber false stays n = 0
+
+block-asked : {qs : Questions} {n : ℕ} (moves stays : Bool) → Verdict qs n
+    → Verdict (ifBlock (isBlock moves stays) qs) (blockNumber moves stays n)
+block-asked true false v = v
+block-asked true true v = none-asked
+block-asked false stays v = none-asked
+
+pub text-verdict : {Room : Type 0} (room : Bool) → (room ≡ true) ↔ Room → (k : Reader) (s : Settings) (start : Point) (bytes : List ℕ)
+    (l : Line) → Means bytes l
+    → (let b = lineBlock k (s .scale) start l in
+    Verdict (textQuestions Room k s start bytes l)
+    (orElse (lineNo (s .scale) (readerAfter k (l .words)) (length bytes) l)
+    (blockNumber (moving (l .words)) (still (b .end) start (b .path)) (loadNo (capacityOf s) (s .travel) room start b))))
+text-verdict room is k s start bytes l means =
+    let b = lineBlock k (s .scale) start l in
+    then-asked (word-verdict (readerAfter k (l .words)) (s .scale) bytes l means)
+    (block-asked (moving (l .words)) (still (b .end) start (b .path)) (block-verdict s start b room is))
 
 -- ---- the answer
 
@@ -155,16 +182,6 @@ module _ (k k′ : Reader) (m : Bench) (ws : Words) where
 
   abbrev loadNumber : ℕ
   loadNumber = loadNo (capacityOf (m .settings)) (m .settings .travel) (isNothing (m .work)) (m .at) b
-
-  abbrev pub blockNumber : (moves stays : Bool) (n : ℕ) → ℕ
-  blockNumber true false n = n
-  blockNumber true true n = 0
-  blockNumber false stays n = 0
-
-  pub block-asked : (moves stays : Bool) → Verdict (ifBlock (isBlock moves stays) (blockQuestions m b)) (blockNumber moves stays loadNumber)
-  block-asked true false = block-verdict m b
-  block-asked true true = none-asked
-  block-asked false stays = none-asked
 
   -- the line by its numbers: that of its words, and that of its block
   abbrev lineBy : (number : ℕ) (moves stays : Bool) (n : ℕ) → ReadLine
@@ -190,26 +207,26 @@ module _ (k k′ : Reader) (m : Bench) (ws : Words) where
   line-kept zero false stays n some = absurd (some refl)
 
   line-is : soundOf m ≡ true → (number : ℕ)
-      → readWith k k′ m ws number ≡ lineBy number (moving ws) (still (b .end) (m .at) (b .path)) loadNumber
-  unfolding takenOf loadOf
+      → takenOf k m (askedWith (m .settings .scale) k k′ (m .at) ws number)
+      ≡ lineBy number (moving ws) (still (b .end) (m .at) (b .path)) loadNumber
+  unfolding loadOf
   line-is sound (suc number) = refl
-  line-is sound zero = rw sound (by (moving ws) (still (b .end) (m .at) (b .path)))
+  line-is sound zero = by (moving ws) (still (b .end) (m .at) (b .path))
     where
       by : (moves stays : Bool)
-          → cond moves
-          (cond stays (reads Read.Nothing k′ m) (loaded k k′ m (loadWith m b loadNumber .bench) (loadWith m b loadNumber .answer)))
-          (reads Read.Nothing k′ m) ≡ lineBy zero moves stays loadNumber
+          → takes k k′ m (cond moves (cond stays ToLoad.Nothing (ToLoad.Block b)) ToLoad.Nothing) ≡ lineBy zero moves stays loadNumber
       by true true = refl
-      by true false = refl
+      by true false = rw sound
       by false stays = refl
 
 pub line-answers : (κs : Lfts 1) (k : Reader) (m : Bench) (bytes : RefT (List ℕ)) (r : ReadLine) → ReadsLine κs k m bytes r → (l : Line)
     → Means (now bytes) l
     → AsAsked (lineQuestions k m (now bytes) l) (readReply (r .answer)) ((r .reader ≡ k) × (r .bench ≡ m))
+unfolding askedOf
 line-answers κs k m bytes r h l means =
     rw (h ∙ read-means k m (now bytes) l means)
     (by (soundOf m) refl
-    (asked (soundOf m) 8 (sound-is m) (λ _. then-asked (word-verdict k′ m (now bytes) l means) (block-asked k k′ m ws moves stays))))
+    (asked (soundOf m) 8 (sound-is m) (λ _. text-verdict _ (nothing-is (m .work)) k (m .settings) (m .at) (now bytes) l means)))
   where
     ws : Words
     ws = l .words
@@ -227,10 +244,10 @@ line-answers κs k m bytes r h l means =
     number = lineNo (m .settings .scale) k′ (length (now bytes)) l
 
     inner : ℕ
-    inner = orElse number (blockNumber k k′ m ws moves stays (loadNumber k k′ m ws))
+    inner = orElse number (blockNumber moves stays (loadNumber k k′ m ws))
 
     by : (sound : Bool) → soundOf m ≡ sound → Verdict (lineQuestions k m (now bytes) l) (ask sound inner 9)
-        → (let r = cond sound (readWith k k′ m ws number) (reads (Read.Refused 9) k m) in
+        → (let r = cond sound (takenOf k m (askedWith (m .settings .scale) k k′ (m .at) ws number)) (reads (Read.Refused 9) k m) in
         AsAsked (lineQuestions k m (now bytes) l) (readReply (r .answer)) ((r .reader ≡ k) × (r .bench ≡ m)))
     by true e v =
         rw (line-is k k′ m ws e number)
@@ -241,7 +258,7 @@ line-answers κs k m bytes r h l means =
 
 module _ (k k′ : Reader) (m : Bench) (ws : Words) where
   -- by its numbers: without a block, and with one
-  by-nothing : (number : ℕ) (moves stays : Bool) (n : ℕ) → orElse number (blockNumber k k′ m ws moves stays n) ≡ 0
+  by-nothing : (number : ℕ) (moves stays : Bool) (n : ℕ) → orElse number (blockNumber moves stays n) ≡ 0
       → isBlock moves stays ≡ false
       → lineBy k k′ m ws number moves stays n ≡ reads Read.Nothing k′ m
   by-nothing (suc number) moves stays n z e = absurd (omega arith)
@@ -249,7 +266,7 @@ module _ (k k′ : Reader) (m : Bench) (ws : Words) where
   by-nothing zero true false n z e = absurd (false≢true (sym e))
   by-nothing zero false stays n z e = refl
 
-  by-block : (number : ℕ) (moves stays : Bool) (n : ℕ) → orElse number (blockNumber k k′ m ws moves stays n) ≡ 0
+  by-block : (number : ℕ) (moves stays : Bool) (n : ℕ) → orElse number (blockNumber moves stays n) ≡ 0
       → isBlock moves stays ≡ true
       → (n ≡ 0) ×
       (lineBy k k′ m ws number moves stays n ≡ loaded k k′ m (loadWith m (b k k′ m ws) 0 .bench) (loadWith m (b k k′ m ws) 0 .answer))
@@ -261,6 +278,7 @@ module _ (k k′ : Reader) (m : Bench) (ws : Words) where
 
 pub line-taken : (κs : Lfts 1) (k : Reader) (m : Bench) (bytes : RefT (List ℕ)) (r : ReadLine) → ReadsLine κs k m bytes r → (l : Line)
     → Means (now bytes) l → AllYes (lineQuestions k m (now bytes) l) → LineTaken k m l r
+unfolding askedOf
 line-taken κs k m bytes r h l means all =
     record {
       no-block = λ e. is ∙ by-nothing k k′ m ws number moves stays load none e;
@@ -293,11 +311,11 @@ line-taken κs k m bytes r h l means all =
     sound : soundOf m ≡ true
     sound = sound-is m .1 (all .0)
 
-    none : orElse number (blockNumber k k′ m ws moves stays load) ≡ 0
-    none = passed (then-asked (word-verdict k′ m (now bytes) l means) (block-asked k k′ m ws moves stays)) .1 (all .1)
+    none : orElse number (blockNumber moves stays load) ≡ 0
+    none = passed (text-verdict _ (nothing-is (m .work)) k (m .settings) (m .at) (now bytes) l means) .1 (all .1)
 
     is : r ≡ lineBy k k′ m ws number moves stays load
     is =
         h ∙ read-means k m (now bytes) l means
-        ∙ ap (λ (s : Bool). cond s (readWith k k′ m ws number) (reads (Read.Refused 9) k m)) sound
+        ∙ ap (λ (s : Bool). cond s (takenOf k m (askedWith (m .settings .scale) k k′ (m .at) ws number)) (reads (Read.Refused 9) k m)) sound
         ∙ line-is k k′ m ws sound number

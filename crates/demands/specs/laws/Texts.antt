@@ -17,7 +17,6 @@ use Rattle.block.specs.laws.Begin.{offset-right, start-on}
 use Rattle.block.specs.Questions.{loadNo}
 use Rattle.settings.specs.declared.Settings.{Settings}
 use Rattle.settings.specs.Settings.{capacityOf}
-use Rattle.bench.specs.declared.Bench.{Bench}
 use Rattle.book.specs.Ledger.{CountedAlong}
 use Rattle.book.specs.laws.Counts.{counted-arc}
 use Rattle.words.specs.declared.line.Line.{Line}
@@ -26,7 +25,7 @@ use Rattle.words.specs.laws.Scan.{lineOf}
 use Rattle.words.specs.laws.Reading.{line-means}
 use Rattle.reader.specs.declared.Reader.{Reader}
 use Rattle.reader.specs.Reader.{unknown, readerAfter, moving, lineNo}
-use Rattle.reader.specs.TextLine.{still}
+use Rattle.reader.specs.Asked.{still}
 use Rattle.job.specs.declared.Stage.{Stage}
 use Rattle.job.specs.declared.Check.{Check}
 use Rattle.job.specs.Text.{linesOf}
@@ -37,33 +36,33 @@ use Rattle.job.specs.laws.Asks.{asks-means}
 use Rattle.job.specs.laws.Listing.{listing-is}
 use Rattle.demands.specs.Asked.{Questions, none, question, andThen, FirstNo, AllYes}
 use Rattle.demands.specs.Questions.{pathQuestions, blockQuestions, wordQuestions, lineBlock, isBlock, makesBlock, ifBlock, textQuestions}
-use Rattle.demands.specs.Texts.{standing, LinesMean, TextMeans, EveryCounted, RowsOut, EveryText}
-use Rattle.demands.specs.laws.Asked.{Verdict, orElse, then-asked, first-once, not-both}
+use Rattle.demands.specs.Texts.{LinesMean, TextMeans, EveryCounted, RowsOut, EveryText}
+use Rattle.demands.specs.laws.Asked.{Verdict, orElse, first-once, not-both}
 use Rattle.demands.specs.laws.Sound.{settings-pass}
 use Rattle.demands.specs.laws.Answers.{centre-is}
-use Rattle.demands.specs.laws.TextLine.{word-verdict, blockNumber, block-asked}
+use Rattle.demands.specs.laws.TextLine.{blockNumber, text-verdict}
 
 -- ---- one line
 
 -- what a line asks, by its questions
 data Says (s : Settings) (at : Point) (k : Reader) (bytes : List ℕ) (l : Line) : Asks → Type 0 where
-  refuses : (number : ℕ) → FirstNo (textQuestions k (standing s at) bytes l) number → Says s at k bytes l (Asks.refuses number)
-  nothing : AllYes (textQuestions k (standing s at) bytes l) → makesBlock k (standing s at) l ≡ false
+  refuses : (number : ℕ) → FirstNo (textQuestions (Unit {0}) k s at bytes l) number → Says s at k bytes l (Asks.refuses number)
+  nothing : AllYes (textQuestions (Unit {0}) k s at bytes l) → makesBlock k (s .scale) at l ≡ false
       → Says s at k bytes l (Asks.nothing (readerAfter k (l .words)))
-  makes : AllYes (textQuestions k (standing s at) bytes l) → makesBlock k (standing s at) l ≡ true
-      → Says s at k bytes l (Asks.makes (readerAfter k (l .words)) (lineBlock k (standing s at) l))
+  makes : AllYes (textQuestions (Unit {0}) k s at bytes l) → makesBlock k (s .scale) at l ≡ true
+      → Says s at k bytes l (Asks.makes (readerAfter k (l .words)) (lineBlock k (s .scale) at l))
 
 -- they settle it
 says-once : (s : Settings) (at : Point) (k : Reader) (bytes : List ℕ) (l : Line) {a c : Asks} → Says s at k bytes l a
     → Says s at k bytes l c → a ≡ c
 says-once s at k bytes l (Says.refuses n f) (Says.refuses m g) =
-    ap Asks.refuses (first-once (textQuestions k (standing s at) bytes l) n m f g)
-says-once s at k bytes l (Says.refuses n f) (Says.nothing y e) = absurd (not-both (textQuestions k (standing s at) bytes l) n y f)
-says-once s at k bytes l (Says.refuses n f) (Says.makes y e) = absurd (not-both (textQuestions k (standing s at) bytes l) n y f)
-says-once s at k bytes l (Says.nothing y e) (Says.refuses n f) = absurd (not-both (textQuestions k (standing s at) bytes l) n y f)
+    ap Asks.refuses (first-once (textQuestions (Unit {0}) k s at bytes l) n m f g)
+says-once s at k bytes l (Says.refuses n f) (Says.nothing y e) = absurd (not-both (textQuestions (Unit {0}) k s at bytes l) n y f)
+says-once s at k bytes l (Says.refuses n f) (Says.makes y e) = absurd (not-both (textQuestions (Unit {0}) k s at bytes l) n y f)
+says-once s at k bytes l (Says.nothing y e) (Says.refuses n f) = absurd (not-both (textQuestions (Unit {0}) k s at bytes l) n y f)
 says-once s at k bytes l (Says.nothing y e) (Says.nothing z g) = refl
 says-once s at k bytes l (Says.nothing y e) (Says.makes z g) = absurd (false≢true (sym e ∙ g))
-says-once s at k bytes l (Says.makes y e) (Says.refuses n f) = absurd (not-both (textQuestions k (standing s at) bytes l) n y f)
+says-once s at k bytes l (Says.makes y e) (Says.refuses n f) = absurd (not-both (textQuestions (Unit {0}) k s at bytes l) n y f)
 says-once s at k bytes l (Says.makes y e) (Says.nothing z g) = absurd (true≢false (sym e ∙ g))
 says-once s at k bytes l (Says.makes y e) (Says.makes z g) = refl
 
@@ -72,7 +71,7 @@ module _ (s : Settings) (at : Point) (k : Reader) (bytes : List ℕ) (l : Line) 
   after = readerAfter k (l .words)
 
   abbrev b : Block
-  b = lineBlock k (standing s at) l
+  b = lineBlock k (s .scale) at l
 
   -- what the line asks, by its numbers
   abbrev asksBy : (number : ℕ) (moves stays : Bool) (load : ℕ) → Asks
@@ -85,8 +84,8 @@ module _ (s : Settings) (at : Point) (k : Reader) (bytes : List ℕ) (l : Line) 
   asks-are zero = refl
   asks-are (suc number) = refl
 
-  says-by : (number : ℕ) (moves stays : Bool) (load : ℕ) → makesBlock k (standing s at) l ≡ isBlock moves stays
-      → Verdict (textQuestions k (standing s at) bytes l) (orElse number (blockNumber k after (standing s at) (l .words) moves stays load))
+  says-by : (number : ℕ) (moves stays : Bool) (load : ℕ) → makesBlock k (s .scale) at l ≡ isBlock moves stays
+      → Verdict (textQuestions (Unit {0}) k s at bytes l) (orElse number (blockNumber moves stays load))
       → Says s at k bytes l (asksBy number moves stays load)
   says-by (suc number) moves stays load e v = Says.refuses (suc number) (v .told)
   says-by zero true true load e v = Says.nothing (v .told) e
@@ -101,7 +100,7 @@ module _ (s : Settings) (at : Point) (k : Reader) (bytes : List ℕ) (l : Line) 
       let stays = still (b .end) at (b .path) in
       subst (Says s at k bytes l) (sym (asks-means s at k bytes l means ∙ asks-are number))
       (says-by number moves stays (loadNo (capacityOf s) (s .travel) true at b) refl
-      (then-asked (word-verdict after (standing s at) bytes l means) (block-asked k after (standing s at) (l .words) moves stays)))
+      (text-verdict true (λ _. tt, λ _. refl) k s at bytes l means))
 
 -- ---- the lines of a text
 
@@ -114,7 +113,7 @@ module _ (s : Settings) (n : ℕ) (at : Point) (k : Reader) (bytes : List ℕ) (
   line-means-job rest l means _ (Says.refuses number f) = LinesMean.refused l means number f
   line-means-job rest l means _ (Says.nothing y e) = LinesMean.nothing l means y e (rest at (readerAfter k (l .words)))
   line-means-job rest l means _ (Says.makes y e) =
-      LinesMean.block l means y e (rest (lineBlock k (standing s at) l .end) (readerAfter k (l .words)))
+      LinesMean.block l means y e (rest (lineBlock k (s .scale) at l .end) (readerAfter k (l .words)))
 
 lines-mean : (s : Settings) (n : ℕ) (at : Point) (k : Reader) (lines : List (List ℕ))
     → (let j = jobFrom s n at k lines in LinesMean s n at k lines (j .blocks) (j .end))
@@ -181,12 +180,12 @@ block-yes none true bs e all = all
 block-yes none false bs e all = absurd (false≢true e)
 block-yes (question number holds qs) block bs e all = block-yes qs block bs e (all .1)
 
-path-counted : (m : Bench) (b : Block) (p : Path) → AllYes (pathQuestions m b p) → CountedAlong (m .at) b p
+path-counted : (s : Settings) (start : Point) (b : Block) (p : Path) → AllYes (pathQuestions s start b p) → CountedAlong start b p
 unfolding arcOf
-path-counted m b Path.Line all = tt
-path-counted m b (Path.Arc turn centre) all =
+path-counted s start b Path.Line all = tt
+path-counted s start b (Path.Arc turn centre) all =
     let right = offset-right centre (centre-is centre .1 (all .0)) in
-    counted-arc (m .at) b turn centre (on-circle-to _ _ (start-on (m .at) centre right) .circle) (all .1 .0)
+    counted-arc start b turn centre (on-circle-to _ _ (start-on start centre right) .circle) (all .1 .0)
 
 lines-counted : (s : Settings) {n : ℕ} {at : Point} {k : Reader} {lines : List (List ℕ)} {made : List Made} {end : End}
     → LinesMean s n at k lines made end → EveryCounted made
@@ -194,10 +193,10 @@ lines-counted s LinesMean.over = tt
 lines-counted s (LinesMean.refused l means number f) = tt
 lines-counted s (LinesMean.nothing l means y e later) = lines-counted s later
 lines-counted s {at = at} {k = k} (LinesMean.block {bytes = bytes} l means y e later) =
-    let m = standing s at in
-    let b = lineBlock k m l in
-    let yes-all = block-yes (wordQuestions (readerAfter k (l .words)) m bytes l) (makesBlock k m l) (blockQuestions m b) e y in
-    (path-counted m b (b .path) (yes-all .1 .1 .1), lines-counted s later)
+    let b = lineBlock k (s .scale) at l in
+    let words = wordQuestions (readerAfter k (l .words)) (s .scale) bytes l in
+    let yes-all = block-yes words (makesBlock k (s .scale) at l) (blockQuestions (Unit {0}) s at b) e y in
+    (path-counted s at b (b .path) (yes-all .1 .1 .1), lines-counted s later)
 
 text-counted : (s : Settings) (text : List ℕ) {made : List Made} {end : End} → TextMeans s text made end → EveryCounted made
 text-counted s text (TextMeans.long h) = tt

@@ -21,10 +21,12 @@ use Rattle.settings.specs.Settings.{capacityOf}
 use Rattle.bench.specs.Bench.{soundOf}
 use Rattle.bench.specs.Calls.{taking, loadWith, loadOf}
 use Rattle.reader.specs.declared.Reader.{Reader}
+use Rattle.reader.specs.declared.asked.ToLoad.{ToLoad}
 use Rattle.reader.specs.declared.«text_line».Read.{Read}
 use Rattle.reader.specs.declared.«text_line».ReadLine.{ReadLine}
 use Rattle.reader.specs.Reader.{readerAfter, moving, lineNo, blockOf}
-use Rattle.reader.specs.TextLine.{reads, still, loaded, takenOf, readWith, readLineOf}
+use Rattle.reader.specs.Asked.{still, blockAsked, askedWith, askedOf}
+use Rattle.reader.specs.TextLine.{reads, loaded, takes, takenOf, readLineOf}
 use Rattle.job.specs.laws.Ended.{Accepted}
 use Rattle.job.specs.Job.{Asks, loadAsks, blockAsks, wordsAsk, lineAsks}
 
@@ -52,26 +54,26 @@ module _ (m : Bench) (k : Reader) (sound : soundOf m ≡ true) (idle : isNothing
       (Read-as.makes k′ b e)
   load-asks k′ b (suc n) e = Read-as.refuses (suc n)
 
-  block-asks : (k′ : Reader) (b : Block) → Read-as m k (blockAsks (m .settings) (m .at) k′ b) (takenOf k k′ m b)
-  unfolding takenOf
+  block-asks : (k′ : Reader) (b : Block) → Read-as m k (blockAsks (m .settings) (m .at) k′ b) (takes k k′ m (blockAsked (m .at) b))
   block-asks k′ b = by (still (b .end) (m .at) (b .path))
     where
       by : (stays : Bool) → Read-as m k (cond stays (Asks.nothing k′) (loadAsks k′ b (loadNo (capacityOf (m .settings)) (m .settings .travel) true (m .at) b)))
-          (cond stays (reads Read.Nothing k′ m) (loaded k k′ m (loadOf m b .bench) (loadOf m b .answer)))
+          (takes k k′ m (cond stays ToLoad.Nothing (ToLoad.Block b)))
       by true = Read-as.nothing k′
       by false = rw (load-is m sound idle b) (load-asks k′ b (loadNo (capacityOf (m .settings)) (m .settings .travel) true (m .at) b) refl)
 
-  words-ask : (k′ : Reader) (ws : Words) (number : ℕ) → Read-as m k (wordsAsk (m .settings) (m .at) k′ ws number) (readWith k k′ m ws number)
+  words-ask : (k′ : Reader) (ws : Words) (number : ℕ)
+      → Read-as m k (wordsAsk (m .settings) (m .at) k′ ws number) (takenOf k m (askedWith (m .settings .scale) k k′ (m .at) ws number))
   words-ask k′ ws zero = by (moving ws)
     where
       by : (moves : Bool) → Read-as m k (cond moves (blockAsks (m .settings) (m .at) k′ (blockOf (m .settings .scale) k′ ws (m .at))) (Asks.nothing k′))
-          (cond moves (takenOf k k′ m (blockOf (m .settings .scale) k′ ws (m .at))) (reads Read.Nothing k′ m))
+          (takes k k′ m (cond moves (blockAsked (m .at) (blockOf (m .settings .scale) k′ ws (m .at))) ToLoad.Nothing))
       by true = block-asks k′ (blockOf (m .settings .scale) k′ ws (m .at))
       by false = Read-as.nothing k′
   words-ask k′ ws (suc n) = Read-as.refuses (suc n)
 
   pub line-asks : (line : List ℕ) → Read-as m k (lineAsks (m .settings) (m .at) k line) (readLineOf k m line)
-  unfolding lineAsks readLineOf
+  unfolding lineAsks readLineOf askedOf
   line-asks line =
       let l = lineOf line in
       let k′ = readerAfter k (l .words) in

@@ -5,7 +5,6 @@ use mathlib.Core.List.{List}
 use Prim.Native.Nat.{ℕ, zero, suc, _^_, _≤_, _<_}
 use native.Mathlib.Omega.{arith}
 use lib.ListN.{length}
-use Rattle.block.specs.declared.Block.{Block}
 use Rattle.letters.specs.declared.word.Word.{Word}
 use Rattle.letters.specs.declared.word.Words.{Words}
 use Rattle.words.specs.laws.Scan.{lineOf}
@@ -16,10 +15,13 @@ use Rattle.bench.specs.Calls.{loadOf}
 use Rattle.finish.specs.laws.Record.{AtRest, cycles-most, ticks-most}
 use Rattle.reader.specs.declared.Feed.{Feed}
 use Rattle.reader.specs.declared.Reader.{Reader}
+use Rattle.reader.specs.declared.asked.ToLoad.{ToLoad}
+use Rattle.reader.specs.declared.asked.Asked.{Asked}
 use Rattle.reader.specs.declared.«text_line».Read.{Read}
 use Rattle.reader.specs.declared.«text_line».ReadLine.{ReadLine}
-use Rattle.reader.specs.Reader.{readerAfter, feedAfter, moving, lineNo, blockOf}
-use Rattle.reader.specs.TextLine.{reads, still, loaded, takenOf, readWith, readLineOf}
+use Rattle.reader.specs.Reader.{readerAfter, feedAfter, lineNo}
+use Rattle.reader.specs.Asked.{askedWith, askedOf}
+use Rattle.reader.specs.TextLine.{reads, loaded, takes, takenOf, readLineOf}
 use Rattle.reader.specs.laws.Small.{line-writable}
 use Rattle.listing.specs.declared.Tally.{Tally}
 use Rattle.listing.specs.Tally.{countsRight, blockListed, listedWith, listedOf}
@@ -61,33 +63,32 @@ module _ (k k′ : Reader) (m : Bench) (before : FeedSmall (k .feed)) (after : F
   feed-loaded next (Answer.Width bits) = after
   feed-loaded next (Answer.Refused number) = before
 
-  feed-taken : (b : Block) → FeedSmall (takenOf k k′ m b .reader .feed)
-  unfolding takenOf
-  feed-taken b = by (still (b .end) (m .at) (b .path))
-    where
-      by : (stays : Bool) → FeedSmall (cond stays (reads Read.Nothing k′ m) (loaded k k′ m (loadOf m b .bench) (loadOf m b .answer)) .reader .feed)
-      by true = after
-      by false = feed-loaded (loadOf m b .bench) (loadOf m b .answer)
+  feed-taken : (a : ToLoad) → FeedSmall (takes k k′ m a .reader .feed)
+  feed-taken ToLoad.Nothing = after
+  feed-taken (ToLoad.Block b) = feed-loaded (loadOf m b .bench) (loadOf m b .answer)
+  feed-taken (ToLoad.Refused number) = before
 
-  feed-words : (ws : Words) (number : ℕ) → FeedSmall (readWith k k′ m ws number .reader .feed)
-  feed-words ws zero = by (moving ws)
-    where
-      by : (moves : Bool) → FeedSmall (cond moves (takenOf k k′ m (blockOf (m .settings .scale) k′ ws (m .at))) (reads Read.Nothing k′ m) .reader .feed)
-      by true = feed-taken (blockOf (m .settings .scale) k′ ws (m .at))
-      by false = after
-  feed-words ws (suc n) = before
+  feed-asked : (ws : Words) (number : ℕ) → FeedSmall (askedWith (m .settings .scale) k k′ (m .at) ws number .reader .feed)
+  feed-asked ws zero = after
+  feed-asked ws (suc n) = before
 
 feed-read : (k : Reader) (m : Bench) (line : List ℕ) → FeedSmall (k .feed) → FeedSmall (readLineOf k m line .reader .feed)
-unfolding readLineOf
+unfolding readLineOf askedOf
 feed-read k m line h = by (soundOf m)
   where
-    by : (sound : Bool) → FeedSmall ((let l = lineOf line in let k′ = readerAfter k (l .words) in
-        cond sound (readWith k k′ m (l .words) (lineNo (m .settings .scale) k′ (length line) l)) (reads (Read.Refused 9) k m)) .reader .feed)
+    k′ : Reader
+    k′ = readerAfter k (lineOf line .words)
+
+    number : ℕ
+    number = lineNo (m .settings .scale) k′ (length line) (lineOf line)
+
+    a : Asked
+    a = askedWith (m .settings .scale) k k′ (m .at) (lineOf line .words) number
+
+    by : (sound : Bool) → FeedSmall (cond sound (takenOf k m a) (reads (Read.Refused 9) k m) .reader .feed)
     by true =
-        let l = lineOf line in
-        let k′ = readerAfter k (l .words) in
-        let after = feed-after (k .feed) (l .words .f) (line-writable line .f) h in
-        feed-words k k′ m h after (l .words) (lineNo (m .settings .scale) k′ (length line) l)
+        let after = feed-after (k .feed) (lineOf line .words .f) (line-writable line .f) h in
+        feed-taken k (a .reader) m h (feed-asked k k′ m h after (lineOf line .words) number) (a .asks)
     by false = h
 
 -- ---- a line

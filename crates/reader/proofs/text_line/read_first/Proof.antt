@@ -1,12 +1,13 @@
--- `read_first` is right because it asks whether the record is sound, and its words are those of the text's first line.
+-- `read_first` is right because it asks whether the record is sound, and does what the text's first line asks at the point.
 use borrow.Author.Needs.{needs}
 use mathlib.Core.Path.{_≡_, sym, _∙_}
 use mathlib.Core.Bool.{true}
 use native.Mathlib.Omega.{arith}
 use borrow.Author.Tests.{not-true, not-false}
+use Rattle.settings.specs.laws.Right.{settings-right}
 use Rattle.bench.specs.Bench.{soundOf}
+use Rattle.bench.specs.laws.Sound.{sound}
 use Rattle.reader.specs.TextLine.{readLineOf}
-use Rattle.reader.specs.laws.Small.{line-writable}
 use Rattle.reader.proofs.text_line.read_first.Statement.{statement}
 use Rattle.reader.proofs.text_line.read_first.Tie as tie
 
@@ -29,18 +30,17 @@ returns c =
     let t = u .before in
     (u .refused .ensures ∙ rw (sym (t .before .sound .ensures) ∙ not-true _ (t .if1 .taken)), omega (arith, c .end-of-line .ensures))
 
-read-first-requires : tie.Need-read-first-requires
-read-first-requires c κs = search needs
+ask-first-requires : tie.Need-ask-first-requires
+ask-first-requires c κs = settings-right _ (sound (record-sound c) .settings) .scale-most
 
-read-words-requires : tie.Need-read-words-requires
-read-words-requires c κs = (record-sound (c .before .before), rw (c .before .read-first .ensures .0) (line-writable _))
+take-requires : tie.Need-take-requires
+take-requires c κs = record-sound (c .before .before)
 
 returns-2 : tie.Need-returns-2
 unfolding readLineOf
 returns-2 c =
-    let r = c .before .before in
-    let f = r .read-first .ensures in
-    (rw (record-sound (r .before)) (rw (f .0, f .1) at (c .read-words .ensures)), f .1)
+    let f = c .before .before in
+    (rw (record-sound (f .before)) (rw (f .ask-first .ensures .0) at (c .take .ensures)), f .ask-first .ensures .1)
 
 pub read-first-spec : {M : Type 1} → statement M
 read-first-spec =
@@ -50,6 +50,6 @@ read-first-spec =
     refused-requires
     end-of-line-requires
     returns
-    read-first-requires
-    read-words-requires
+    ask-first-requires
+    take-requires
     returns-2)

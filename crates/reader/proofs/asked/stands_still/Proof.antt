@@ -1,8 +1,8 @@
 -- `stands_still` is right because only a straight line can end where it stands.
 use borrow.Author.Needs.{needs}
 use mathlib.Core.Path.{_∙_}
-use Rattle.reader.proofs.text_line.stands_still.Statement.{statement}
-use Rattle.reader.proofs.text_line.stands_still.Tie as tie
+use Rattle.reader.proofs.asked.stands_still.Statement.{statement}
+use Rattle.reader.proofs.asked.stands_still.Tie as tie
 
 enum-told : tie.Need-enum-told
 enum-told c = search needs
