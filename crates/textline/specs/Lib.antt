@@ -1,0 +1,3 @@
+-- To be believed: TextLine. Proved of it: laws.
+pub mod TextLine
+pub mod laws
