@@ -42,7 +42,7 @@ fn arc_of(turn: Turn, w: WorkWords) -> Arc
     }
 }
 
-fn work_of(w: WorkWords) -> Work
+pub fn work_of(w: WorkWords) -> Work
     ensures { λ r. ⌜ r ≡ workOf w ⌝ }
 {
     let kind = count(w.kind);
@@ -96,7 +96,7 @@ fn settings_in(h: Head) -> Settings
     settings(h.p, h.w, h.xlo, h.xhi, h.ylo, h.yhi)
 }
 
-fn machine_of(h: Head, work: Work) -> Bench
+pub fn machine_of(h: Head, work: Work) -> Bench
     ensures { λ r. ⌜ r ≡ machineOf h work ⌝ }
 {
     let settings = settings_in(h);

@@ -3,4 +3,4 @@ pub mod decode;
 pub mod encode;
 pub mod given;
 pub mod number;
-mod right;
+pub mod right;

@@ -16,7 +16,7 @@ fn is_mark(word: i64) -> bool
     equal(word, 1)
 }
 
-fn head_right(h: Head) -> bool
+pub fn head_right(h: Head) -> bool
     ensures { λ r. ⌜ r ≡ headRight h ⌝ }
 {
     if !is_count(h.p) {
@@ -79,7 +79,7 @@ fn arc_right(w: WorkWords) -> bool
     equal(w.g, 0)
 }
 
-fn work_right(w: WorkWords) -> bool
+pub fn work_right(w: WorkWords) -> bool
     ensures { λ r. ⌜ r ≡ workRight w ⌝ }
 {
     if equal(w.kind, 0) {

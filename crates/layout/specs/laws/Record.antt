@@ -33,16 +33,16 @@ record-words ws t = sym (same-true ws (encodeOf (machineIn ws)) t)
 -- ---- from a machine to words and back
 
 -- the counts of what is in work are words
-record LineSmall (l : Line) : Type 0 where
-  feed : l .feed < 2 ^ 63
-  cycles : l .cycles < 2 ^ 63
-  done : l .done < 2 ^ 63
+pub record LineSmall (l : Line) : Type 0 where
+  pub feed : l .feed < 2 ^ 63
+  pub cycles : l .cycles < 2 ^ 63
+  pub done : l .done < 2 ^ 63
 
-record ArcSmall (a : Arc) : Type 0 where
-  square : a .square < 2 ^ 63
-  feed : a .feed < 2 ^ 63
+pub record ArcSmall (a : Arc) : Type 0 where
+  pub square : a .square < 2 ^ 63
+  pub feed : a .feed < 2 ^ 63
 
-abbrev Small : Work → Type 0
+abbrev pub Small : Work → Type 0
 Small Work.Nothing = Unit {0}
 Small (Work.Line l) = LineSmall l
 Small (Work.Arc a) = ArcSmall a
@@ -50,7 +50,7 @@ Small (Work.Arc a) = ArcSmall a
 pub count-word : {n : ℕ} → n < 2 ^ 63 → countOf (wordOf n) ≡ n
 count-word h = rw (word-small h)
 
-mark-back : (held : Bool) → eqb (countOf (markWord held)) 1 ≡ held
+pub mark-back : (held : Bool) → eqb (countOf (markWord held)) 1 ≡ held
 mark-back true = refl
 mark-back false = refl
 
@@ -64,13 +64,13 @@ unfolding workOf
 arc-back a s Turn.Clockwise = rw (count-word (s .square), count-word (s .feed))
 arc-back a s Turn.Counterclockwise = rw (count-word (s .square), count-word (s .feed))
 
-work-back : (w : Work) → Small w → workOf (workWordsOf w) ≡ w
+pub work-back : (w : Work) → Small w → workOf (workWordsOf w) ≡ w
 unfolding workOf
 work-back Work.Nothing s = refl
 work-back (Work.Line l) s = rw (count-word (s .feed), count-word (s .cycles), count-word (s .done))
 work-back (Work.Arc a) s = arc-back a s (a .turn)
 
-small : {q0 : ℕ} (t : Travel) (at : Point) (w : Work) → q0 ≤ 1200000 → workSound q0 t at w ≡ true → Small w
+pub small : {q0 : ℕ} (t : Travel) (at : Point) (w : Work) → q0 ≤ 1200000 → workSound q0 t at w ≡ true → Small w
 unfolding workSound
 small t at Work.Nothing most e = tt
 small t at (Work.Line l) most e =

@@ -48,13 +48,13 @@ mark-right z = by (eqb (countOf z) 1)
     by true e = rw (← e)
     by false e = rw (← e)
 
-zero-right : {z : ℤ} → pos 0 ≡ z → equalZ z (pos 0) ≡ true
+pub zero-right : {z : ℤ} → pos 0 ≡ z → equalZ z (pos 0) ≡ true
 zero-right e = rw (← e)
 
 -- ---- the words before what is in work
 
 module _ (h : Head) (work : Work) where
-  head-again : SFits w64 (h .p) → SFits w64 (h .w) → SFits w64 (h .remainder) → headRight h ≡ true → headOf (machineOf h work) ≡ h
+  pub head-again : SFits w64 (h .p) → SFits w64 (h .w) → SFits w64 (h .remainder) → headRight h ≡ true → headOf (machineOf h work) ≡ h
   unfolding headRight
   head-again fp fw fr t =
       let a = both t in
@@ -62,7 +62,7 @@ module _ (h : Head) (work : Work) where
       let c = both (b .1) in
       rw (count-again (h .p) fp (a .0), count-again (h .w) fw (b .0), mark-again (h .mark) (c .0), count-again (h .remainder) fr (c .1))
 
-  head-right : headOf (machineOf h work) ≡ h → headRight h ≡ true
+  pub head-right : headOf (machineOf h work) ≡ h → headRight h ≡ true
   unfolding headRight
   head-right e =
       joined (count-right (h .p) (ap (λ (g : Head). g .p) e))
@@ -112,7 +112,7 @@ module _ (w : WorkWords) where
       let b = both (a .1) in
       rw (count-again (w .c) (s .c) (a .0), count-again (w .f) (s .f) (b .0), equal-true (w .g) (pos 0) (b .1))
 
-  work-again : WorkFits w → workRight w ≡ true → workWordsOf (workOf w) ≡ of-kind (w .kind)
+  pub work-again : WorkFits w → workRight w ≡ true → workWordsOf (workOf w) ≡ of-kind (w .kind)
   unfolding workRight workOf
   work-again s = by (equalZ (w .kind) (pos 0)) refl (equalZ (w .kind) (pos 1)) refl (equalZ (w .kind) (pos 2)) refl
       (equalZ (w .kind) (pos 3)) refl
@@ -152,7 +152,7 @@ module _ (w : WorkWords) where
   kind-is : (work : Work) → workWordsOf work ≡ w → w .kind ≡ workWordsOf work .kind
   kind-is work e = sym (ap (λ (v : WorkWords). v .kind) e)
 
-  work-right : workWordsOf (workOf w) ≡ w → workRight w ≡ true
+  pub work-right : workWordsOf (workOf w) ≡ w → workRight w ≡ true
   unfolding workRight workOf
   work-right = by (eqb (countOf (w .kind)) 1) (eqb (countOf (w .kind)) 2) (eqb (countOf (w .kind)) 3)
     where

@@ -1,0 +1,7 @@
+pub mod Places
+pub mod Record
+pub mod Right
+pub mod Sound
+pub mod Write
+pub mod Later
+pub mod Load
