@@ -1,0 +1,1 @@
+// The book of a history (document 01): definitions and what is proved of them; no code.

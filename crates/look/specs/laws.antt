@@ -1,0 +1,4 @@
+pub mod Ticks
+pub mod Pass
+pub mod Sums
+pub mod Ahead

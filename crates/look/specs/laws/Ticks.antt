@@ -1,0 +1,69 @@
+-- The record after ticks, and that it stays as it was where they are no working ones.
+use mathlib.Core.Path.{_≡_, refl, ap, _∙_}
+use mathlib.Core.Bool.{Bool, true, false, cond}
+use Prim.Native.Nat.{ℕ, zero, suc, _+_}
+use native.Mathlib.Omega.{arith}
+use Rattle.work.specs.Work.{isNothing}
+use Rattle.bench.specs.declared.Bench.{Bench}
+use Rattle.bench.specs.Calls.{tickOf as benchTick}
+use Rattle.finish.specs.Finish.{worksOf}
+use Rattle.ahead.specs.Ahead.{tickingOf as benchTicking}
+use Rattle.ahead.specs.laws.Ticks.{ticking-rests as bench-rests}
+use Rattle.machine.specs.declared.Machine.{Machine}
+use Rattle.machine.specs.Machine.{soundOf, machineOf}
+use Rattle.machine.specs.Calls.{firstIn, nextOf, tickOf}
+use Rattle.machine.specs.laws.Right.{Sound, sound, own-record}
+use Rattle.machine.specs.laws.Keeps.{tick-keeps}
+use Rattle.look.specs.Look.{tickingOf}
+
+-- ---- any record
+
+pub ticking-sound : (n : ℕ) (m : Machine) → soundOf m ≡ true → soundOf (tickingOf n m .machine) ≡ true
+unfolding tickingOf
+ticking-sound zero m e = e
+ticking-sound (suc n) m e = ticking-sound n (tickOf m .machine) (tick-keeps m e)
+
+pub ticking-none : (n : ℕ) (m : Machine) → n ≡ 0 → tickingOf n m .machine ≡ m
+unfolding tickingOf
+ticking-none n m none = rw none refl
+
+pub ticking-adds : (s t : ℕ) (m : Machine) → tickingOf (s + t) m .machine ≡ tickingOf t (tickingOf s m .machine) .machine
+unfolding tickingOf
+ticking-adds zero t m = let none : 0 + t ≡ t = omega arith in ap (λ (n : ℕ). tickingOf n m .machine) none
+ticking-adds (suc s) t m =
+    let one : suc s + t ≡ suc (s + t) = omega arith in
+    ap (λ (n : ℕ). tickingOf n m .machine) one ∙ ticking-adds s t (tickOf m .machine)
+
+-- ---- a tick of a sound record
+
+-- it is the bench's, and then what comes into work
+pub tick-goes-on : (m : Machine) → soundOf m ≡ true → {k : Bench} → benchTick (m .bench) .bench ≡ k
+    → tickOf m .machine ≡ nextOf k (m .queue)
+unfolding tickOf
+tick-goes-on m e is = rw (e, is) refl
+
+-- nothing comes into work where no block has ended
+pub next-own : (m : Machine) → Sound m → nextOf (m .bench) (m .queue) ≡ m
+unfolding nextOf
+next-own m i = by (isNothing (m .bench .work)) refl
+  where
+    first : (n : ℕ) → n ≡ 0 → firstIn (m .bench) (m .queue) n ≡ m
+    first zero e = own-record m i
+    first (suc n) e = absurd (omega arith)
+
+    by : (idle : Bool) → isNothing (m .bench .work) ≡ idle
+        → cond idle (firstIn (m .bench) (m .queue) (m .queue .len)) (machineOf (m .bench) (m .queue)) ≡ m
+    by true idle = first (m .queue .len) (i .right .none idle)
+    by false busy = own-record m i
+
+-- ---- idle or held
+
+module _ (m : Machine) (e : soundOf m ≡ true) (rests : worksOf (m .bench) ≡ false) where
+  tick-still : tickOf m .machine ≡ m
+  unfolding benchTicking
+  tick-still = let i = sound m e in tick-goes-on m e (bench-rests 1 (m .bench) (i .bench) rests) ∙ next-own m i
+
+  pub ticking-still : (n : ℕ) → tickingOf n m .machine ≡ m
+  unfolding tickingOf
+  ticking-still zero = refl
+  ticking-still (suc n) = ap (λ (k : Machine). tickingOf n k .machine) tick-still ∙ ticking-still n
