@@ -34,12 +34,13 @@ mod tests {
     use super::*;
     use crate::arc::Kind;
     use crate::book::Load;
+    use crate::level::Level;
     use crate::settings::{Settings, USUAL};
     use crate::sound::record_of;
 
     /// A machine with q0 60,000 and this block in work.
     fn with(load: Load) -> Book {
-        let mut book = Book::make(Settings { w: 1_000, ..USUAL }).0;
+        let mut book = Book::make(Level::Three, Settings { w: 1_000, ..USUAL }).0;
         book.load(&load).unwrap();
         book
     }
@@ -103,13 +104,40 @@ mod tests {
         assert_eq!(ahead(&book, u64::MAX).map(|_| ()), Err(38));
     }
 
+    /// Through waiting blocks: the line of 5 cycles, 4 back along X and a full turn of N 1, whose 4 steps are charged 5,656. Tick 10
+    /// waits for its first step; tick 15 ends it with 344 × q0.
+    #[test]
+    fn through_waiting_blocks() {
+        let mut book = line(60_000);
+        book.load(&Load::Line { end: Point::new(1, 4), f: 60_000 }).unwrap();
+        book.load(&Load::Arc { kind: Kind::Clockwise, end: Point::new(1, 4), f: 60_000, i: 1, j: 0 }).unwrap();
+        let waiting = |ticks| {
+            let (then, _) = ahead(&book, ticks).unwrap();
+            (then.waiting.len(), then.left)
+        };
+        let at = |x, y| Point::new(x, y);
+        for (ticks, place, remainder, waits) in [
+            (4, at(-2, 3), 0, (2, 9)),
+            (5, at(-3, 4), 0, (1, 8)),
+            (6, at(-2, 4), 0, (1, 7)),
+            (9, at(1, 4), 0, (0, 4)),
+            (10, at(1, 4), 60_000_000, (0, 4)),
+            (11, at(2, 5), 35_160_000, (0, 3)),
+            (15, at(1, 4), 344 * 60_000, (0, 0)),
+            (MOST_TICKS, at(1, 4), 344 * 60_000, (0, 0)),
+        ] {
+            assert_eq!(seen(&book, ticks), (place, place, remainder, ticks < 15), "{ticks}");
+            assert_eq!(waiting(ticks), waits, "{ticks}");
+        }
+    }
+
     /// Idle and held machines stay as they are, and are asked 38 too.
     #[test]
     fn idle_and_held() {
         let mut held = line(60_000);
         held.tick();
         held.hold();
-        for book in [Book::make(USUAL).0, held] {
+        for book in [Book::make(Level::Three, USUAL).0, held] {
             for ticks in [0, 1, 5, MOST_TICKS] {
                 let (then, sums) = ahead(&book, ticks).unwrap();
                 assert_eq!((record_of(&then), sums), (record_of(&book), ORIGIN));

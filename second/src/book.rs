@@ -1,8 +1,11 @@
-//! "The book of a history", with load's questions 10 to 16 and the charges of 02 §2: "A rule changed later changes in the book too."
-//! Question 9 is in machine.rs.
+//! "The book of a history", with load's questions 10 to 16, the charges of 02 §2 and the waiting blocks of 02 §3: "A rule changed later
+//! changes in the book too." Question 9 is in machine.rs.
+
+use std::collections::VecDeque;
 
 use crate::arc::{self, Circle, Kind, Walker};
 use crate::charge;
+use crate::level::Level;
 use crate::line;
 use crate::point::{Point, ORIGIN};
 use crate::settings::{Settings, USUAL};
@@ -15,13 +18,13 @@ pub enum Load {
 }
 
 impl Load {
-    fn end(&self) -> Point {
+    pub fn end(&self) -> Point {
         match *self {
             Load::Line { end, .. } | Load::Arc { end, .. } => end,
         }
     }
 
-    fn feed(&self) -> u64 {
+    pub fn feed(&self) -> u64 {
         match *self {
             Load::Line { f, .. } | Load::Arc { f, .. } => f,
         }
@@ -54,6 +57,23 @@ impl Block {
             Path::Line => line::width(self.start, self.end),
             Path::Arc { n, .. } => arc::width(n),
         }
+    }
+
+    /// The load that gave this block.
+    pub fn given(&self) -> Load {
+        let Block { path, start, end, f, .. } = *self;
+        match path {
+            Path::Line => Load::Line { end, f },
+            Path::Arc { kind, centre, .. } => {
+                let Point { x: i, y: j } = centre.seen_from(start);
+                Load::Arc { kind, end, f, i, j }
+            }
+        }
+    }
+
+    /// Its cycles still to do.
+    pub fn left(&self) -> u64 {
+        self.k - self.c
     }
 
     /// A line not begun: "Line cycles are charged 1,000."
@@ -96,13 +116,22 @@ pub enum Why {
 /// done c."
 #[derive(Clone, Debug)]
 pub struct Book {
+    pub level: Level,
     pub settings: Settings,
     pub point: Point,
     pub held: bool,
     pub remainder: u64,
     pub block: Option<Block>,
+    /// "first come first cut"
+    pub waiting: VecDeque<Block>,
+    /// "The record keeps the cycles still to do over the block in work and all waiting": a load adds those of its block, a cycle takes
+    /// one off. That this is the count made afresh is tried in demand3.rs.
+    pub left: u64,
     walker: Walker,
 }
+
+/// "32 if the block ended"
+const END: u8 = 32;
 
 /// No question of the paper has this number. It would come out if the order of the circle
 /// points had a gap, so that a comparison shows it.
@@ -110,36 +139,48 @@ const GAP_IN_THE_ORDER: u32 = 0;
 
 impl Book {
     /// "A fresh machine stands at (0, 0), idle, not held, remainder 0."
-    fn fresh(settings: Settings) -> Book {
-        Book { settings, point: ORIGIN, held: false, remainder: 0, block: None, walker: Walker::default() }
+    fn fresh(level: Level, settings: Settings) -> Book {
+        Book::opened(level, settings, ORIGIN, false, 0, None)
     }
 
     /// "A refused make answers the number and the fresh machine with p 50, w 5,000 and the
     /// widest travel."
-    pub fn make(settings: Settings) -> (Book, Option<u32>) {
+    pub fn make(level: Level, settings: Settings) -> (Book, Option<u32>) {
         match settings.refusal() {
-            None => (Book::fresh(settings), None),
-            Some(number) => (Book::fresh(USUAL), Some(number)),
+            None => (Book::fresh(level, settings), None),
+            Some(number) => (Book::fresh(level, USUAL), Some(number)),
         }
     }
 
-    /// A book opened in the middle, for a sound made-up record. The cycles and charges of an arc are then
+    /// A book opened in the middle, for a sound made-up record whose waiting blocks are then loaded. The cycles and charges of an arc are
     /// counted from where it stands.
-    pub fn opened(settings: Settings, point: Point, held: bool, remainder: u64, block: Option<Block>) -> Book {
-        Book { settings, point, held, remainder, block, walker: Walker::default() }
+    pub fn opened(level: Level, settings: Settings, point: Point, held: bool, remainder: u64, block: Option<Block>) -> Book {
+        let left = block.map_or(0, |block| block.left());
+        Book { level, settings, point, held, remainder, block, waiting: VecDeque::new(), left, walker: Walker::default() }
+    }
+
+    /// "The other load questions, and what a text line leaves out, start from the end of the last waiting block, else of the block in
+    /// work, else from the point". At level 2 from the point, of a text line at work too.
+    pub fn place(&self) -> Point {
+        let last = self.waiting.back().or(self.block.as_ref());
+        last.filter(|_| self.level == Level::Three).map_or(self.point, |last| last.end)
     }
 
     /// "Load: the first no among 10 to 16, put to the book, is the answer and nothing changes.
-    /// Else the block comes into work with c 0, and the answer is its register width."
+    /// Else the block comes into work with c 0, and the answer is its register width." Behind a block in work it waits.
     pub fn load(&mut self, load: &Load) -> Result<u32, u32> {
         let block = self.asked(load)?;
-        self.block = Some(block);
+        self.left += block.k;
+        match self.block {
+            None => self.block = Some(block),
+            Some(_) => self.waiting.push_back(block),
+        }
         Ok(block.width())
     }
 
     fn asked(&mut self, load: &Load) -> Result<Block, u32> {
-        // "is nothing in work? 10."
-        if self.block.is_some() {
+        // "is nothing in work? 10.", and by 02 §3 "are fewer than 16 waiting?"
+        if self.block.is_some() && self.waiting.len() >= self.level.most_waiting() {
             return Err(10);
         }
         // "Is f in 1..q0? 11."
@@ -158,7 +199,7 @@ impl Book {
 
     fn asked_line(&self, end: Point, f: u64) -> Result<Block, u32> {
         // "Line: do start and end differ? 13."
-        let start = self.point;
+        let start = self.place();
         if start == end {
             return Err(13);
         }
@@ -172,7 +213,7 @@ impl Book {
             return Err(14);
         }
         // "(I, J) is the centre seen from the start; N = I² + J²."
-        let start = self.point;
+        let start = self.place();
         let centre = start.moved_by(Point::new(i, j));
         let n = i * i + j * j;
         // "Is the end a circle point? 15."
@@ -199,9 +240,11 @@ impl Book {
         self.held = false;
     }
 
-    /// "Stop drops the block and makes the remainder 0."
+    /// "Stop drops the block and makes the remainder 0." "Stop empties the queue".
     pub fn stop(&mut self) {
         self.block = None;
+        self.waiting.clear();
+        self.left = 0;
         self.remainder = 0;
     }
 
@@ -227,18 +270,20 @@ impl Book {
         self.remainder -= charge * q0;
         block.charged += charge;
         block.c += 1;
-        self.point = next;
-        // "At c = k the block has ended and nothing is in work."
         let ended = block.c == block.k;
+        self.left -= 1;
+        self.point = next;
+        // "At c = k the block has ended". "When a block ends, the first waiting one becomes the one in work".
         if ended {
-            self.block = None;
+            self.block = self.waiting.pop_front();
         }
         // "X code + 4 × Y code + 16 if a cycle was done + 32 if the block ended"
-        code(stood.x, self.point.x) + 4 * code(stood.y, self.point.y) + 16 + if ended { 32 } else { 0 }
+        code(stood.x, self.point.x) + 4 * code(stood.y, self.point.y) + 16 + if ended { END } else { 0 }
     }
 
     /// "Run: ticks until the budget or the buffer is used up or the block ends, none if idle or
-    /// held. It answers their number and the report, and its tick bytes are theirs."
+    /// held. It answers their number and the report, and its tick bytes are theirs." "and a run still stops there": at the end of the
+    /// block that was in work, though another is in work then.
     pub fn run(&mut self, budget: u64, length: u64, mut write: impl FnMut(u8)) -> (Why, u64) {
         // "It answers idle or held (idle first) with 0 ticks"
         if self.block.is_none() {
@@ -247,13 +292,15 @@ impl Book {
         if self.held {
             return (Why::Held, 0);
         }
-        let mut ticks = 0;
-        while ticks < budget && ticks < length && self.block.is_some() {
-            write(self.tick());
+        let (mut ticks, mut ended) = (0, false);
+        while ticks < budget && ticks < length && !ended {
+            let byte = self.tick();
+            write(byte);
             ticks += 1;
+            ended = byte & END != 0;
         }
         // "else ended, spent or full, the first that is true"
-        if self.block.is_none() {
+        if ended {
             (Why::Ended, ticks)
         } else if ticks == budget {
             (Why::Spent, ticks)
@@ -269,10 +316,10 @@ impl Book {
         let Some(block) = self.block else { return 0 };
         let due = u128::from(block.charges - block.charged) * u128::from(self.settings.q0());
         let by_feed = due.saturating_sub(self.remainder.into()).div_ceil(u128::from(charge::PAID_PER_FEED * block.f.max(1)));
-        by_feed.max(u128::from(block.k - block.c))
+        by_feed.max(u128::from(block.left()))
     }
 
-    /// Does all working ticks to the block's end at once and answers their number.
+    /// Does all working ticks to the block's end at once and answers their number; the first waiting block is then the one in work.
     pub fn finish_at_once(&mut self) -> u128 {
         let ticks = self.ticks_to_the_end();
         if let Some(block) = self.block.take() {
@@ -280,6 +327,8 @@ impl Book {
             let taken = u128::from(block.charges - block.charged) * u128::from(self.settings.q0());
             self.remainder = u64::try_from(fed - taken).unwrap_or(u64::MAX);
             self.point = block.end;
+            self.left -= block.left();
+            self.block = self.waiting.pop_front();
         }
         ticks
     }
@@ -299,7 +348,7 @@ mod tests {
     use super::*;
 
     fn usual() -> Book {
-        Book::make(USUAL).0
+        Book::make(Level::Three, USUAL).0
     }
 
     fn line(x: i64, y: i64, f: u64) -> Load {
@@ -326,7 +375,7 @@ mod tests {
         assert_eq!(Settings { w: 20_001, ..USUAL }.refusal(), Some(2));
         assert_eq!(Settings { y_upper: 1_000_001, ..USUAL }.refusal(), Some(3));
         assert_eq!(Settings { y_upper: -1, ..USUAL }.refusal(), Some(3));
-        let (book, number) = Book::make(bad);
+        let (book, number) = Book::make(Level::Three, bad);
         assert_eq!((book.settings, number), (USUAL, Some(1)));
     }
 
@@ -344,8 +393,118 @@ mod tests {
         // "N 2: end (0, 1) has F -1, accepted; (0, 2) has F 2, gives 15", centre (1, 1).
         assert_eq!(book.load(&arc(3, 1, 3, 1, 1, 1)), Err(15));
         assert_eq!(book.clone().load(&arc(3, 1, 2, 1, 1, 1)), Ok(1));
-        assert_eq!(book.load(&line(1, 0, 1)), Ok(1));
-        assert_eq!(book.load(&line(0, 0, 0)), Err(10));
+    }
+
+    /// At level 2 "is nothing in work?", and then 10 whatever else is wrong; the place is the point.
+    #[test]
+    fn none_waits_at_level_2() {
+        let mut book = Book::make(Level::Two, USUAL).0;
+        assert_eq!(book.load(&line(3, 4, 300_000)), Ok(3));
+        book.tick();
+        assert_eq!((book.point, book.place()), (Point::new(1, 1), Point::new(1, 1)));
+        for load in [line(9, 9, 300_000), line(0, 0, 0), line(1, 1, 1), arc(2, 0, 0, 0, 0, 0)] {
+            assert_eq!(book.load(&load), Err(10));
+        }
+        assert_eq!(book.run(9, 9, |_| ()), (Why::Ended, 4));
+        assert_eq!(book.load(&line(3, 4, 300_000)), Err(13));
+        assert_eq!(book.load(&line(0, 0, 300_000)), Ok(3));
+    }
+
+    /// "are fewer than 16 waiting?": 17 blocks in all, and then 10 whatever else is wrong. A block that ends makes room.
+    #[test]
+    fn sixteen_wait() {
+        let mut book = usual();
+        book.hold();
+        for x in 1..=17 {
+            assert_eq!(book.load(&line(x, 0, 300_000)), Ok(1));
+            assert_eq!((book.waiting.len() as i64, book.left as i64, book.place()), (x - 1, x, Point::new(x, 0)));
+        }
+        for load in [line(18, 0, 300_000), line(0, 0, 0), line(17, 0, 1), line(1_000_001, 0, 1), arc(2, 0, 0, 0, 0, 0)] {
+            assert_eq!(book.load(&load), Err(10));
+        }
+        book.release();
+        assert_eq!((book.tick(), book.waiting.len(), book.left), (49, 15, 16));
+        assert_eq!(book.load(&line(17, 0, 300_000)), Err(13));
+        assert_eq!(book.load(&line(0, 0, 300_000)), Ok(5));
+        assert_eq!((book.waiting.len(), book.left), (16, 33));
+        assert_eq!(book.load(&line(1, 0, 300_000)), Err(10));
+        // "first come first cut"
+        for x in 2..=17 {
+            assert_eq!((book.tick(), book.point), (49, Point::new(x, 0)));
+        }
+        assert_eq!((book.waiting.len(), book.left), (0, 17));
+    }
+
+    /// "The other load questions .. start from the end of the last waiting block, else of the block in work, else from the point".
+    #[test]
+    fn where_a_waiting_block_starts() {
+        let mut book = Book::make(Level::Three, Settings { x_upper: 13, ..USUAL }).0;
+        book.load(&line(3, 4, 300_000)).unwrap();
+        book.tick();
+        assert_eq!((book.point, book.place()), (Point::new(1, 1), Point::new(3, 4)));
+        assert_eq!(book.load(&line(3, 4, 1)), Err(13));
+        // Half a turn about (8, 4), seen from (3, 4); from the point it would be no circle point.
+        assert_eq!(book.clone().load(&arc(3, 13, 4, 1, 5, 0)), Ok(3));
+        assert_eq!(book.load(&arc(3, 11, 1, 1, 5, 0)), Err(15));
+        assert_eq!(book.load(&arc(3, 4, 4, 1, 0, 10)), Ok(4));
+        assert_eq!(book.clone().load(&arc(3, 4, 4, 1, 0, 9)), Ok(4), "as far as X 13");
+        assert_eq!(book.load(&arc(3, 4, 4, 1, 0, 10)), Err(16), "as far as X 14");
+        // Back to the point: 3 by 3 pulses.
+        assert_eq!(book.load(&line(1, 1, 1)), Ok(2));
+        assert_eq!(book.load(&line(1, 1, 1)), Err(13));
+        let waiting: Vec<Load> = book.waiting.iter().map(Block::given).collect();
+        assert_eq!(waiting, [arc(3, 4, 4, 1, 0, 10), line(1, 1, 1)]);
+    }
+
+    /// "When a block ends, the first waiting one becomes the one in work, and a run still stops there. Its end tick counts from there, with
+    /// the remainder then": two thirds of q0 a tick, the second block with one third at its start.
+    #[test]
+    fn runs_over_ends() {
+        let mut book = usual();
+        for x in 1..=2 {
+            book.load(&line(x, 0, 200_000)).unwrap();
+        }
+        book.load(&line(2, 1, 1)).unwrap();
+        assert_eq!(book.ticks_to_the_end(), 2);
+        assert_eq!(book.run(9, 9, |_| ()), (Why::Ended, 2));
+        assert_eq!((book.point, book.remainder, book.left), (Point::new(1, 0), 100_000_000, 2));
+        assert_eq!(book.ticks_to_the_end(), 1);
+        assert_eq!(book.run(1, 1, |_| ()), (Why::Ended, 1));
+        assert_eq!((book.point, book.remainder, book.left), (Point::new(2, 0), 0, 1));
+        assert_eq!(book.run(3, 9, |_| ()), (Why::Spent, 3));
+        assert_eq!(book.run(9, 3, |_| ()), (Why::Full, 3));
+        book.hold();
+        assert_eq!(book.run(9, 3, |_| ()), (Why::Held, 0));
+        assert_eq!((book.remainder, book.left), (6_000, 1));
+    }
+
+    /// "at most one a tick" where a block waits too: the tick that ends one does nothing for the next, though its cycle could be paid.
+    #[test]
+    fn one_cycle_a_tick_into_a_waiting_block() {
+        let mut book = Book { remainder: 1_400 * 300_000, ..usual() };
+        for x in 1..=3 {
+            book.load(&line(x, 0, 300_000)).unwrap();
+        }
+        for x in 1..=3 {
+            assert_eq!((book.tick(), book.point, book.remainder), (49, Point::new(x, 0), 1_400 * 300_000));
+        }
+        assert_eq!((book.tick(), book.left), (0, 0));
+    }
+
+    /// "Stop empties the queue": the mark and the point stay.
+    #[test]
+    fn stop_with_blocks_waiting() {
+        let mut book = usual();
+        for x in [3, 0, 3] {
+            book.load(&line(x, 0, 200_000)).unwrap();
+        }
+        book.run(3, 3, |_| ());
+        book.hold();
+        assert_eq!((book.point, book.left, book.waiting.len()), (Point::new(2, 0), 7, 2));
+        book.stop();
+        assert_eq!((book.point, book.held, book.remainder, book.left), (Point::new(2, 0), true, 0, 0));
+        assert!(book.block.is_none() && book.waiting.is_empty());
+        assert_eq!(book.load(&line(2, 0, 1)), Err(13));
     }
 
     /// "From (0, 0), I 0, J 5, kind 3, to (0, 10): upper X bound 5 accepted, 14 cycles; bound 4
@@ -353,11 +512,11 @@ mod tests {
     #[test]
     fn travel_is_tried_at_every_visited_point() {
         let half = arc(3, 0, 10, 300_000, 0, 5);
-        let mut book = Book::make(Settings { x_upper: 5, ..USUAL }).0;
+        let mut book = Book::make(Level::Three, Settings { x_upper: 5, ..USUAL }).0;
         assert_eq!(book.load(&half), Ok(3));
         assert_eq!(bytes(&mut book).into_iter().filter(|byte| byte & 16 != 0).count(), 14);
         assert_eq!(book.point, Point::new(0, 10));
-        assert_eq!(Book::make(Settings { x_upper: 4, ..USUAL }).0.load(&half), Err(16));
+        assert_eq!(Book::make(Level::Three, Settings { x_upper: 4, ..USUAL }).0.load(&half), Err(16));
     }
 
     /// "f equal to q0 accepted; q0 + 1 gives 11."

@@ -5,6 +5,7 @@ use std::str::Split;
 
 use crate::arc::Kind;
 use crate::book::Load;
+use crate::level::Level;
 use crate::point::Point;
 use crate::settings::Settings;
 use crate::sound::{Record, Work};
@@ -68,8 +69,12 @@ impl<'a> Fields<'a> {
         })
     }
 
-    pub fn record(&mut self) -> Option<Record> {
-        Some(Record { settings: self.settings()?, point: self.point()?, held: self.mark()?, remainder: self.u64()?, work: self.work()? })
+    pub fn record(&mut self, level: Level) -> Option<Record> {
+        let (settings, point, held, remainder, work) = (self.settings()?, self.point()?, self.mark()?, self.u64()?, self.work()?);
+        let (left, waiting) = if level == Level::Three { (self.u64()?, self.u64()?) } else { (0, 0) };
+        // One that says more than sixteen has sixteen.
+        let blocks = (0..waiting.min(level.most_waiting() as u64)).map(|_| self.load()).collect::<Option<_>>()?;
+        Some(Record { level, settings, point, held, remainder, work, left, waiting, blocks })
     }
 
     fn work(&mut self) -> Option<Work> {
@@ -112,10 +117,24 @@ impl fmt::Display for Work {
     }
 }
 
+impl fmt::Display for Load {
+    fn fmt(&self, out: &mut fmt::Formatter) -> fmt::Result {
+        match self {
+            Load::Line { end, f } => write!(out, "L {end} {f}"),
+            Load::Arc { kind, end, f, i, j } => write!(out, "A {} {end} {f} {i} {j}", kind.number()),
+        }
+    }
+}
+
 impl fmt::Display for Record {
     fn fmt(&self, out: &mut fmt::Formatter) -> fmt::Result {
-        let Record { settings, point, held, remainder, work } = self;
-        write!(out, "{settings} {point} {} {remainder} {work}", u8::from(*held))
+        let Record { level, settings, point, held, remainder, work, left, waiting, blocks } = self;
+        write!(out, "{settings} {point} {} {remainder} {work}", u8::from(*held))?;
+        if *level == Level::Two {
+            return Ok(());
+        }
+        write!(out, " {left} {waiting}")?;
+        blocks.iter().try_for_each(|block| write!(out, " {block}"))
     }
 }
 

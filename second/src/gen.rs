@@ -1,47 +1,62 @@
 //! Made-up call files. The generator keeps a machine of its own beside, so that loads begin where the
-//! machine stands and runs stop at, just before and just after the block's end.
+//! last block will end and runs stop at, just before and just after the block's end. Level 3 stands ahead of the core (level.rs): what
+//! it adds draws no chance at level 2, whose histories are compared with the core and stay as they are.
 
 use std::io::{self, Write};
 
 use crate::ahead::MOST_TICKS;
-use crate::arc::{is_circle_point, Circle, Kind, LARGEST_N};
-use crate::book::{Book, Load};
+use crate::arc::{self, is_circle_point, Circle, Kind, LARGEST_N};
+use crate::book::{Block, Book, Load};
 use crate::calls::{Call, Runner};
 use crate::charge::{self, DIAGONAL, LINE_CYCLE, PAID_PER_FEED, STRAIGHT};
 use crate::gen_jobs;
 use crate::job::Reader;
+use crate::level::Level;
 use crate::line;
 use crate::point::{Point, ORIGIN};
 use crate::rng::Rng;
 use crate::root::root_up;
 use crate::settings::{Settings, USUAL};
-use crate::sound::{Record, Work};
+use crate::sound::{without_queue, Record, Work};
 
-/// The level of call files that these are written for: that of the charges.
-const LEVEL: u32 = 2;
-
-pub fn write_calls(seed: u64, count: u64, out: &mut impl Write) -> io::Result<()> {
-    writeln!(out, "# level {LEVEL}")?;
+pub fn write_calls(level: Level, seed: u64, count: u64, out: &mut impl Write) -> io::Result<()> {
+    writeln!(out, "# level {}", level.number())?;
     for index in 0..count {
         writeln!(out, "# history {index} of seed {seed}")?;
-        for call in history(seed, index) {
+        for call in history(level, seed, index) {
             writeln!(out, "{call}")?;
         }
     }
     Ok(())
 }
 
-/// One history: a make or a made-up record, then up to 40 calls.
-pub fn history(seed: u64, index: u64) -> Vec<Call> {
+/// How the sender keeps up with the knife: in time, so that few blocks wait, or ahead of it, so that all sixteen places fill up; with
+/// blocks of all sizes or with short and quick ones, so that looks come to the end of all. At level 2 none is ahead.
+#[derive(Clone, Copy, PartialEq, Eq)]
+enum Sender {
+    InTime,
+    Ahead,
+    AheadWithShort,
+}
+
+/// One history: a make or a made-up record, then up to 40 calls, or 60 where the sender is ahead.
+pub fn history(level: Level, seed: u64, index: u64) -> Vec<Call> {
     let rng = &mut Rng::new(seed, index);
-    let first = if rng.percent(70) { Call::Make(settings(rng)) } else { Call::Record(record(rng)) };
-    let mut runner = Runner::fresh();
+    let first = if rng.percent(70) { Call::Make(settings(rng)) } else { Call::Record(record(rng, level)) };
+    let mut runner = Runner::fresh(level);
     runner.answer(&first);
     let mut calls = vec![first];
-    for _ in 0..rng.between(2, 40) {
+    let sender = match level {
+        Level::Two => Sender::InTime,
+        Level::Three => {
+            rng.one_of(&[Sender::InTime, Sender::InTime, Sender::InTime, Sender::Ahead, Sender::AheadWithShort], Sender::InTime)
+        }
+    };
+    let most = if sender == Sender::InTime { 40 } else { 60 };
+    for _ in 0..rng.between(2, most) {
         let call = match runner.machine.book() {
-            Some(book) => next_call(rng, book, &runner.known),
-            None => call_on_unsound(rng),
+            Some(book) => next_call(rng, sender, book, &runner.known),
+            None => call_on_unsound(rng, level),
         };
         // A look leaves the machine; its ticks need not be done here.
         if !matches!(call, Call::Ahead(_)) {
@@ -52,36 +67,45 @@ pub fn history(seed: u64, index: u64) -> Vec<Call> {
     calls
 }
 
-fn next_call(rng: &mut Rng, book: &Book, known: &Reader) -> Call {
+fn next_call(rng: &mut Rng, sender: Sender, book: &Book, known: &Reader) -> Call {
+    use Level::{Three, Two};
     let chance = rng.below(100);
-    if book.held && chance < 40 {
+    if book.held && chance < if book.level == Three { 30 } else { 40 } {
         return Call::Release;
     }
-    match (book.block.is_some(), chance) {
+    // One more where no more can wait is tried too, but not all the time.
+    let eager = if book.waiting.len() < book.level.most_waiting() { 75 } else { 25 };
+    if sender != Sender::InTime && book.block.is_some() && rng.percent(eager) {
+        let of_text = if sender == Sender::Ahead { 30 } else { 1 };
+        return if rng.percent(of_text) { Call::Text(text(rng, book, known)) } else { Call::Load(sent(rng, sender, book)) };
+    }
+    // At work loads and lines of text come more often where they can be accepted.
+    match (book.block.map(|_| book.level), chance) {
         (_, 0..=2) => Call::Hold,
         (_, 3..=4) => Call::Release,
-        (false, 5..=6) | (true, 5..=9) => Call::Stop,
-        (false, 7..=10) | (true, 10..=24) => Call::Tick,
-        (false, 11..=14) | (true, 25..=64) => run(rng, book),
-        (false, 15..=16) | (true, 65..=76) => Call::Ahead(ticks_ahead(rng, book)),
-        (false, 17..=18) | (true, 77..=88) => Call::Jump(ticks_ahead(rng, book)),
-        (false, 19..=58) | (true, 89..=94) => Call::Load(load(rng, book)),
-        (true, _) | (false, 59..=97) => Call::Text(text(rng, book, known)),
-        (false, 98) => Call::Make(settings(rng)),
-        (false, _) => Call::Record(record(rng)),
+        (None, 5..=6) | (Some(Two), 5..=9) | (Some(Three), 5..=7) => Call::Stop,
+        (None, 7..=10) | (Some(Two), 10..=24) | (Some(Three), 8..=20) => Call::Tick,
+        (None, 11..=14) | (Some(Two), 25..=64) | (Some(Three), 21..=54) => run(rng, book),
+        (None, 15..=16) | (Some(Two), 65..=76) | (Some(Three), 55..=66) => Call::Ahead(ticks_ahead(rng, book)),
+        (None, 17..=18) | (Some(Two), 77..=88) | (Some(Three), 67..=78) => Call::Jump(ticks_ahead(rng, book)),
+        (None, 19..=58) | (Some(Two), 89..=94) | (Some(Three), 79..=90) => Call::Load(sent(rng, sender, book)),
+        (None, 59..=97) | (Some(_), _) => Call::Text(text(rng, book, known)),
+        (None, 98) => Call::Make(settings(rng)),
+        (None, _) => Call::Record(record(rng, book.level)),
     }
 }
 
 /// A line of a job text for this machine, at times damaged, in the bytes that a call file may have.
 fn text(rng: &mut Rng, book: &Book, known: &Reader) -> String {
-    let mut line = gen_jobs::line(rng, known, book);
+    let at = start(rng, book);
+    let mut line = gen_jobs::line(rng, known, &book.settings, at);
     if rng.percent(35) {
         gen_jobs::damage(rng, &mut line);
     }
     line.into_iter().filter(|byte| (32..=126).contains(byte)).map(char::from).collect()
 }
 
-fn call_on_unsound(rng: &mut Rng) -> Call {
+fn call_on_unsound(rng: &mut Rng, level: Level) -> Call {
     match rng.below(17) {
         0 => Call::Tick,
         1 => Call::Hold,
@@ -91,7 +115,7 @@ fn call_on_unsound(rng: &mut Rng) -> Call {
         5 => Call::Load(Load::Line { end: Point::new(1, 0), f: rng.below(3) }),
         6 => Call::Load(Load::Arc { kind: kind(rng), end: ORIGIN, f: 1, i: 1, j: 0 }),
         7..=8 => Call::Text(rng.one_of(&["G1 X1 F100", "", "N1", "G9", "?"], "X1").to_string()),
-        9..=11 => Call::Record(record(rng)),
+        9..=11 => Call::Record(record(rng, level)),
         12..=13 => Call::Ahead(rng.one_of(&TICKS_AHEAD, 0)),
         14 => Call::Jump(rng.one_of(&TICKS_AHEAD, 0)),
         _ => Call::Make(settings(rng)),
@@ -224,14 +248,31 @@ fn to_the_end(book: &Book) -> u64 {
     u64::try_from(book.ticks_to_the_end()).unwrap_or(u64::MAX)
 }
 
-/// How far to look: not at all, some ticks, into the block, about its end, about the most there may be. Every tick of a look is done, so
+/// The working ticks to the end of the block in work and of each that waits.
+fn to_the_ends(book: &Book) -> Vec<u64> {
+    let (mut copy, mut all, mut ends) = (book.clone(), 0, Vec::new());
+    while copy.block.is_some() {
+        all += copy.finish_at_once();
+        ends.push(u64::try_from(all).unwrap_or(u64::MAX));
+    }
+    ends
+}
+
+/// How far to look: not at all, some ticks, into a block, about an end, about the most there may be. Every tick of a look is done, so
 /// that long ones are seldom.
 fn ticks_ahead(rng: &mut Rng, book: &Book) -> u64 {
-    let end = to_the_end(book);
+    let queued = book.level == Level::Three;
+    let ends = to_the_ends(book);
+    let end = match if queued { rng.below(10) } else { 0 } {
+        0..=3 => ends.first().copied().unwrap_or(0),
+        4..=6 => ends.last().copied().unwrap_or(0),
+        _ => rng.one_of(&ends, 0),
+    };
     let near = if end < 6_000 || rng.percent(3) { end } else { rng.below(6_000) };
     match rng.below(1_000) {
         0..=79 => 0,
         80..=179 => 1,
+        280..=379 if queued => near.saturating_add(rng.below(60)),
         180..=379 => 1 + rng.below(20),
         380..=679 => rng.below(near.saturating_add(2)),
         680..=769 => near,
@@ -264,19 +305,48 @@ fn run(rng: &mut Rng, book: &Book) -> Call {
     Call::Run { budget, length: length.min(longest), fill: rng.one_of(&[0, 255, 170, 16, 48], 1) }
 }
 
-fn load(rng: &mut Rng, book: &Book) -> Load {
-    let f = feed(rng, book.settings.q0());
-    if rng.percent(45) {
-        Load::Line { end: line_end(rng, book), f }
-    } else {
-        arc_load(rng, book, f)
+/// Where a block is meant to start: mostly where it would, at times where it would not, at the point or at another block's end.
+fn start(rng: &mut Rng, book: &Book) -> Point {
+    match if book.level == Level::Three { rng.below(100) } else { 99 } {
+        0..=4 => book.point,
+        5..=7 => book.block.map_or(book.point, |block| block.end),
+        8 => book.waiting.get(rng.below(book.waiting.len() as u64) as usize).map_or(book.point, |block| block.end),
+        _ => book.place(),
     }
 }
 
+fn sent(rng: &mut Rng, sender: Sender, book: &Book) -> Load {
+    if sender == Sender::AheadWithShort && rng.percent(98) {
+        short_load(rng, book)
+    } else {
+        load(rng, book)
+    }
+}
+
+fn load(rng: &mut Rng, book: &Book) -> Load {
+    let (f, start) = (feed(rng, book.settings.q0()), start(rng, book));
+    if rng.percent(45) {
+        Load::Line { end: line_end(rng, &book.settings, start), f }
+    } else {
+        arc_load(rng, start, f)
+    }
+}
+
+/// A few cycles, about one a tick.
+fn short_load(rng: &mut Rng, book: &Book) -> Load {
+    let (q0, at) = (book.settings.q0(), book.place());
+    let f = rng.one_of(&[q0, q0, q0 - 1, q0 / 2, q0 / 3], q0);
+    let (i, j) = (rng.between(-3, 3), rng.between(-3, 3));
+    if (i, j) == (0, 0) || rng.percent(50) {
+        return Load::Line { end: into_travel(&book.settings, at.moved_by(Point::new(i, j))), f };
+    }
+    let (kind, start) = (kind(rng), Point::new(-i, -j));
+    let seen = if rng.percent(20) { start } else { steps_on(rng, i * i + j * j, kind, start) };
+    Load::Arc { kind, end: seen.seen_from(start).moved_by(at), f, i, j }
+}
+
 /// Lines in all directions: along an axis, diagonal, nearly so, worked ones, to the bounds, to nowhere.
-fn line_end(rng: &mut Rng, book: &Book) -> Point {
-    let at = book.point;
-    let settings = &book.settings;
+fn line_end(rng: &mut Rng, settings: &Settings, at: Point) -> Point {
     let long = size(rng);
     let (a, b) = match rng.below(16) {
         0 => (long, 0),
@@ -305,19 +375,22 @@ pub fn into_travel(settings: &Settings, at: Point) -> Point {
     Point::new(at.x.max(settings.x_lower).min(settings.x_upper), at.y.max(settings.y_lower).min(settings.y_upper))
 }
 
-fn arc_load(rng: &mut Rng, book: &Book, f: u64) -> Load {
+fn arc_load(rng: &mut Rng, at: Point, f: u64) -> Load {
     let kind = kind(rng);
     if rng.percent(2) {
-        let (i, j) = rng.one_of(&[(0, 0), (1_000_001, 0), (0, -1_000_001), (i64::MIN, i64::MAX), (1, 3_037_000_500)], (0, 0));
-        return Load::Arc { kind, end: book.point, f, i, j };
+        let (i, j) = rng.one_of(&NO_CENTRES, (0, 0));
+        return Load::Arc { kind, end: at, f, i, j };
     }
     let (i, j) = centre(rng);
     let n = i * i + j * j;
     let start = Point::new(-i, -j);
     let seen = arc_end(rng, n, kind, start);
-    let end = seen.moved_by(Point::new(i, j)).moved_by(book.point);
+    let end = seen.moved_by(Point::new(i, j)).moved_by(at);
     Load::Arc { kind, end, f, i, j }
 }
+
+/// (I, J) that question 14 refuses.
+const NO_CENTRES: [(i64, i64); 5] = [(0, 0), (1_000_001, 0), (0, -1_000_001), (i64::MIN, i64::MAX), (1, 3_037_000_500)];
 
 /// (I, J): along an axis, diagonal or any.
 fn centre(rng: &mut Rng) -> (i64, i64) {
@@ -403,16 +476,22 @@ pub fn point_at_the_ends_of_f(rng: &mut Rng, n: i64) -> Option<Point> {
 }
 
 /// A made-up record: a sound one as far as its arc stays in travel, or one with a number or two wrong.
-fn record(rng: &mut Rng) -> Record {
+pub fn record(rng: &mut Rng, level: Level) -> Record {
     let settings = sound_settings(rng);
-    let remainder = remainder(rng, settings.q0());
-    let idle = Record { settings, point: in_travel(rng, &settings), held: rng.percent(20), remainder, work: Work::Nothing };
+    let (remainder, point, held) = (remainder(rng, settings.q0()), in_travel(rng, &settings), rng.percent(20));
+    let idle = Record { level, settings, point, held, remainder, work: Work::Nothing, left: 0, waiting: 0, blocks: Vec::new() };
     let mut made = match rng.below(10) {
         0..=1 => idle,
         2..=5 => with_line(rng, idle),
         _ => with_arc(rng, idle),
     };
-    if rng.percent(40) {
+    if level == Level::Three {
+        if rng.percent(65) {
+            made = with_queue(rng, made);
+        }
+        made.left = counted(&made);
+    }
+    if rng.percent(if level == Level::Three { 45 } else { 40 }) {
         damage(rng, &mut made);
         if rng.percent(10) {
             damage(rng, &mut made);
@@ -499,15 +578,162 @@ fn with_arc(rng: &mut Rng, idle: Record) -> Record {
     Record { settings, remainder, work: Work::Arc { kind, centre, n: n.unsigned_abs(), end: end.moved_by(centre), f }, ..idle }
 }
 
-/// One number of the record off by one, or at an edge.
+/// Behind what is in work some blocks, or as many as there may be, each accepted from the end of the one before it.
+fn with_queue(rng: &mut Rng, made: Record) -> Record {
+    // A remainder beyond what is sound hinders no load.
+    let Some(mut book) = without_queue(&Record { remainder: 0, ..made.clone() }) else { return made };
+    let most = match rng.below(10) {
+        0..=3 => 1 + rng.below(3) as usize,
+        4..=6 => 1 + rng.below(16) as usize,
+        7 => book.level.most_waiting() - 1,
+        _ => book.level.most_waiting(),
+    };
+    for _ in 0..5 * most {
+        if book.block.is_none() || book.waiting.len() == most {
+            break;
+        }
+        let load = load(rng, &book);
+        let _ = book.load(&load);
+    }
+    made.with_blocks(book.waiting.iter().map(Block::given).collect())
+}
+
+/// The cycles still to do, counted afresh, of a record sound or not: what is no line and no arc has none.
+pub fn counted(record: &Record) -> u64 {
+    let (mut all, mut place) = match record.work {
+        Work::Nothing => (0, record.point),
+        Work::Line { start, end, c, .. } => (line_counted(start, end).saturating_sub(c), end),
+        Work::Arc { kind, centre, n, end, .. } => (arc_counted(n, kind, record.point.seen_from(centre), end.seen_from(centre)), end),
+    };
+    for block in &record.blocks {
+        all += match *block {
+            Load::Line { end, .. } => line_counted(place, end),
+            Load::Arc { kind, end, i, j, .. } => {
+                let centre = place.moved_by(Point::new(i, j));
+                let n = i.saturating_mul(i).saturating_add(j.saturating_mul(j));
+                arc_counted(n.unsigned_abs(), kind, place.seen_from(centre), end.seen_from(centre))
+            }
+        };
+        place = block.end();
+    }
+    all
+}
+
+/// None has more than four million pulses on an axis.
+fn line_counted(start: Point, end: Point) -> u64 {
+    if start.x.abs_diff(end.x).max(start.y.abs_diff(end.y)) > 4_000_000 {
+        return 0;
+    }
+    line::cycles(start, end)
+}
+
+fn arc_counted(n: u64, kind: Kind, here: Point, end: Point) -> u64 {
+    let n = i64::try_from(n).unwrap_or(0);
+    if !(1..=LARGEST_N).contains(&n) || !is_circle_point(n, here) || !is_circle_point(n, end) {
+        return 0;
+    }
+    arc::walk(n, kind, here, end, |_| ()).map_or(0, |told| told.cycles)
+}
+
+/// One number of the record off by one, or at an edge; or one thing wrong with what waits. The cycles still to do are then mostly those
+/// of what is there now, so that nothing else is wrong.
 fn damage(rng: &mut Rng, made: &mut Record) {
-    let at = rng.below(8);
-    match at {
+    // The last ones are of what waits.
+    let which = match made.level {
+        Level::Two => rng.below(8).min(6),
+        Level::Three if made.waiting > 0 && rng.percent(50) => 15,
+        Level::Three => rng.below(16),
+    };
+    match which {
         0 => hurt_settings(rng, &mut made.settings),
         1 => hurt(rng, &mut made.point.x),
         2 => hurt(rng, &mut made.point.y),
         3 => hurt_unsigned(rng, &mut made.remainder),
-        _ => hurt_work(rng, &mut made.work),
+        4..=6 => hurt_work(rng, &mut made.work),
+        7..=8 => return hurt_figure(rng, made),
+        9..=10 => *made = with_nothing_in_work(made),
+        11 if made.work != Work::Nothing => {
+            fill_up(made);
+            made.waiting = rng.one_of(&[17, 17, 17, 18, 32, (1 << 32) + 16, u64::MAX], 17);
+        }
+        _ => hurt_queue(rng, made),
+    }
+    if made.level == Level::Three && rng.percent(85) {
+        made.left = counted(made);
+    }
+}
+
+/// The figure off by one or at an edge; that of the block in work alone, or of those that wait alone; too great for so many bits.
+fn hurt_figure(rng: &mut Rng, made: &mut Record) {
+    let in_work = counted(&made.clone().with_blocks(Vec::new()));
+    made.left = match rng.below(8) {
+        0..=1 => made.left.saturating_add(1),
+        2..=3 => made.left.saturating_sub(1),
+        4 => in_work,
+        5 => made.left.saturating_sub(in_work),
+        6 => made.left | rng.one_of(&[1 << 32, 1 << 63], 0),
+        _ => unsigned_edge(rng),
+    };
+}
+
+/// "none waiting when nothing is in work": all would be accepted in turn from where the machine stands.
+fn with_nothing_in_work(made: &Record) -> Record {
+    let point = match made.work {
+        Work::Nothing => made.point,
+        Work::Line { end, .. } | Work::Arc { end, .. } => end,
+    };
+    Record { point, work: Work::Nothing, ..made.clone() }
+}
+
+/// Where the first so many of those that wait end.
+fn place_behind(made: &Record, count: usize) -> Point {
+    let last = count.checked_sub(1).and_then(|at| made.blocks.get(at));
+    last.map_or(with_nothing_in_work(made).point, Load::end)
+}
+
+/// Lines to and fro in the places that are left.
+fn fill_up(made: &mut Record) {
+    let (there, f) = (place_behind(made, made.blocks.len()), made.settings.q0());
+    let beside = Point::new(if there.x < made.settings.x_upper { there.x + 1 } else { there.x.saturating_sub(1) }, there.y);
+    let ends = [beside, there].into_iter().cycle().take(made.level.most_waiting().saturating_sub(made.blocks.len()));
+    made.blocks.extend(ends.map(|end| Load::Line { end, f }));
+}
+
+/// Something wrong with one of those that wait, or two of them in the wrong order.
+fn hurt_queue(rng: &mut Rng, made: &mut Record) {
+    let count = made.blocks.len();
+    let at = rng.below(count as u64) as usize;
+    let (start, point, q0) = (place_behind(made, at), made.point, made.settings.q0());
+    match rng.below(9) {
+        0 if count > 1 => made.blocks.swap(at, (at + 1) % count),
+        1 => made.blocks.get_mut(at).into_iter().for_each(|block| *block = out_of_travel(&made.settings, start, q0)),
+        _ => made.blocks.get_mut(at).into_iter().for_each(|block| hurt_block(rng, block, start, point, q0)),
+    }
+}
+
+/// A full turn that leaves the travel at the bound nearest to its start, if a turn that small is there.
+fn out_of_travel(settings: &Settings, start: Point, f: u64) -> Load {
+    let room = [start.x.abs_diff(settings.x_lower), start.x.abs_diff(settings.x_upper)].map(|room| room.clamp(1, 20_000) as i64);
+    let i = if room[0] < room[1] { -room[0] } else { room[1] };
+    Load::Arc { kind: Kind::OtherWay, end: start, f, i, j: 0 }
+}
+
+/// One thing wrong with a block that starts here.
+fn hurt_block(rng: &mut Rng, block: &mut Load, start: Point, point: Point, q0: u64) {
+    let which = rng.below(10);
+    match block {
+        Load::Line { f, .. } | Load::Arc { f, .. } if which == 0 => *f = rng.one_of(&[0, q0.saturating_add(1), u64::MAX, 1 << 63], 0),
+        Load::Line { end, .. } | Load::Arc { end, .. } if which == 1 => hurt(rng, &mut end.x),
+        Load::Line { end, .. } | Load::Arc { end, .. } if which == 2 => hurt(rng, &mut end.y),
+        // To where it starts: a line only where it would start at the point.
+        Load::Line { end, .. } if which < 8 => *end = start,
+        // As it would be if it started at the point.
+        Load::Line { end, .. } => *end = end.seen_from(start).moved_by(point),
+        Load::Arc { end, .. } if which < 5 => *end = end.seen_from(start).moved_by(point),
+        Load::Arc { kind, .. } if which == 5 => *kind = if *kind == Kind::Clockwise { Kind::OtherWay } else { Kind::Clockwise },
+        Load::Arc { i, .. } if which == 6 => hurt(rng, i),
+        Load::Arc { j, .. } if which == 7 => hurt(rng, j),
+        Load::Arc { i, j, .. } => (*i, *j) = rng.one_of(&NO_CENTRES, (0, 0)),
     }
 }
 
@@ -564,22 +790,35 @@ fn hurt_unsigned(rng: &mut Rng, number: &mut u64) {
 #[cfg(test)]
 mod tests {
     use super::*;
-    use crate::book::{Block, Path};
+    use crate::book::Path;
     use crate::sound::book_of;
     use std::collections::HashMap;
     use std::sync::OnceLock;
 
-    /// Which counts a call goes into: that of all, those of what is left over, and those of lines of text and of looks by where they
-    /// are asked.
+    /// Which counts a call goes into: that of all, those of what is left over, and those of loads, lines of text, runs and looks by where
+    /// they are asked.
     fn counts(call: &Call, runner: &Runner) -> Vec<&'static str> {
         let mut all = vec!["any"];
         all.extend(runner.machine.book().into_iter().flat_map(counts_of_remainder));
+        let waiting = runner.machine.book().map_or(0, |book| book.waiting.len());
+        let full = runner.machine.book().is_some_and(|book| waiting == book.level.most_waiting());
         match (call, runner.machine.book()) {
             (Call::Text(_), book) => {
                 all.push("text");
                 all.extend(book.filter(|book| book.settings.p != 50).map(|_| "text at another p"));
-                all.extend(book.filter(|book| book.block.is_some()).map(|_| "text at work"));
+                all.extend(book.filter(|book| book.block.is_some()).map(|_| if full { "text, full" } else { "text at work" }));
             }
+            (Call::Load(load), Some(book)) if book.block.is_some() => {
+                all.push(if full { "load, full" } else { "load at work" });
+                all.extend((waiting == 15).then_some("load to the last place"));
+                all.extend((load.end() == book.point && load.end() != book.place()).then_some("load to the point"));
+                all.extend((load.end() == book.place() && load.end() != book.point).then_some("load to the place"));
+                all.extend(book.held.then_some("load, held"));
+            }
+            (Call::Run { .. }, Some(_)) if waiting > 0 => all.push("run, waiting"),
+            (Call::Tick, Some(_)) if waiting > 0 => all.push("tick, waiting"),
+            (Call::Stop, Some(_)) if waiting > 0 => all.push("stop, waiting"),
+            (Call::Hold, Some(_)) if waiting > 0 => all.push("hold, waiting"),
             (Call::Ahead(_), None) => all.push("ahead of an unsound record"),
             (Call::Jump(_), None) => all.push("jump of an unsound record"),
             (Call::Ahead(ticks), Some(book)) => all.extend(["ahead"].into_iter().chain(counts_of_look(book, *ticks))),
@@ -630,29 +869,41 @@ mod tests {
             u64::MAX => "of the greatest number",
             _ => "of some",
         };
-        let end = to_the_end(book);
-        let near = match (book.block.is_some() && !book.held).then(|| end.abs_diff(ticks)) {
-            Some(0) => "to the end",
-            Some(1) if ticks < end => "to just before the end",
-            Some(1) => "to just after the end",
+        let ends = if book.held { Vec::new() } else { to_the_ends(book) };
+        let near = match ends.iter().copied().min_by_key(|end| end.abs_diff(ticks)) {
+            Some(end) if end == ticks => "to an end",
+            Some(end) if end.abs_diff(ticks) == 1 && ticks < end => "to just before an end",
+            Some(end) if end.abs_diff(ticks) == 1 => "to just after an end",
             _ => "to elsewhere",
         };
-        vec![from, far, near]
+        let through = match ends.iter().filter(|&&end| end <= ticks).count() {
+            0 => "through no end",
+            1 if ends.len() > 1 => "through one end",
+            1 => "through the one end",
+            many if many < ends.len() => "through many ends",
+            17 => "through seventeen ends",
+            _ => "through all ends",
+        };
+        vec![from, far, near, through]
     }
+
+    const LEVELS: [Level; 2] = [Level::Two, Level::Three];
 
     type Met = HashMap<(&'static str, String), u64>;
 
-    fn met() -> &'static Met {
-        static MET: OnceLock<Met> = OnceLock::new();
-        MET.get_or_init(meet)
+    /// How often each answer turns up in each count.
+    fn times_at(level: Level) -> impl Fn(&'static str, &str) -> u64 {
+        static MET: [OnceLock<Met>; 2] = [const { OnceLock::new() }; 2];
+        let met = MET[usize::from(level == Level::Three)].get_or_init(|| meet(level));
+        |count, key| met.get(&(count, key.to_string())).copied().unwrap_or(0)
     }
 
-    /// How often each answer turns up in each count, by its first word, a refusal by its number too.
-    fn meet() -> Met {
+    /// By its first word, a refusal by its number too.
+    fn meet(level: Level) -> Met {
         let mut met = HashMap::new();
         for index in 0..3_000 {
-            let mut runner = Runner::fresh();
-            for call in history(1, index) {
+            let mut runner = Runner::fresh(level);
+            for call in history(level, 1, index) {
                 let counts = counts(&call, &runner);
                 let told = runner.answer(&call);
                 let mut words = told.split(' ').skip(1);
@@ -666,107 +917,209 @@ mod tests {
     }
 
     /// Every answer of the paper turns up in a modest number of histories; a line of text meets its own questions and load's but
-    /// 13, at a p other than 50 too, and at a machine at work those that stand before 10.
+    /// 13, at a p other than 50 too.
     #[test]
     fn histories_meet_every_answer() {
-        let met = met();
-        let times = |count, key: &str| met.get(&(count, key.to_string())).copied().unwrap_or(0);
-        for number in [1, 2, 3, 9, 10, 11, 12, 13, 14, 15, 16].map(|n| format!("refused {n}")) {
-            assert!(times("any", &number) > 20, "{number}");
+        for times in LEVELS.map(times_at) {
+            for number in [1, 2, 3, 9, 10, 11, 12, 13, 14, 15, 16].map(|n| format!("refused {n}")) {
+                assert!(times("any", &number) > 20, "{number}");
+            }
+            for word in ["made", "set", "bits", "none", "byte", "done", "idle", "held", "ended", "spent", "full"] {
+                assert!(times("any", word) > 20, "{word}");
+            }
+            for number in
+                (31..=37).chain([10, 11, 12, 14, 15, 16]).map(|n| format!("refused {n}")).chain(["bits".to_string(), "none".to_string()])
+            {
+                assert!(times("text", &number) > 20 && times("text at another p", &number) > 10, "{number}");
+            }
+            assert!(times("text", "refused 9") > 20);
+            assert_eq!((times("text", "refused 13"), times("text, full", "bits"), times("any", "refused 0")), (0, 0, 0));
+            assert_eq!(times("text at work", "refused 10"), 0);
         }
-        for word in ["made", "set", "bits", "none", "byte", "done", "idle", "held", "ended", "spent", "full"] {
-            assert!(times("any", word) > 20, "{word}");
-        }
-        for number in
-            (31..=37).chain([10, 11, 12, 14, 15, 16]).map(|n| format!("refused {n}")).chain(["bits".to_string(), "none".to_string()])
-        {
-            assert!(times("text", &number) > 20 && times("text at another p", &number) > 10, "{number}");
-        }
+    }
+
+    /// Lines of text at a machine at work: where no more can wait, which at level 2 is always, they meet those that stand before 10, and
+    /// else load's too.
+    #[test]
+    fn histories_hold_text_at_work() {
+        let times = times_at(Level::Two);
         for number in (31..=37).chain([10]).map(|n| format!("refused {n}")) {
-            assert!(times("text at work", &number) > 3, "{number}");
+            assert!(times("text, full", &number) > 3, "{number}");
         }
-        assert!(times("text", "refused 9") > 20 && times("text at work", "none") > 3);
-        assert_eq!((times("text", "refused 13"), times("text at work", "bits"), times("any", "refused 0")), (0, 0, 0));
+        assert!(times("text, full", "none") > 3);
+        let times = times_at(Level::Three);
+        for number in [10, 31, 32, 33, 35].map(|n| format!("refused {n}")) {
+            assert!(times("text, full", &number) > 10, "{number}");
+        }
+        for number in (31..=37).chain([11, 12, 14, 15, 16]).map(|n| format!("refused {n}")) {
+            assert!(times("text at work", &number) > 10, "{number}");
+        }
+        assert!(times("text at work", "none") > 100 && times("text, full", "none") > 20 && times("text at work", "bits") > 1_000);
+    }
+
+    /// Loads behind a block in work, up to the sixteenth that waits and beyond; every other call with blocks waiting.
+    #[test]
+    fn histories_hold_queues() {
+        let times = times_at(Level::Three);
+        for number in (11..=16).map(|n| format!("refused {n}")).chain(["bits".to_string()]) {
+            assert!(times("load at work", &number) > 100, "{number}");
+        }
+        assert!(times("load, full", "refused 10") > 500 && times("load to the last place", "bits") > 100);
+        assert_eq!(times("load at work", "refused 10"), 0);
+        assert!((11..=16).all(|n| times("load, full", &format!("refused {n}")) == 0));
+        assert!(times("load to the point", "bits") > 50 && times("load to the place", "refused 13") > 50);
+        assert!(times("load, held", "bits") > 100 && times("load, held", "refused 10") > 20);
+        for word in ["ended", "spent", "full", "held"] {
+            assert!(times("run, waiting", word) > 100, "{word}");
+        }
+        assert!(times("tick, waiting", "byte") > 500 && times("stop, waiting", "done") > 100 && times("hold, waiting", "done") > 100);
     }
 
     /// Looks and jumps from everywhere and of every length, refused ones too.
     #[test]
     fn histories_hold_every_look() {
-        let met = met();
-        let times = |count, key: &str| met.get(&(count, key.to_string())).copied().unwrap_or(0);
-        for count in ["ahead", "jump", "from idle", "from held", "at a slow feed", "on a line", "on an arc"] {
-            assert!(times(count, "ahead") > 50 && times(count, "refused 38") > 20, "{count}");
+        for times in LEVELS.map(times_at) {
+            for count in ["ahead", "jump", "from idle", "from held", "at a slow feed", "on a line", "on an arc"] {
+                assert!(times(count, "ahead") > 50 && times(count, "refused 38") > 20, "{count}");
+            }
+            for count in ["of none", "of one", "of some", "to an end", "to just before an end", "to just after an end"] {
+                assert!(times(count, "ahead") > 100, "{count}");
+            }
+            assert!(times("of one less than the most", "ahead") > 2 && times("of the most", "ahead") > 5);
+            assert!(times("of one too many", "refused 38") > 100 && times("of the greatest number", "refused 38") > 50);
+            assert!(times("ahead of an unsound record", "refused 9") > 50 && times("jump of an unsound record", "refused 9") > 20);
         }
-        for count in ["of none", "of one", "of some", "to the end", "to just before the end", "to just after the end"] {
+        let times = times_at(Level::Three);
+        for count in ["through no end", "through one end", "through the one end", "through many ends", "through all ends"] {
             assert!(times(count, "ahead") > 100, "{count}");
         }
-        assert!(times("of one less than the most", "ahead") > 2 && times("of the most", "ahead") > 5);
-        assert!(times("of one too many", "refused 38") > 100 && times("of the greatest number", "refused 38") > 50);
-        assert!(times("ahead of an unsound record", "refused 9") > 50 && times("jump of an unsound record", "refused 9") > 20);
+        assert!(times("through seventeen ends", "ahead") > 20);
     }
 
     /// Calls of all kinds where more is left over than a straight step is charged, and where a diagonal one is just due or just not.
     #[test]
     fn histories_hold_what_is_left_over() {
-        let met = met();
-        let times = |count, key: &str| met.get(&(count, key.to_string())).copied().unwrap_or(0);
-        for count in ["much left over, on a line", "much left over, on an arc"] {
-            for word in ["byte", "ended", "spent", "full", "ahead"] {
-                assert!(times(count, word) > 10, "{count} {word}");
+        for (times, loaded) in LEVELS.map(times_at).into_iter().zip(["refused 10", "bits"]) {
+            for count in ["much left over, on a line", "much left over, on an arc"] {
+                for word in ["byte", "ended", "spent", "full", "ahead", "done", loaded] {
+                    assert!(times(count, word) > 10, "{count} {word}");
+                }
             }
-            assert!(times(count, "done") > 10 && times(count, "refused 10") > 10, "{count}");
+            assert!(times("much left over, idle", "bits") > 50 && times("much left over, idle", "done") > 5);
+            for count in ["a diagonal step just due", "a diagonal step one short of due"] {
+                let ticking = ["byte", "ended", "spent", "full", "ahead"].map(|word| times(count, word));
+                assert!(ticking.iter().sum::<u64>() > 10, "{count} {ticking:?}");
+            }
         }
-        assert!(times("much left over, idle", "bits") > 50 && times("much left over, idle", "done") > 5);
-        for count in ["a diagonal step just due", "a diagonal step one short of due"] {
-            let ticking = ["byte", "ended", "spent", "full", "ahead"].map(|word| times(count, word));
-            assert!(ticking.iter().sum::<u64>() > 10, "{count} {ticking:?}");
-        }
+    }
+
+    /// Made-up records but for those on great circles, whose walks take long.
+    fn records(level: Level, seed: u64, count: u64) -> impl Iterator<Item = Record> {
+        let all = (0..count).map(move |index| record(&mut Rng::new(seed, index), level));
+        all.filter(|record| !matches!(record.work, Work::Arc { n, .. } if n > 10_000_000_000))
     }
 
     /// Made-up remainders of every size, with nothing, a line and an arc in work: sound below what a straight step is charged and from
     /// there on, and beyond, where 9 is answered for that alone.
     #[test]
     fn made_up_remainders() {
-        let mut met: HashMap<(&str, &str), u64> = HashMap::new();
-        let records = (0..3_000).flat_map(|index| history(1, index)).filter_map(|call| match call {
-            Call::Record(record) => Some(record),
-            _ => None,
-        });
-        // What else may be wrong with a record is not counted.
-        for record in records.filter(|&record| book_of(&Record { remainder: 0, ..record }).is_some()) {
-            let work = match record.work {
-                Work::Nothing => "idle",
-                Work::Line { .. } => "line",
-                Work::Arc { .. } => "arc",
-            };
-            let q0 = record.settings.q0();
-            let size = match record.remainder {
-                small if small < 1_000 * q0 => "small",
-                great if great < 1_414 * q0 => "great",
-                _ => "beyond",
-            };
-            assert_eq!(size != "beyond", book_of(&record).is_some());
-            *met.entry((work, size)).or_default() += 1;
+        for level in LEVELS {
+            let mut met: HashMap<(&str, &str), u64> = HashMap::new();
+            // What else may be wrong with a record is not counted.
+            for record in records(level, 8, 2_500).filter(|record| book_of(&Record { remainder: 0, ..record.clone() }).is_some()) {
+                let work = match record.work {
+                    Work::Nothing => "idle",
+                    Work::Line { .. } => "line",
+                    Work::Arc { .. } => "arc",
+                };
+                let q0 = record.settings.q0();
+                let size = match record.remainder {
+                    small if small < 1_000 * q0 => "small",
+                    great if great < 1_414 * q0 => "great",
+                    _ => "beyond",
+                };
+                assert_eq!(size != "beyond", book_of(&record).is_some());
+                *met.entry((work, size)).or_default() += 1;
+            }
+            println!("{met:?}");
+            for work in ["idle", "line", "arc"] {
+                assert!(["small", "great"].iter().all(|size| met[&(work, *size)] > 30) && met[&(work, "beyond")] > 10, "{work}");
+            }
         }
-        println!("{met:?}");
-        for work in ["idle", "line", "arc"] {
-            assert!(["small", "great"].iter().all(|size| met[&(work, *size)] > 30) && met[&(work, "beyond")] > 10, "{work}");
+    }
+
+    /// What is wrong with a made-up record's waiting blocks or figure alone, none where nothing is, and "else" where something else is.
+    fn fault(record: &Record) -> Option<String> {
+        if book_of(record).is_some() {
+            return None;
         }
+        let figure_right = record.left == counted(record);
+        let Some(mut book) = without_queue(record) else { return Some("else".to_string()) };
+        let (idle, places) = (book.block.is_none(), record.waiting <= 16);
+        let mut refused = None;
+        for load in &record.blocks {
+            let at_the_point = Book::opened(book.level, book.settings, record.point, false, 0, None).load(load).is_ok();
+            refused =
+                refused.or(book.load(load).err().map(|number| format!("{number}{}", if at_the_point { ", not at the point" } else { "" })));
+        }
+        Some(match (refused, figure_right) {
+            (None, true) if !places => "more than sixteen".to_string(),
+            (None, true) if idle => "behind nothing".to_string(),
+            (None, false) if idle && record.waiting == 0 => "figure of nothing".to_string(),
+            (None, false) if places && !idle => match record.left.abs_diff(counted(record)) {
+                1 if record.waiting > 0 => "figure off by one, waiting".to_string(),
+                1 => "figure off by one".to_string(),
+                _ => "figure".to_string(),
+            },
+            // Where a seventeenth is refused, the first sixteen are not.
+            (Some(number), true) if places && !idle => number,
+            _ => "else".to_string(),
+        })
+    }
+
+    /// Made-up queues: sound ones of every length, and ones with each single fault.
+    #[test]
+    fn made_up_queues() {
+        let (mut sound, mut faults) = ([0; 17], HashMap::<String, u64>::new());
+        for record in records(Level::Three, 9, 3_000) {
+            match fault(&record) {
+                None => sound[record.blocks.len()] += 1,
+                Some(fault) => *faults.entry(fault).or_default() += 1,
+            }
+        }
+        println!("{sound:?} {faults:?}");
+        let times = |fault: &str| faults.get(fault).copied().unwrap_or(0);
+        assert!(sound.iter().all(|&times| times > 5) && sound[15] > 50 && sound[16] > 100);
+        for fault in
+            ["more than sixteen", "behind nothing", "figure of nothing", "figure", "figure off by one", "figure off by one, waiting"]
+        {
+            assert!(times(fault) > 10, "{fault}");
+        }
+        for number in 11..=16 {
+            let (all, beside) = (number.to_string(), format!("{number}, not at the point"));
+            assert!(times(&all) + times(&beside) > 8, "{number}");
+        }
+        assert!(times("13, not at the point") > 30 && times("15, not at the point") > 5);
     }
 
     /// What is generated says of which level it is.
     #[test]
     fn the_level_stands_first() {
-        let mut out = Vec::new();
-        write_calls(1, 2, &mut out).unwrap();
-        let text = String::from_utf8(out).unwrap();
-        assert!(text.starts_with("# level 2\n# history 0 of seed 1\n> "));
-        assert_eq!(text.matches("# level").count(), 1);
+        for level in LEVELS {
+            let mut out = Vec::new();
+            write_calls(level, 1, 2, &mut out).unwrap();
+            let text = String::from_utf8(out).unwrap();
+            assert!(text.starts_with(&format!("# level {}\n# history 0 of seed 1\n> ", level.number())));
+            assert!(text.lines().next().is_some_and(|first| Level::of_file(first.as_bytes()) == level));
+            assert_eq!(text.matches("# level").count(), 1);
+        }
     }
 
     #[test]
     fn the_same_seed_gives_the_same() {
-        assert_eq!(history(5, 9), history(5, 9));
-        assert_ne!(history(5, 9), history(6, 9));
+        for level in LEVELS {
+            assert_eq!(history(level, 5, 9), history(level, 5, 9));
+            assert_ne!(history(level, 5, 9), history(level, 6, 9));
+        }
     }
 }

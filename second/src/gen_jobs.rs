@@ -6,6 +6,7 @@ use std::ops::Range;
 use crate::book::Book;
 use crate::gen::{any_in_travel, circle_point, hurt_settings, into_travel, point_at_the_ends_of_f, turned};
 use crate::job::Reader;
+use crate::level::Level;
 use crate::point::{Point, ORIGIN};
 use crate::rng::Rng;
 use crate::settings::{Settings, USUAL};
@@ -213,9 +214,9 @@ fn filled(bytes: usize, first: &[u8]) -> Vec<u8> {
 
 fn made_up(rng: &mut Rng, settings: Settings) -> Vec<u8> {
     let mut text = Vec::new();
-    let (mut reader, mut book) = (Reader::default(), Book::make(settings).0);
+    let (mut reader, mut book) = (Reader::default(), Book::make(Level::Two, settings).0);
     for _ in 0..rng.between(1, 14) {
-        let line = line(rng, &reader, &book);
+        let line = line(rng, &reader, &book.settings, book.point);
         reader.line(&mut book, &line);
         book.finish_at_once();
         text.extend_from_slice(&line);
@@ -230,20 +231,20 @@ fn made_up(rng: &mut Rng, settings: Settings) -> Vec<u8> {
     text
 }
 
-/// A line that is good where the reader stands, now and then aimed at a refusal.
-pub fn line(rng: &mut Rng, reader: &Reader, book: &Book) -> Vec<u8> {
+/// A line that is good where the reader stands and the block starts, now and then aimed at a refusal.
+pub fn line(rng: &mut Rng, reader: &Reader, settings: &Settings, at: Point) -> Vec<u8> {
     let mut words = Vec::new();
     let g = match reader.g {
         Some(g) if rng.percent(50) => g,
         // No circle fits where the machine stands at an edge.
-        _ if clearance(book) < 2 && rng.percent(80) => 1,
+        _ if clearance(settings, at) < 2 && rng.percent(80) => 1,
         _ => 1 + rng.below(3),
     };
     if reader.g != Some(g) || rng.percent(20) {
         words.push(format!("G{}", digits(rng, g)));
     }
     if (reader.f.is_none() && !rng.percent(2)) || rng.percent(25) {
-        let f = feed(rng, &book.settings);
+        let f = feed(rng, settings);
         words.push(format!("F{}", digits(rng, f)));
     }
     if rng.percent(30) {
@@ -251,7 +252,7 @@ pub fn line(rng: &mut Rng, reader: &Reader, book: &Book) -> Vec<u8> {
         words.push(format!("N{}", digits(rng, n)));
     }
     if !rng.percent(8) {
-        words.extend(if g == 1 { straight(rng, book) } else { round(rng, g, book) });
+        words.extend(if g == 1 { straight(rng, settings, at) } else { round(rng, g, settings, at) });
     }
     joined(rng, words)
 }
@@ -282,8 +283,7 @@ fn is_narrow(settings: &Settings) -> bool {
 }
 
 /// The way to the nearest bound, in steps.
-fn clearance(book: &Book) -> i64 {
-    let (at, settings) = (book.point, &book.settings);
+fn clearance(settings: &Settings, at: Point) -> i64 {
     let x = (at.x - settings.x_lower).min(settings.x_upper - at.x);
     let y = (at.y - settings.y_lower).min(settings.y_upper - at.y);
     x.min(y) / step(settings)
@@ -314,8 +314,7 @@ fn radius(rng: &mut Rng) -> i64 {
     rng.between(most.min(1), most)
 }
 
-fn straight(rng: &mut Rng, book: &Book) -> Vec<String> {
-    let (at, settings) = (book.point, &book.settings);
+fn straight(rng: &mut Rng, settings: &Settings, at: Point) -> Vec<String> {
     let step = step(settings);
     let way = |rng: &mut Rng| Point::new(pulses(rng) * step, pulses(rng) * step);
     let mut end = match rng.below(12) {
@@ -339,11 +338,11 @@ fn straight(rng: &mut Rng, book: &Book) -> Vec<String> {
 }
 
 /// (I, J). In a narrow travel mostly such that the whole circle is in it, if one can be.
-fn centre(rng: &mut Rng, book: &Book) -> Point {
-    let step = step(&book.settings);
-    let room = clearance(book) / 3;
+fn centre(rng: &mut Rng, settings: &Settings, at: Point) -> Point {
+    let step = step(settings);
+    let room = clearance(settings, at) / 3;
     let mut long = radius(rng);
-    if is_narrow(&book.settings) && long > room && rng.percent(90) {
+    if is_narrow(settings) && long > room && rng.percent(90) {
         long = 1 + long % room.max(1);
     }
     let short = if rng.percent(40) { 0 } else { rng.between(-long, long) };
@@ -364,10 +363,10 @@ fn arc_end(rng: &mut Rng, n: i64, start: Point, step: i64) -> Point {
     }
 }
 
-fn round(rng: &mut Rng, g: u64, book: &Book) -> Vec<String> {
-    let (at, p) = (book.point, book.settings.p);
-    let Point { x: i, y: j } = centre(rng, book);
-    let seen = arc_end(rng, i * i + j * j, Point::new(-i, -j), step(&book.settings));
+fn round(rng: &mut Rng, g: u64, settings: &Settings, at: Point) -> Vec<String> {
+    let p = settings.p;
+    let Point { x: i, y: j } = centre(rng, settings, at);
+    let seen = arc_end(rng, i * i + j * j, Point::new(-i, -j), step(settings));
     let (x, y) = (at.x + i + seen.x, at.y + j + seen.y);
     let mut words = Vec::new();
     if x != at.x || rng.percent(20) {

@@ -96,14 +96,16 @@ impl Reader {
             return Err(37);
         }
         // "X and Y are absolute, a missing one stays; a missing I or J is 0."
-        let end = Point::new(lengths.x.unwrap_or(book.point.x), lengths.y.unwrap_or(book.point.y));
+        let place = book.place();
+        let end = Point::new(lengths.x.unwrap_or(place.x), lengths.y.unwrap_or(place.y));
         let (i, j) = (lengths.i.unwrap_or(0), lengths.j.unwrap_or(0));
         // "f is pulses per minute: millimetres per minute times p"
         let f = f.saturating_mul(book.settings.p);
         match kind {
             Some(kind) => Ok(Some(Load::Arc { kind, end, f, i, j })),
-            // "nor does a straight line to the point where it stands, and then 10 to 13 are not put"
-            None if end == book.point => Ok(None),
+            // "nor does a straight line to the point where it stands, and then 10 to 13 are not put"; by 02 §3 that point is the place
+            // where a block would start: "a straight text line to that place makes no block".
+            None if end == place => Ok(None),
             None => Ok(Some(Load::Line { end, f })),
         }
     }
@@ -125,10 +127,11 @@ fn lengths(words: &[Word], p: u64) -> Option<Lengths> {
 #[cfg(test)]
 mod tests {
     use super::*;
+    use crate::level::Level;
     use crate::settings::USUAL;
 
     fn refusal(lines: &[&str]) -> Option<u32> {
-        let (mut reader, mut book) = (Reader::default(), Book::make(USUAL).0);
+        let (mut reader, mut book) = (Reader::default(), Book::make(Level::Two, USUAL).0);
         for line in lines {
             let before = reader;
             if let Meaning::Refused(number) = reader.line(&mut book, line.as_bytes()) {

@@ -5,6 +5,7 @@ use std::io::{self, Write};
 
 use crate::book::{Book, Path};
 use crate::job::{Meaning, Reader};
+use crate::level::Level;
 use crate::settings::Settings;
 use crate::sound::record_of;
 
@@ -39,7 +40,7 @@ impl fmt::Display for Check {
 /// The check at a machine with these settings. Where they are refused a first line tells it, and the machine is the one that such
 /// a make answers.
 pub fn check(text: &[u8], settings: &Settings, pace: Pace, out: &mut impl Write) -> io::Result<Check> {
-    let (book, refusal) = Book::make(*settings);
+    let (book, refusal) = Book::make(Level::Two, *settings);
     if let Some(number) = refusal {
         writeln!(out, "settings refused {number}")?;
     }
@@ -91,7 +92,7 @@ pub fn ticks(text: &[u8], settings: &Settings, most: u64, out: &mut impl Write) 
     if text.len() > LONGEST_TEXT {
         return Ok(());
     }
-    let (mut reader, mut book, mut left) = (Reader::default(), Book::make(*settings).0, most);
+    let (mut reader, mut book, mut left) = (Reader::default(), Book::make(Level::Two, *settings).0, most);
     for line in lines(text) {
         if let Meaning::Refused(_) = reader.line(&mut book, line) {
             return Ok(());

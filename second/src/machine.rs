@@ -3,6 +3,7 @@
 
 use crate::ahead::ahead;
 use crate::book::{Book, Load, Why};
+use crate::level::Level;
 use crate::point::{Point, ORIGIN};
 use crate::settings::Settings;
 use crate::sound::{book_of, record_of, Record};
@@ -23,15 +24,15 @@ pub struct Ahead {
 const UNSOUND: u32 = 9;
 
 impl Machine {
-    pub fn make(settings: Settings) -> (Machine, Option<u32>) {
-        let (book, number) = Book::make(settings);
+    pub fn make(level: Level, settings: Settings) -> (Machine, Option<u32>) {
+        let (book, number) = Book::make(level, settings);
         (Machine::Sound(book), number)
     }
 
     pub fn of_record(record: &Record) -> Machine {
         match book_of(record) {
             Some(book) => Machine::Sound(book),
-            None => Machine::Unsound(*record),
+            None => Machine::Unsound(record.clone()),
         }
     }
 
@@ -89,7 +90,7 @@ impl Machine {
     pub fn record(&self) -> Record {
         match self {
             Machine::Sound(book) => record_of(book),
-            Machine::Unsound(record) => *record,
+            Machine::Unsound(record) => record.clone(),
         }
     }
 }

@@ -1,8 +1,9 @@
 //! A machine record as anybody may make it up, and question 9: "is it sound?"
 
 use crate::arc::{self, is_circle_point, Kind, LARGEST_N};
-use crate::book::{Block, Book, Path};
+use crate::book::{Block, Book, Load, Path};
 use crate::charge;
+use crate::level::Level;
 use crate::line;
 use crate::point::Point;
 use crate::settings::Settings;
@@ -15,20 +16,48 @@ pub enum Work {
     Arc { kind: Kind, centre: Point, n: u64, end: Point, f: u64 },
 }
 
-#[derive(Clone, Copy, PartialEq, Eq, Debug)]
+#[derive(Clone, PartialEq, Eq, Debug)]
 pub struct Record {
+    pub level: Level,
     pub settings: Settings,
     pub point: Point,
     pub held: bool,
     pub remainder: u64,
     pub work: Work,
+    /// "the cycles still to do over the block in work and all waiting". A record of level 2 does not tell it, and nothing waits.
+    pub left: u64,
+    /// How many wait, by the record's own word, which may be more than it has places for.
+    pub waiting: u64,
+    /// Those that wait, "first come first cut": so many, sixteen where the word is more.
+    pub blocks: Vec<Load>,
 }
 
-/// The book of a sound record, none for an unsound one.
+impl Record {
+    /// With these blocks waiting.
+    pub fn with_blocks(self, blocks: Vec<Load>) -> Record {
+        Record { waiting: blocks.len() as u64, blocks, ..self }
+    }
+}
+
+/// The book of a sound record, none for an unsound one. "A sound record has this figure right, only waiting blocks that would be accepted
+/// in turn, and none waiting when nothing is in work."
+pub fn book_of(record: &Record) -> Option<Book> {
+    let Record { level, work, left, waiting, ref blocks, .. } = *record;
+    if waiting > level.most_waiting() as u64 || work == Work::Nothing && waiting > 0 {
+        return None;
+    }
+    let mut book = without_queue(record)?;
+    for block in blocks {
+        book.load(block).ok()?;
+    }
+    (level == Level::Two || book.left == left).then_some(book)
+}
+
+/// The book of a record whose waiting blocks and figure are not looked at.
 /// "A record is sound if settings pass questions 1 to 3; the point is in travel;" the remainder is sound (02 §2) and so is
 /// what is in work.
-pub fn book_of(record: &Record) -> Option<Book> {
-    let Record { settings, point, held, remainder, work } = *record;
+pub fn without_queue(record: &Record) -> Option<Book> {
+    let Record { level, settings, point, held, remainder, work, .. } = *record;
     if settings.refusal().is_some() || !settings.in_travel(point) || !charge::is_sound_remainder(remainder, settings.q0()) {
         return None;
     }
@@ -37,7 +66,7 @@ pub fn book_of(record: &Record) -> Option<Book> {
         Work::Line { start, end, f, c } => Some(sound_line(record, start, end, f, c)?),
         Work::Arc { kind, centre, n, end, f } => Some(sound_arc(record, kind, centre, n, end, f)?),
     };
-    Some(Book::opened(settings, point, held, remainder, block))
+    Some(Book::opened(level, settings, point, held, remainder, block))
 }
 
 /// "a line in work has start and end in travel and different, feed in 1..q0, cycles done in 0..q-1
@@ -85,21 +114,39 @@ pub fn record_of(book: &Book) -> Record {
         Some(Block { path: Path::Line, start, end, f, c, .. }) => Work::Line { start, end, f, c },
         Some(Block { path: Path::Arc { kind, centre, n }, end, f, .. }) => Work::Arc { kind, centre, n: n as u64, end, f },
     };
-    Record { settings: book.settings, point: book.point, held: book.held, remainder: book.remainder, work }
+    let Book { level, settings, point, held, remainder, left, .. } = *book;
+    let idle = Record { level, settings, point, held, remainder, work, left, waiting: 0, blocks: Vec::new() };
+    idle.with_blocks(book.waiting.iter().map(Block::given).collect())
 }
 
 #[cfg(test)]
 mod tests {
     use super::*;
+    use crate::gen;
     use crate::point::ORIGIN;
     use crate::settings::USUAL;
 
     fn idle() -> Record {
-        Record { settings: USUAL, point: ORIGIN, held: false, remainder: 0, work: Work::Nothing }
+        record_of(&Book::make(Level::Three, USUAL).0)
     }
 
+    /// With the right figure, so that all hangs on the rest.
     fn sound(record: Record) -> bool {
-        book_of(&record).is_some()
+        book_of(&Record { left: gen::counted(&record), ..record }).is_some()
+    }
+
+    fn line(x: i64, y: i64) -> Load {
+        Load::Line { end: Point::new(x, y), f: 300_000 }
+    }
+
+    fn arc(kind: Kind, end: Point, i: i64, j: i64) -> Load {
+        Load::Arc { kind, end, f: 300_000, i, j }
+    }
+
+    /// The line (3, 4) in work, one cycle of five done, and these waiting.
+    fn waiting(blocks: &[Load]) -> Record {
+        let work = Work::Line { start: ORIGIN, end: Point::new(3, 4), f: 300_000, c: 1 };
+        Record { point: Point::new(1, 1), work, ..idle() }.with_blocks(blocks.to_vec())
     }
 
     #[test]
@@ -113,9 +160,9 @@ mod tests {
     /// "A sound remainder is below 1,414 × q0": 424,200,000 at w 5,000, whatever is in work.
     #[test]
     fn remainders() {
-        let line = Work::Line { start: ORIGIN, end: Point::new(3, 4), f: 60_000, c: 0 };
-        let arc = Work::Arc { kind: Kind::Clockwise, centre: Point::new(0, 5), n: 25, end: ORIGIN, f: 1 };
-        for work in [Work::Nothing, line, arc] {
+        let of_line = Work::Line { start: ORIGIN, end: Point::new(3, 4), f: 60_000, c: 0 };
+        let of_arc = Work::Arc { kind: Kind::Clockwise, centre: Point::new(0, 5), n: 25, end: ORIGIN, f: 1 };
+        for work in [Work::Nothing, of_line, of_arc] {
             let with = |settings, remainder| sound(Record { settings, remainder, work, ..idle() });
             for remainder in [0, 299_999, 300_000, 299_999_999, 300_000_000, 424_199_999] {
                 assert!(with(USUAL, remainder), "{remainder}");
@@ -159,8 +206,75 @@ mod tests {
         assert!(!with(one, arc(ORIGIN, 3, one, 0)));
         assert!(!with(one, arc(ORIGIN, 3, Point::new(i64::MIN, i64::MAX), 1)));
         assert!(!with(one, arc(Point::new(i64::MIN, 0), 3, one, 1)));
-        let book = book_of(&Record { point: one, work: arc(ORIGIN, 3, one, 1), ..idle() }).unwrap();
-        assert_eq!(book.block.unwrap().k, 8);
+        let full_turn = Record { point: one, work: arc(ORIGIN, 3, one, 1), left: 8, ..idle() };
+        assert_eq!(book_of(&full_turn).unwrap().block.unwrap().k, 8);
+    }
+
+    /// "A sound record has this figure right": 4 cycles of the line, 1 to (3, 5), and of the full turn of N 25 all 28.
+    #[test]
+    fn the_figure() {
+        let queued = waiting(&[line(3, 5), arc(Kind::OtherWay, Point::new(3, 5), 0, 5)]);
+        for left in [0, 4, 5, 28, 29, 32, 33, 34, 37, u64::MAX, 33 + (1 << 32), 33 + (1 << 63)] {
+            assert_eq!(book_of(&Record { left, ..queued.clone() }).is_some(), left == 33, "{left}");
+        }
+        for left in [0, 1, u64::MAX] {
+            assert_eq!(book_of(&Record { left, ..idle() }).is_some(), left == 0, "{left}");
+        }
+    }
+
+    /// A record of level 2 has no figure to be right.
+    #[test]
+    fn no_figure_at_level_2() {
+        for left in [0, 4, u64::MAX] {
+            assert!(book_of(&Record { level: Level::Two, left, ..waiting(&[]) }).is_some(), "{left}");
+        }
+        assert!(book_of(&Record { level: Level::Two, left: 5, ..waiting(&[line(3, 5)]) }).is_none());
+    }
+
+    /// "only waiting blocks that would be accepted in turn": 11 to 16 from the end of the one before, with the record's settings.
+    #[test]
+    fn waiting_blocks() {
+        let with = |blocks: &[Load]| sound(waiting(blocks));
+        let (end, half) = (Point::new(3, 4), arc(Kind::OtherWay, Point::new(13, 4), 5, 0));
+        assert!(with(&[]) && with(&[line(3, 5)]) && with(&[half]) && with(&[half, line(3, 4)]));
+        assert!(with(&[line(1, 1)]), "back to the point");
+        assert!(with(&[line(0, 0), line(3, 4), line(0, 0)]));
+        assert!(!with(&[line(3, 4)]), "13 from the line's end");
+        assert!(!with(&[line(3, 5), line(3, 5)]), "13 from the end of the one before");
+        for f in [0, 300_001, u64::MAX] {
+            assert!(!with(&[Load::Line { end: ORIGIN, f }]), "11");
+        }
+        assert!(with(&[line(1_000_000, -1_000_000)]) && !with(&[line(1_000_001, 0)]) && !with(&[line(i64::MIN, i64::MAX)]), "12");
+        for (i, j) in [(0, 0), (1_000_001, 0), (0, i64::MIN)] {
+            assert!(!with(&[arc(Kind::Clockwise, end, i, j)]), "14");
+        }
+        assert!(!with(&[arc(Kind::OtherWay, Point::new(11, 1), 5, 0)]), "15, though a half turn from the point");
+        let narrow = |x_upper, blocks: &[Load]| sound(Record { settings: Settings { x_upper, ..USUAL }, ..waiting(blocks) });
+        assert!(narrow(13, &[half]) && !narrow(12, &[half]));
+        let other = arc(Kind::OtherWay, Point::new(3, 14), 0, 5);
+        assert!(narrow(8, &[other]) && !narrow(7, &[other]), "16");
+    }
+
+    /// "none waiting when nothing is in work"
+    #[test]
+    fn nothing_waits_behind_nothing() {
+        let blocks = vec![line(1, 0)];
+        assert!(!sound(idle().with_blocks(blocks.clone())));
+        assert!(!sound(Record { left: 0, ..idle().with_blocks(blocks) }));
+        assert!(sound(idle()));
+    }
+
+    /// Sixteen wait, and a seventeenth has no place.
+    #[test]
+    fn sixteen_places() {
+        let blocks: Vec<Load> = (0..16).map(|at| line(at, 9)).collect();
+        let full = waiting(&blocks);
+        assert!(sound(full.clone()) && sound(waiting(&blocks[..15])));
+        for waiting in [17, 18, 32, 16 + (1 << 32), u64::MAX] {
+            assert!(!sound(Record { waiting, ..full.clone() }), "{waiting}");
+        }
+        let book = book_of(&Record { left: gen::counted(&full), ..full.clone() }).unwrap();
+        assert_eq!(record_of(&book), Record { left: gen::counted(&full), ..full });
     }
 
     #[test]
