@@ -1,0 +1,43 @@
+-- `answer_number` is right because each answer has its own number.
+use borrow.Author.Needs.{needs}
+use mathlib.Core.Path.{_∙_}
+use Rattle.layout.specs.laws.Number.{word-fits, refusal-fits, through}
+use Rattle.calls.proofs.answer.answer_number.Statement.{statement}
+use Rattle.calls.proofs.answer.answer_number.Tie as tie
+
+enum-told : tie.Need-enum-told
+enum-told c = search needs
+
+enum-known-answer : tie.Need-enum-known-answer
+enum-known-answer c = search needs
+
+word-requires : tie.Need-word-requires
+word-requires c κs = search needs
+
+enum-known-answer-2 : tie.Need-enum-known-answer-2
+enum-known-answer-2 c = search needs
+
+refusal-requires : tie.Need-refusal-requires
+refusal-requires c κs = search needs
+
+returns : tie.Need-returns
+returns c = cc
+
+returns-2 : tie.Need-returns-2
+returns-2 c = through (word-fits _) (c .word .ensures) ∙ simp (c .before .before .answer .given .1)
+
+returns-3 : tie.Need-returns-3
+returns-3 c = through (refusal-fits _) (c .refusal .ensures) ∙ simp (c .before .before .answer2 .given .1)
+
+pub answer-number-spec : {M : Type 1} → statement M
+answer-number-spec =
+    tie.close
+    (tie.spec
+    enum-told
+    enum-known-answer
+    word-requires
+    enum-known-answer-2
+    refusal-requires
+    returns
+    returns-2
+    returns-3)

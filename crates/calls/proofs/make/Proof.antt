@@ -1,0 +1,49 @@
+-- `make` is right because it makes the bench of these settings and lays the words of its record.
+use borrow.Author.Needs.{needs}
+use denote.Ref.{now}
+use mir.Syntax.{w64}
+use mir.Val.{SFits}
+use mir.Facts.{toZ-ofZ}
+use Rattle.layout.specs.Words.{settingsOf}
+use Rattle.calls.specs.laws.Make.{make-told}
+use Rattle.calls.proofs.make.Statement.{statement}
+use Rattle.calls.proofs.make.Tie as tie
+
+settings-requires : tie.Need-settings-requires
+settings-requires c κs = search needs
+
+make-requires : tie.Need-make-requires
+make-requires c κs = search needs
+
+fresh-words-requires : tie.Need-fresh-words-requires
+fresh-words-requires c κs = search needs
+
+lay-requires : tie.Need-lay-requires
+lay-requires c κs = search needs
+
+answer-number-requires : tie.Need-answer-number-requires
+answer-number-requires c κs = search needs
+
+returns : tie.Need-returns
+returns c =
+    let r : SFits w64 (c .answer-number .result) = search needs in
+    let f = c .before .before .before .before in
+    let a = f .before in
+    let s = a .before .before in
+    let g = s .args in
+    let p = s .fits .p in
+    let w = s .fits .w in
+    let xlo = s .fits .xlo in
+    let xhi = s .fits .xhi in
+    let ylo = s .fits .ylo in
+    let yhi = s .fits .yhi in
+    let given = simp toZ-ofZ at (a .before .settings .ensures) in
+    let made = simp given at (a .make .ensures) in
+    simp toZ-ofZ
+    (simp (c .answer-number .ensures, c .before .lay .ensures, f .fresh-words .ensures)
+    (make-told (now (g .words)) (settingsOf (g .p) (g .w) (g .xlo) (g .xhi) (g .ylo) (g .yhi)) made))
+
+pub make-spec : {M : Type 1} → statement M
+make-spec =
+    tie.close
+    (tie.spec settings-requires make-requires fresh-words-requires lay-requires answer-number-requires returns)

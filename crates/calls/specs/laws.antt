@@ -1,0 +1,3 @@
+pub mod Told
+pub mod Load
+pub mod Make

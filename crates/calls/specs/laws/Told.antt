@@ -1,0 +1,115 @@
+-- A call by whether the words are those of a sound record.
+use mathlib.Core.Path.{_≡_, refl, sym, ap, _∙_}
+use mathlib.Core.Bool.{true, false}
+use mathlib.Core.List.{List}
+use Prim.Native.Nat.{ℕ, _+_, _-_, _≤_}
+use native.Mathlib.Omega.{arith}
+use lib.IntN.{ℤ, pos, negsuc}
+use lib.ListN.{length}
+use Rattle.run.specs.Run.{written}
+use Rattle.work.specs.Work.{cyclesLeft}
+use Rattle.bench.specs.declared.Bench.{Bench}
+use Rattle.bench.specs.declared.Ticked.{Ticked}
+use Rattle.bench.specs.declared.Ran.{Ran}
+use Rattle.bench.specs.Bench.{soundOf}
+use Rattle.bench.specs.Calls.{tickOf as benchTick}
+use Rattle.bench.specs.Run.{runOf as benchRun}
+use Rattle.machine.specs.declared.Machine.{Machine}
+use Rattle.machine.specs.Calls.{markOf, nextOf, tickOf, holdOf, releaseOf, stopOf}
+use Rattle.machine.specs.Run.{runOf}
+use Rattle.machine.specs.Asked.{cyclesTold, Left}
+use Rattle.machine.specs.laws.Right.{Sound, sound, work-most}
+use Rattle.machine.specs.laws.Onward.{tick-onward, tick-left, run-onward, work-countable, work-left-most}
+use Rattle.machine.specs.laws.Next.{left-less}
+use Rattle.machine.specs.laws.Load.{left-bound}
+use Rattle.layout.specs.Words.{at, countOf}
+use Rattle.record.specs.Write.{idleOf}
+use Rattle.record.specs.Words.{encodeOf, over, benchIn, machineIn, soundWords}
+use Rattle.record.specs.Write.{Later}
+use Rattle.record.specs.laws.Write.{told-sound}
+use Rattle.record.specs.laws.Later.{tick-later, run-later}
+use Rattle.calls.specs.Calls.{tickNumber, reportNumber, Call, tells, callOf, refused, toldOf, tellsRun, ran, toldRunOf}
+
+pub told-refused : (ws : List ℤ) → soundWords ws ≡ false → (call : Call) → refused ws ≡ toldOf ws call
+unfolding toldOf
+told-refused ws t call = rw t
+
+pub run-refused : (ws : List ℤ) → soundWords ws ≡ false → (budget : ℕ) (out : List ℕ)
+    → tellsRun (negsuc 8) 0 ws out ≡ toldRunOf ws budget out
+unfolding toldRunOf
+run-refused ws t budget out = rw t
+
+module _ (ws : List ℤ) (t : soundWords ws ≡ true) where
+  pub told-call : (call : Call) → callOf ws (machineIn ws) call ≡ toldOf ws call
+  unfolding toldOf
+  told-call call = rw t
+
+  pub hold-told : tells (pos 0) (over (encodeOf (markOf (machineIn ws) true)) ws) ≡ toldOf ws Call.hold
+  unfolding callOf holdOf
+  hold-told = rw (told-sound ws t) at (told-call Call.hold)
+
+  pub release-told : tells (pos 0) (over (encodeOf (markOf (machineIn ws) false)) ws) ≡ toldOf ws Call.release
+  unfolding callOf releaseOf
+  release-told = rw (told-sound ws t) at (told-call Call.release)
+
+  pub stop-told : tells (pos 0) (over (encodeOf (idleOf (machineIn ws))) ws) ≡ toldOf ws Call.stop
+  unfolding callOf stopOf machineIn
+  stop-told = rw (told-sound ws t) at (told-call Call.stop)
+
+  -- ---- ticks: what the functions below ask, and what is told
+
+  abbrev m : Machine
+  m = machineIn ws
+
+  parts : Sound m
+  parts = sound m (told-sound ws t)
+
+  pub bench-sound : {k : Bench} → k ≡ benchIn ws → soundOf k ≡ true
+  unfolding machineIn
+  bench-sound is = rw is (parts .bench)
+
+  module _ {r : Ticked} (is : r ≡ benchTick (benchIn ws)) {left : ℕ} (left-is : left ≡ countOf (at ws 20)) where
+    pub tick-enough : cyclesTold (r .tick) ≤ left
+    unfolding machineIn
+    tick-enough =
+        rw left-is
+        (left-less (parts .right) (tick-onward (m .bench) (parts .bench) is) (tick-left (m .bench) (parts .bench) is) .0)
+
+    pub tick-stores : {then : ℕ} → then ≡ left - cyclesTold (r .tick) → Later ws (r .bench) then
+    unfolding machineIn
+    tick-stores e = tick-later ws t is (e ∙ ap (λ (n : ℕ). n - cyclesTold (r .tick)) left-is)
+
+  pub tick-told : {r : Ticked} → r ≡ benchTick (benchIn ws)
+      → tells (tickNumber (r .tick)) (over (encodeOf (nextOf (r .bench) (machineIn ws .queue))) ws) ≡ toldOf ws Call.tick
+  unfolding callOf tickOf machineIn
+  tick-told is = rw is (rw (told-sound ws t) at (told-call Call.tick))
+
+  -- ---- runs
+
+  module _ {k : Bench} (k-is : k ≡ benchIn ws) (budget buffer : ℕ) {r : Ran} (is : r ≡ benchRun (benchIn ws) budget buffer .ran) {left : ℕ}
+      (left-is : left ≡ countOf (at ws 20)) where
+    pub run-left : {root : ℕ} → root ≡ countOf (at ws 19) → Left left k (r .bench) root
+    unfolding machineIn
+    run-left root-is =
+        let o = run-onward (m .bench) (parts .bench) budget buffer is in
+        rw (k-is, left-is, root-is)
+        (record {
+          before = work-countable (m .bench) (parts .bench);
+          after = work-countable (r .bench) (o .sound);
+          root-before = parts .right .root-is;
+          root-after = λ more. parts .right .root-is ∙ sym (o .root more);
+          most = work-most (parts .right);
+          fits = omega (arith, left-bound m parts, work-left-most (r .bench) (o .sound));
+        })
+
+    pub run-stores : {then : ℕ} → then ≡ left - cyclesLeft (k .at) (k .work) + cyclesLeft (r .bench .at) (r .bench .work)
+        → Later ws (r .bench) then
+    unfolding machineIn
+    run-stores e = run-later ws t budget buffer is (rw (k-is, left-is) at e)
+
+  pub run-told : (budget : ℕ) (out : List ℕ) {r : Ran} → r ≡ benchRun (benchIn ws) budget (length out) .ran → {after : List ℕ}
+      → after ≡ written (benchRun (benchIn ws) budget (length out) .bytes) out
+      → tellsRun (reportNumber (r .report)) (r .ticks) (over (encodeOf (nextOf (r .bench) (machineIn ws .queue))) ws) after
+      ≡ toldRunOf ws budget out
+  unfolding toldRunOf runOf machineIn
+  run-told budget out is after = rw (after, is) (rw (t, told-sound ws t) refl)
