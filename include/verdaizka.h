@@ -13,7 +13,7 @@
  * vz_check_start and vz_check_fill list it beforehand.
  *
  * Needed: C11 or C++11, and an x86-64 machine: tools/archive writes target/libverdaizka.a for it.
- * From outside the archive needs memcpy and memset alone.
+ * From outside the archive needs memset alone.
  *     cc -std=c11 -Iinclude program.c target/libverdaizka.a
  * examples/c has whole programs: square_and_circle.c, look_ahead.c, run_a_job.c, check_a_job.c.
  *
