@@ -40,7 +40,9 @@ pub struct BlockWords {
 }
 
 // No code: that an array has its length is known once a slice is made of it, and the laws ask how many words there are.
-pub fn seen(words: &[i64]) {}
+pub fn seen(words: &[i64])
+    ensures { λ _. ⌜ now (words .exit) ≡ now (words .entry) ⌝ }
+{}
 
 pub fn head_in(words: &[i64; 134]) -> Head
     ensures { λ r. ⌜ r ≡ headIn (now (words .entry)) ⌝ }
