@@ -1,20 +1,9 @@
--- 02 §1, Where will it be?: "Add a look-ahead of up to 1,000,000 ticks. It gives the record and the signed pulse sum per axis that the same
--- ticks would give on a copy. The machine itself comes back unchanged."
-use mathlib.Core.Bool.{cond}
+-- 02 §1, Where will it be?: "the same ticks", of the bench alone.
 use mathlib.Core.List.{List, [], _∷_}
 use Prim.Native.Nat.{ℕ, zero, suc}
-use lib.Dec.{leb}
-use lib.IntN.{pos, _-ℤ_}
-use Rattle.plane.specs.declared.point.Point.{Point}
-use Rattle.plane.specs.Byte.{codeX, codeY}
 use Rattle.bench.specs.declared.Bench.{Bench}
-use Rattle.bench.specs.declared.Answer.{Answer}
 use Rattle.bench.specs.declared.Tick.{Tick}
-use Rattle.bench.specs.Bench.{soundOf}
 use Rattle.bench.specs.Calls.{tickOf}
-use Rattle.book.specs.Sums.{pulsesIn}
-use Rattle.ahead.specs.declared.Sums.{Sums}
-use Rattle.ahead.specs.declared.Ahead.{Ahead}
 
 -- "the same ticks": tick calls one after the other, their bytes, and the record that the last hands back
 pub record Ticking : Type 0 where
@@ -32,27 +21,3 @@ tickingOf (suc n) m =
     let t = tickOf m in
     let rest = tickingOf n (t .bench) in
     record { bytes = inFront (t .tick) (rest .bytes); bench = rest .bench }
-
--- "the signed pulse sum per axis"; 01: "Pulses sent are their codes, 1 as plus one and 2 as minus one"
-abbrev pub sumsOf : (bytes : List ℕ) → Sums
-sumsOf bytes = record { x = pulsesIn codeX bytes; y = pulsesIn codeY bytes }
-
--- "The machine itself comes back unchanged."
-abbrev pub looked : Bench → Ticking → Ahead
-looked m t = record { answer = Answer.Done; then = t .bench; sums = sumsOf (t .bytes); bench = m }
-
--- "A refusal gives the machine's own record and sums of 0."
-abbrev pub refusing : Bench → (number : ℕ) → Ahead
-refusing m number = record { answer = Answer.Refused number; then = m; sums = record { x = pos 0; y = pos 0 }; bench = m }
-
--- "38: more than 1,000,000 ticks, checked after 9."
-abbrev pub mostTicks : ℕ
-mostTicks = 1000000
-
-unfoldable pub aheadOf : Bench → (ticks : ℕ) → Ahead
-aheadOf m n = cond (soundOf m) (cond (leb n mostTicks) (looked m (tickingOf n m)) (refusing m 38)) (refusing m 9)
-
--- ---- an inner function's answer
-
-abbrev pub wayOf : (from to : Point) → Sums
-wayOf from to = record { x = to .x -ℤ from .x; y = to .y -ℤ from .y }

@@ -1,4 +1,4 @@
--- 01, Job and machine: the record, a fresh one, and when a record is sound.
+-- 01, Job and machine: the bench, which is 01's record; a fresh one, and when it is sound.
 use mathlib.Core.Bool.{Bool, false, _&&_}
 use Prim.Native.Nat.{ℕ, _*_}
 use lib.Dec.{eqb, ltb}

@@ -1,9 +1,8 @@
--- What each call answers and the record that it hands back, for any record whatever.
-use mathlib.Core.Bool.{Bool, true, false, cond, _||_}
+-- What make, load and tick answer and the record that they hand back, for any record whatever.
+use mathlib.Core.Bool.{Bool, cond, _||_}
 use Prim.Native.Nat.{ℕ, zero, suc}
 use Rattle.block.specs.declared.Block.{Block}
 use Rattle.block.specs.Questions.{loadNo}
-use Rattle.work.specs.declared.Work.{Work}
 use Rattle.work.specs.declared.Advance.{Advance}
 use Rattle.work.specs.declared.Begun.{Begun}
 use Rattle.work.specs.Work.{isNothing, advanceOf, begunOf}
@@ -42,6 +41,7 @@ abbrev pub loadWith : Bench → Block → (number : ℕ) → Answered
 loadWith m b zero = taking m (begunOf (m .at) b)
 loadWith m b (suc n) = answers (Answer.Refused (suc n)) m
 
+-- "is nothing in work? 10.": at a bench alone no block waits
 unfoldable pub loadOf : Bench → Block → Answered
 loadOf m b = ifSound m (loadWith m b (loadNo (capacityOf (m .settings)) (m .settings .travel) (isNothing (m .work)) (m .at) b))
 
@@ -61,18 +61,8 @@ tickOf m =
     (working m (advanceOf (capacityOf (m .settings)) (m .at) (m .remainder) (m .work))))
     (ticks (Tick.Refused 9) m)
 
--- ---- hold, release, stop
+-- ---- hold, release
 
 -- "Hold and release only set a mark."
 abbrev pub markedOf : Bench → Bool → Bench
 markedOf m mark = record { settings = m .settings; at = m .at; held = mark; remainder = m .remainder; work = m .work }
-
-unfoldable pub holdOf : Bench → Answered
-holdOf m = ifSound m (answers Answer.Done (markedOf m true))
-
-unfoldable pub releaseOf : Bench → Answered
-releaseOf m = ifSound m (answers Answer.Done (markedOf m false))
-
--- "Stop drops the block in work, keeps the point and the mark and sets the remainder to 0, also when idle."
-unfoldable pub stopOf : Bench → Answered
-stopOf m = ifSound m (answers Answer.Done (movedOf m (m .at) 0 Work.Nothing))

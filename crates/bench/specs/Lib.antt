@@ -1,4 +1,4 @@
--- To be believed: Machine, Calls, Run. Proved of them: laws.
+-- To be believed: Bench, Calls, Run. Proved of them: laws.
 pub mod Bench
 pub mod Calls
 pub mod Run

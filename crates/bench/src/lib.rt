@@ -1,12 +1,12 @@
-// The machine of a cutting table. It goes in by value and comes back by value from each call, beside the answer.
-// A call tests the record first, so that any record whatever gets an answer.
+// The bench of a cutting table: 01's machine, which works one block at a time. Crate machine puts a queue behind it; the check of a job
+// works at a bench alone. It goes in by value and comes back by value, beside the answer.
 ghost use mathlib.Core.Path.{_≡_};
 ghost use mathlib.Core.Bool.{true};
 ghost use Rattle.bench.specs.Bench.{soundParts, soundOf, freshOf, movedOf};
 ghost use lib.ListN.{length};
 ghost use Rattle.run.specs.Run.{written};
 ghost use Rattle.bench.specs.Run.{reportOf, runOf};
-ghost use Rattle.bench.specs.Calls.{makeOf, loadOf, tickOf, holdOf, releaseOf, stopOf};
+ghost use Rattle.bench.specs.Calls.{makeOf, loadOf, tickOf};
 use block::Block;
 use block::questions::load_no;
 use circle::step::DIAGONAL;
@@ -34,7 +34,8 @@ pub struct Bench {
     pub work: Work,
 }
 
-// What make, load, hold, release and stop answer: done, the register width of an accepted block, or the number of a question.
+// What make and load answer, and in crate machine hold, release and stop: done, the register width of an accepted block, or the number
+// of a question.
 pub enum Answer {
     Done,
     Width(u64),
@@ -147,23 +148,7 @@ impl Bench {
         }
     }
 
-    // Gives the machine a block, which begins where the machine stands.
-    pub fn load(self, b: Block) -> Answered
-        ensures { λ r. ⌜ r ≡ loadOf self b ⌝ }
-    {
-        let settings = self.settings;
-        let at = self.at;
-        let work = self.work;
-        if !sound(settings, at, self.remainder, work) {
-            return Answered {
-                answer: Answer::Refused(9),
-                bench: self,
-            };
-        }
-        self.load_sound(b)
-    }
-
-    // The same of a record that has been tested.
+    // Gives the bench a block, which begins where it stands, of a record that has been tested.
     pub fn load_sound(self, b: Block) -> Answered
         requires { ⌜ soundOf self ≡ true ⌝ }
         ensures { λ r. ⌜ r ≡ loadOf self b ⌝ }
@@ -187,23 +172,7 @@ impl Bench {
         }
     }
 
-    // One clock tick.
-    pub fn tick(self) -> Ticked
-        ensures { λ r. ⌜ r ≡ tickOf self ⌝ }
-    {
-        let settings = self.settings;
-        let at = self.at;
-        let work = self.work;
-        if !sound(settings, at, self.remainder, work) {
-            return Ticked {
-                tick: Tick::Refused(9),
-                bench: self,
-            };
-        }
-        self.tick_sound()
-    }
-
-    // The same of a record that has been tested.
+    // One clock tick, of a record that has been tested.
     pub fn tick_sound(self) -> Ticked
         requires { ⌜ soundOf self ≡ true ⌝ }
         ensures { λ r. ⌜ r ≡ tickOf self ⌝ }
@@ -280,65 +249,6 @@ impl Bench {
             report: report_of(r.ended, budget <= r.ticks),
             ticks: r.ticks,
             bench: self.moved(here, r.remainder, next),
-        }
-    }
-
-    pub fn hold(self) -> Answered
-        ensures { λ r. ⌜ r ≡ holdOf self ⌝ }
-    {
-        let settings = self.settings;
-        let at = self.at;
-        let work = self.work;
-        if !sound(settings, at, self.remainder, work) {
-            return Answered {
-                answer: Answer::Refused(9),
-                bench: self,
-            };
-        }
-        let mut next = self;
-        next.held = true;
-        Answered {
-            answer: Answer::Done,
-            bench: next,
-        }
-    }
-
-    pub fn release(self) -> Answered
-        ensures { λ r. ⌜ r ≡ releaseOf self ⌝ }
-    {
-        let settings = self.settings;
-        let at = self.at;
-        let work = self.work;
-        if !sound(settings, at, self.remainder, work) {
-            return Answered {
-                answer: Answer::Refused(9),
-                bench: self,
-            };
-        }
-        let mut next = self;
-        next.held = false;
-        Answered {
-            answer: Answer::Done,
-            bench: next,
-        }
-    }
-
-    // Drops the block in work. The point and the mark stay.
-    pub fn stop(self) -> Answered
-        ensures { λ r. ⌜ r ≡ stopOf self ⌝ }
-    {
-        let settings = self.settings;
-        let at = self.at;
-        let work = self.work;
-        if !sound(settings, at, self.remainder, work) {
-            return Answered {
-                answer: Answer::Refused(9),
-                bench: self,
-            };
-        }
-        Answered {
-            answer: Answer::Done,
-            bench: self.moved(at, 0, Work::Nothing),
         }
     }
 }

@@ -1,5 +1,6 @@
--- Demand 3: "On a line the point is at most half a pulse per axis from the exact point for the cycles done, and its squared distance from the line is
--- at most one half. On an arc it is less than half a pulse from the circle." 01: "on a line or an arc means while the book has one in work".
+-- Demand 3: "On a line the point is at most half a pulse per axis from the exact point for the cycles done, and its squared distance from
+-- the line is at most one half. On an arc it is less than half a pulse from the circle." 01: "on a line or an arc means while the book has
+-- one in work".
 use Prim.Native.Nat.{ℕ}
 use lib.IntN.{_-ℤ_}
 use Rattle.plane.specs.declared.point.Point.{Point}
@@ -12,7 +13,8 @@ use Rattle.line.specs.Bounds.{HalfPulse, NearLine}
 use Rattle.arc.specs.Centre.{seenFrom, backFrom}
 use Rattle.block.specs.declared.Path.{Path}
 use Rattle.block.specs.Block.{squareOf, cyclesAlong}
-use Rattle.book.specs.Book.{Job, InWork, Book}
+use Rattle.book.specs.Bench.{Job, InWork}
+use Rattle.book.specs.Book.{Book}
 
 pub record OnLine (start end : Point) (c : ℕ) (at : Point) : Type 0 where
   pub half-x : HalfPulse (cyclesOf start end) (incrementX start end) c (at .x -ℤ start .x)
@@ -43,4 +45,4 @@ OnWork at InWork.nothing = Unit {0}
 OnWork at (InWork.working j) = OnPath j at (j .block .path)
 
 abbrev pub InBounds : Book → Type 0
-InBounds b = OnWork (b .at) (b .work)
+InBounds b = OnWork (b .bench .at) (b .bench .work)

@@ -1,4 +1,5 @@
--- To be believed: Book, Bounds, Sums, Ledger. Proved of them: laws.
+-- To be believed: Bench, Book, Bounds, Sums, Ledger. Proved of them: laws.
+pub mod Bench
 pub mod Book
 pub mod Bounds
 pub mod Sums

@@ -12,7 +12,8 @@ use Rattle.plane.specs.Pulse.{pulseOf}
 use Rattle.plane.specs.Byte.{codeX, codeY, cycleMark}
 use Rattle.block.specs.declared.Path.{Path}
 use Rattle.block.specs.Charge.{chargeBy}
-use Rattle.book.specs.Book.{InWork, Book, Call, Reply, addedBy, entry}
+use Rattle.book.specs.Bench.{InWork, addedBy}
+use Rattle.book.specs.Book.{Book, Call, Reply, entry}
 
 -- ---- tick bytes
 
@@ -60,7 +61,8 @@ abbrev pub chargesMarked : Path → List ℕ → ℕ
 chargesMarked p [] = 0
 chargesMarked p (b ∷ bs) = chargeMarked p b + chargesMarked p bs
 
--- the charges of a call's bytes, by what the call finds in work: a run ends with its block, so all are of that one
+-- the charges of a call's bytes, by what the call finds in work: a run ends with its block, and the tick that ends a block does nothing for
+-- the next, so all are of that one
 abbrev pub chargesTold : InWork → List ℕ → ℕ
 chargesTold InWork.nothing bytes = 0
 chargesTold (InWork.working j) bytes = chargesMarked (j .block .path) bytes
@@ -80,12 +82,13 @@ module _ (q0 : ℕ) (travel : Travel) where
   chargesSince before b [] rs = before
   chargesSince before b (c ∷ cs) [] = before
   chargesSince before b (c ∷ cs) (r ∷ rs) =
-      chargesSince (sinceStop before c (chargesTold (b .work) (tickBytes r))) (entry q0 travel b c .next) cs rs
+      chargesSince (sinceStop before c (chargesTold (b .bench .work) (tickBytes r))) (entry q0 travel b c .next) cs rs
 
   -- "Working ticks and their feed numbers are the book's." A call's ticks, too, are all of the block that it finds in work.
   abbrev pub workingTicks : Book → Call → ℕ
-  workingTicks b c = cond (ticksWork (b .mark) (b .work)) (length (tickBytes (entry q0 travel b c .reply))) 0
+  workingTicks b c = cond (ticksWork (b .bench .mark) (b .bench .work)) (length (tickBytes (entry q0 travel b c .reply))) 0
 
   unfoldable pub feedsSince : (before : ℕ) → Book → List Call → ℕ
   feedsSince before b [] = before
-  feedsSince before b (c ∷ cs) = feedsSince (sinceStop before c (workingTicks b c * addedIn (b .work))) (entry q0 travel b c .next) cs
+  feedsSince before b (c ∷ cs) =
+      feedsSince (sinceStop before c (workingTicks b c * addedIn (b .bench .work))) (entry q0 travel b c .next) cs

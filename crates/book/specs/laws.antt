@@ -5,12 +5,15 @@ pub mod Byte
 pub mod Sound
 pub mod Here
 pub mod Stretch
+pub mod Ticking
+pub mod Settled
 pub mod Call
+pub mod Ledger
 pub mod Accounts
 pub mod Counts
 pub mod Begins
 pub mod Bounds
 pub mod Sums
-pub mod Ledger
-pub mod Aggregate
+pub mod Order
 pub mod Runs
+pub mod Aggregate

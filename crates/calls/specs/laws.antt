@@ -1,3 +1,4 @@
 pub mod Told
 pub mod Load
 pub mod Make
+pub mod Rest

@@ -1,48 +1,42 @@
 // The calls of the machine on 134 words that a caller in C owns. Each answers for any words: those that are no sound record get 9 and stay
 // as they are, and so do those of a refused load. No record is built: a call reads the words that it needs and writes those that change.
 ghost use mathlib.Core.Path.{_≡_};
-ghost use Rattle.layout.specs.Words.{at, countOf, settingsOf};
-ghost use Rattle.record.specs.Words.{over};
+ghost use Rattle.layout.specs.Words.{settingsOf};
+ghost use Rattle.machine.specs.Calls.{loadOf};
+ghost use Rattle.record.specs.Words.{encodeOf, over, machineIn};
 ghost use Rattle.calls.specs.Calls.{Call, tells, toldOf, madeOf, tellsRun, toldRunOf};
-ghost use Rattle.calls.specs.Asked.{Taken, freshWords};
+ghost use Rattle.calls.specs.Asked.{Asking};
 use crate::answer::answer_number;
 use crate::answer::report_number;
 use crate::answer::tick_number;
+use bench::Answer;
 use bench::Bench;
 use block::Block;
 use block::questions::load_no;
 use layout::encode::encode;
 use layout::given::settings;
-use layout::number::count;
-use layout::number::refusal;
-use layout::number::word;
 use machine::waiting::left_after;
 use machine::waiting::left_behind;
 use plane::point::Point;
-use queue::Waiting;
-use record::read::ABI;
 use record::read::bench_in;
-use record::read::figures_in;
 use record::read::left_in;
 use record::read::len_in;
+use record::read::root_in;
 use record::read::seen;
 use record::read::start_in;
 use record::sound::is_sound;
-use record::write::into_work;
-use record::write::push;
 use record::write::store_mark;
 use record::write::store_stop;
 use record::write::store_ticks;
+use record::write::take;
 use settings::capacity;
-use work::begin;
 use work::is_nothing;
-use work::rest::cycles_left;
-use work::rest::root_of;
 
-mod answer;
+pub mod answer;
 
 // ---- tick
 
+// While idle or held it writes nothing.
 pub fn tick(words: &mut [i64; 134]) -> i64
     ensures { λ r. ⌜ tells r (now (words .exit)) ≡ toldOf (now (words .entry)) Call.tick ⌝ }
 {
@@ -50,6 +44,13 @@ pub fn tick(words: &mut [i64; 134]) -> i64
         return -9;
     }
     let k = bench_in(words);
+    let work = k.work;
+    if k.held {
+        return 0;
+    }
+    if is_nothing(work) {
+        return 0;
+    }
     let t = k.tick_sound();
     let tick = t.tick;
     let left = left_after(left_in(words), tick);
@@ -91,29 +92,25 @@ pub fn stop(words: &mut [i64; 134]) -> i64
 
 // ---- load
 
-// A block that no question refused: into work where nothing is, else behind those that wait.
-fn take(words: &mut [i64; 134], k: Bench, start: Point, b: Block) -> i64
-    requires { ⌜ Taken (now words) k start b ⌝ }
-    ensures { λ r. ⌜ tells r (now (words .exit)) ≡ toldOf (now (words .entry)) (Call.load b) ⌝ }
+// Load's questions at the words of a sound record, whose bench this is and behind which the next block starts here. A refused block writes
+// nothing.
+pub fn load_sound(words: &mut [i64; 134], k: Bench, start: Point, b: Block) -> Answer
+    requires { ⌜ Asking (now words) k start ⌝ }
+    ensures { λ r. ⌜ r ≡ loadOf (machineIn (now (words .entry))) b .answer ⌝ }
+    ensures { λ _. ⌜ now (words .exit) ≡ over (encodeOf (loadOf (machineIn (now (words .entry))) b .machine)) (now (words .entry)) ⌝ }
 {
+    let settings = k.settings;
+    let travel = settings.travel;
     let work = k.work;
-    let begun = begin(start, b);
-    let first = begun.work;
-    let root = root_of(first);
-    let left = left_in(words) + cycles_left(start, first, root);
-    if is_nothing(work) {
-        into_work(words, first, root, left);
-        return word(begun.width);
+    let len = len_in(words);
+    let no = load_no(capacity(settings), travel, len < 16, start, b);
+    if no != 0 {
+        return Answer::Refused(no);
     }
-    let waiting = Waiting {
-        block: b,
-        root: root,
-    };
-    push(words, waiting, left);
-    word(begun.width)
+    Answer::Width(take(words, work, start, b))
 }
 
-// Gives the machine a block, which begins where the last one before it ends. A refused one writes nothing.
+// Gives the machine a block, which begins where the last one before it ends.
 pub fn load(words: &mut [i64; 134], b: Block) -> i64
     ensures { λ r. ⌜ tells r (now (words .exit)) ≡ toldOf (now (words .entry)) (Call.load b) ⌝ }
 {
@@ -121,88 +118,48 @@ pub fn load(words: &mut [i64; 134], b: Block) -> i64
         return -9;
     }
     let k = bench_in(words);
-    let settings = k.settings;
-    let travel = settings.travel;
     let start = start_in(words, k);
-    let len = len_in(words);
-    let no = load_no(capacity(settings), travel, len < 16, start, b);
-    if no != 0 {
-        return refusal(no);
-    }
-    take(words, k, start, b)
+    let answer = load_sound(words, k, start, b);
+    answer_number(answer)
 }
 
 // ---- make
 
-// The words of a bench with nothing in work, behind which none waits.
-fn fresh_words(k: Bench) -> [i64; 22]
-    ensures { λ r. ⌜ r ≡ freshWords k ⌝ }
-{
-    let w = encode(k);
-    [
-        ABI,
-        w[1],
-        w[2],
-        w[3],
-        w[4],
-        w[5],
-        w[6],
-        w[7],
-        w[8],
-        w[9],
-        w[10],
-        w[11],
-        w[12],
-        w[13],
-        w[14],
-        w[15],
-        w[16],
-        w[17],
-        w[18],
-        0,
-        0,
-        0,
-    ]
-}
-
 // Writes words over those in front.
-fn lay(words: &mut [i64; 134], front: &[i64; 22])
+fn lay(words: &mut [i64; 134], front: &[i64; 19])
     ensures { λ _. ⌜ now (words .exit) ≡ over (now (front .entry)) (now (words .entry)) ⌝ }
 {
     seen(words);
     seen(front);
     let mut i: usize = 0;
-    while i < 22 {
+    while i < 19 {
         let word = front[i];
         words[i] = word;
         i = i + 1;
     }
 }
 
-// Whatever the words were, those in front are a record after it.
+// Whatever the words were, those in front are a record after it: the bench's own, and no root, no cycle and no block to do.
 pub fn make(words: &mut [i64; 134], p: i64, w: i64, xlo: i64, xhi: i64, ylo: i64, yhi: i64) -> i64
     ensures { λ r. ⌜ tells r (now (words .exit)) ≡ madeOf (now (words .entry)) (settingsOf p w xlo xhi ylo yhi) ⌝ }
 {
+    seen(words);
     let a = Bench::make(settings(p, w, xlo, xhi, ylo, yhi));
     let answer = a.answer;
-    let front = fresh_words(a.bench);
+    let front = encode(a.bench);
     lay(words, &front);
+    words[19] = 0;
+    words[20] = 0;
+    words[21] = 0;
     answer_number(answer)
 }
 
 // ---- run
 
-// The root of the block in work.
-fn root_in(words: &[i64; 134]) -> u64
-    ensures { λ r. ⌜ r ≡ countOf (at (now (words .entry)) 19) ⌝ }
-{
-    let figures = figures_in(words);
-    count(figures.root)
-}
-
 // The tick bytes go to the front of the buffer; the rest of it stays.
 pub fn run(words: &mut [i64; 134], budget: u64, out: &mut [u8], ticks: &mut u64) -> i64
-    ensures { λ r. ⌜ tellsRun r (now (ticks .exit)) (now (words .exit)) (now (out .exit)) ≡ toldRunOf (now (words .entry)) budget (now (out .entry)) ⌝ }
+    ensures { λ r. ⌜ tellsRun r (now (ticks .exit)) (now (words .exit)) (now (out .exit))
+        ≡ toldRunOf (now (words .entry)) budget (now (out .entry)) ⌝ }
 {
     *ticks = 0;
     if !is_sound(words) {

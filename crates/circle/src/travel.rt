@@ -165,7 +165,8 @@ fn surrounds(room: Room, n: u64) -> bool
 }
 
 // Whether p and every point still to visit on the way to e are inside, for any room.
-// Most arcs are far from the edge of the travel, and for these one product tells.
+// Most arcs are far from the edge of the travel, and for these one product tells. The long test is called in two places, so that it stays
+// out of line and this one is short enough to stand where it is asked.
 pub fn stays_inside(room: Room, n: u64, turn: Turn, p: Offset, e: Offset) -> bool
     requires { ⌜ (onCircle n p ≡ true) × (onCircle n e ≡ true) ⌝ }
     ensures { λ r. ⌜ r ≡ staysInside room n turn p e ⌝ }
@@ -173,8 +174,13 @@ pub fn stays_inside(room: Room, n: u64, turn: Turn, p: Offset, e: Offset) -> boo
     if surrounds(room, n) {
         return true;
     }
-    let seen_room = room_from(turn, room);
-    let from = seen_from(turn, p);
-    let to = seen_from(turn, e);
-    way_inside(seen_room, n, from, to)
+    match turn {
+        Turn::Clockwise => {
+            let seen_room = room_from(turn, room);
+            let from = seen_from(turn, p);
+            let to = seen_from(turn, e);
+            way_inside(seen_room, n, from, to)
+        }
+        Turn::Counterclockwise => way_inside(room, n, p, e),
+    }
 }

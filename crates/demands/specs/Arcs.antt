@@ -2,7 +2,7 @@
 use mathlib.Core.Path.{_≡_}
 use mathlib.Core.Bool.{Bool, true, false}
 use mathlib.Core.Logic.{_≢_, _↔_}
-use mathlib.Core.List.{List}
+use mathlib.Core.List.{List, [], _∷_}
 use Prim.Native.Nat.{ℕ, _+_, _-_, _*_, _≤_, _<_}
 use lib.IntN.{ℤ, pos, natAbs, _+ℤ_, _-ℤ_, _*ℤ_}
 use lib.Signed.{_<ℤ_}
@@ -10,7 +10,7 @@ use Rattle.whole.specs.Width.{widthOf}
 use Rattle.plane.specs.declared.point.Point.{Point}
 use Rattle.plane.specs.declared.pulse.Pulses.{Pulses}
 use Rattle.plane.specs.Pulse.{shiftedOf, pulsesBetween}
-use Rattle.plane.specs.Byte.{cycleByte}
+use Rattle.plane.specs.Byte.{cycleByte, endMark}
 use Rattle.circle.specs.declared.plane.Offset.{Offset}
 use Rattle.circle.specs.declared.plane.Turn.{Turn}
 use Rattle.circle.specs.Circle.{square, Circle}
@@ -21,21 +21,27 @@ use Rattle.arc.specs.Centre.{seenFrom}
 use Rattle.block.specs.declared.Block.{Block}
 use Rattle.block.specs.declared.Path.{Path}
 use Rattle.block.specs.Block.{squareOf, arcOf}
+use Rattle.block.specs.Chain.{endAfter}
 use Rattle.block.specs.Charge.{arcStepCharge}
+use Rattle.queue.specs.Queue.{waiting}
 use Rattle.work.specs.declared.Work.{Work}
 use Rattle.work.specs.Work.{cyclesLeft, chargesFor}
 use Rattle.settings.specs.Settings.{capacityOf}
 use Rattle.bench.specs.declared.Bench.{Bench}
 use Rattle.bench.specs.declared.Answer.{Answer}
-use Rattle.bench.specs.declared.Answered.{Answered}
 use Rattle.bench.specs.declared.Tick.{Tick}
-use Rattle.bench.specs.declared.Ticked.{Ticked}
+use Rattle.bench.specs.declared.Ticked.{Ticked as BenchTicked}
 use Rattle.bench.specs.Bench.{movedOf}
+use Rattle.machine.specs.declared.Machine.{Machine}
+use Rattle.machine.specs.declared.Answered.{Answered}
+use Rattle.machine.specs.declared.Ticked.{Ticked}
+use Rattle.book.specs.Ledger.{CountedAlong}
 use Rattle.book.specs.Sums.{cyclesMarked}
 use Rattle.history.specs.Contracts.{Loads, Ticks}
 use Rattle.demands.specs.Asked.{AllYes}
-use Rattle.demands.specs.Sound.{Sound}
-use Rattle.demands.specs.Questions.{loadQuestions}
+use Rattle.demands.specs.Sound.{workEnd, Sound}
+use Rattle.demands.specs.Questions.{nextStart, loadQuestions}
+use Rattle.demands.specs.Taken.{Taken, TicksAs}
 use Rattle.demands.specs.Runs.{TicksTo}
 
 -- ---- least error
@@ -58,9 +64,9 @@ pub record LeastError (N : ℕ) (p : Offset) : Type 0 where
 
 -- ---- an accepted arc
 
-pub record ArcLoaded (m : Bench) (b : Block) (turn : Turn) (centre : Offset) (r : Answered) : Type 0 where
-  -- "(I, J) is the centre seen from the start; N = I² + J²." The start is the machine's point.
-  pub bench : r .bench ≡ movedOf m (m .at) (m .remainder) (Work.Arc (arcOf (m .at) b turn centre))
+pub record ArcLoaded (m : Machine) (b : Block) (turn : Turn) (centre : Offset) (r : Answered) : Type 0 where
+  -- "(I, J) is the centre seen from the start; N = I² + J²."
+  pub taken : Taken m b (Work.Arc (arcOf (nextStart m) b turn centre)) (r .machine)
   -- "the fewest bits that hold .. for an arc its m on an axis": such a circle point there is, and only one
   pub axis : ℕ
   pub on-axis : (n : ℕ) → Circle (squareOf centre) (offset (pos n) (pos 0)) ↔ (n ≡ axis)
@@ -85,12 +91,12 @@ abbrev pub arcDue : {m : Bench} {a : Arc} → ArcStep m a → ℕ
 arcDue {m} s = arcStepCharge (s .pulses) * capacityOf (m .settings)
 
 -- answer and record of its cycle
-abbrev pub arcCycled : {m : Bench} {a : Arc} → ArcStep m a → (ended : Bool) → Work → Ticked
+abbrev pub arcCycled : {m : Bench} {a : Arc} → ArcStep m a → (ended : Bool) → Work → BenchTicked
 arcCycled {m} {a} s ended work =
     record { tick = Tick.Byte (cycleByte (s .pulses) ended); bench = movedOf m (s .at) (arcSum m a - arcDue s) work }
 
--- a working tick of a record with an arc in work
-pub record ArcTick (m : Bench) (a : Arc) (r : Ticked) : Type 0 where
+-- a working tick of a bench with an arc in work
+pub record ArcTick (m : Bench) (a : Arc) (r : BenchTicked) : Type 0 where
   pub step : ArcStep m a
   pub waits : arcSum m a < arcDue step → r ≡ record { tick = Tick.Byte 0; bench = movedOf m (m .at) (arcSum m a) (Work.Arc a) }
   -- ".. one a cycle, to the end."
@@ -104,18 +110,33 @@ pub record ArcCharges (m : Bench) (a : Arc) : Type 0 where
       → Next (a .square) (a .turn) (seenFrom (a .centre) u) (seenFrom (a .centre) v)
       → chargesFor (m .at) (Work.Arc a) (c + 1) ≡ chargesFor (m .at) (Work.Arc a) c + arcStepCharge (pulsesBetween u v)
 
+-- ticks of one block: none of them but the last marks a block's end
+abbrev pub OneBlock : (bytes : List ℕ) → Type 0
+OneBlock [] = Unit {0}
+OneBlock (b ∷ []) = Unit {0}
+OneBlock (b ∷ c ∷ later) = (endMark b ≡ 0) × OneBlock (c ∷ later)
+
+-- the cycles of blocks that wait one behind the other, of each arc those of its walk from where it will start
+abbrev pub CountedInTurn : (start : Point) → List Block → Type 0
+CountedInTurn start [] = Unit {0}
+CountedInTurn start (b ∷ later) = CountedAlong start b (b .path) × CountedInTurn (endAfter start b) later
+
 pub record EveryArc : Type 0 where
   -- "a circle point .. is the nearest point along the longer coordinate", and every such point but the centre is one
   pub least-error : (N : ℕ) (p : Offset) → Circle N p ↔ ((1 ≤ natAbs (p .x) + natAbs (p .y)) × LeastError N p)
-  pub load : (m : Bench) (b : Block) (r : Answered) → Loads m b r → AllYes (loadQuestions m b)
+  pub load : (m : Machine) (b : Block) (r : Answered) → Loads m b r → AllYes (loadQuestions m b)
       → (turn : Turn) (centre : Offset) → b .path ≡ Path.Arc turn centre → ArcLoaded m b turn centre r
-  pub tick : (m : Bench) (a : Arc) (r : Ticked) → Ticks m r → Sound m → m .work ≡ Work.Arc a → m .held ≡ false → ArcTick m a r
+  pub tick : (m : Machine) (a : Arc) (r : Ticked) → Ticks m r → Sound m → m .bench .work ≡ Work.Arc a → m .bench .held ≡ false
+      → TicksAs (ArcTick (m .bench) a) m r
   -- the cycles left, which the feed divider counts, are those of the paper's walk to the end
-  pub cycles-left : (m : Bench) (a : Arc) → Sound m → m .work ≡ Work.Arc a
-      → Ends (a .square) (a .turn) (seenFrom (a .centre) (m .at)) (seenFrom (a .centre) (a .end)) (cyclesLeft (m .at) (m .work))
-  -- and so are their charges, by which a run and a block's end tick go
-  pub charges : (m : Bench) (a : Arc) → Sound m → m .work ≡ Work.Arc a → ArcCharges m a
-  -- "The arc visits the circle points after the start in order of angle, one a cycle": after ticks whose bytes mark c cycles the walk has
-  -- come c points on
-  pub walk : (m m′ : Bench) (a : Arc) (bytes : List ℕ) → Sound m → m .work ≡ Work.Arc a → TicksTo m bytes m′
-      → Walk (a .square) (a .turn) (seenFrom (a .centre) (m .at)) (cyclesMarked bytes) (seenFrom (a .centre) (m′ .at))
+  pub cycles-left : (m : Machine) (a : Arc) → Sound m → m .bench .work ≡ Work.Arc a
+      → Ends (a .square) (a .turn) (seenFrom (a .centre) (m .bench .at)) (seenFrom (a .centre) (a .end))
+      (cyclesLeft (m .bench .at) (m .bench .work))
+  -- and so are those of the arcs that wait, which the figure counts
+  pub waiting-cycles : (m : Machine) → Sound m → CountedInTurn (workEnd m) (waiting (m .queue))
+  -- so are the charges of the arc in work, by which a run and a block's end tick go
+  pub charges : (m : Machine) (a : Arc) → Sound m → m .bench .work ≡ Work.Arc a → ArcCharges (m .bench) a
+  -- "The arc visits the circle points after the start in order of angle, one a cycle": after ticks of it whose bytes mark c cycles the
+  -- walk has come c points on
+  pub walk : (m m′ : Machine) (a : Arc) (bytes : List ℕ) → Sound m → m .bench .work ≡ Work.Arc a → TicksTo m bytes m′ → OneBlock bytes
+      → Walk (a .square) (a .turn) (seenFrom (a .centre) (m .bench .at)) (cyclesMarked bytes) (seenFrom (a .centre) (m′ .bench .at))

@@ -1,37 +1,39 @@
--- The demands from C, where the caller owns the record as 19 words: on the words of a sound record each call is the machine's own, so that
+-- The demands from C, where the caller owns the record as 134 words: on the words of a sound record each call is the machine's own, so that
 -- what is claimed of the machine's calls is claimed of these; all other words get 9 and stay as they are.
 use mathlib.Core.Path.{_≡_}
 use mathlib.Core.Logic.{_⊎_}
-use mathlib.Core.List.{List, [], _++_}
-use Prim.Native.Nat.{ℕ, _^_, _<_}
+use mathlib.Core.List.{List}
+use Prim.Native.Nat.{ℕ, zero, suc, _-_, _^_, _<_}
 use lib.IntN.{ℤ, pos, negsuc}
-use lib.ListN.{take}
+use lib.ListN.{length, take, drop, replicate}
 use denote.Ref.{RefT, now}
 use contract.Lifetimes.{Lfts}
 use Rattle.circle.specs.declared.plane.Turn.{Turn}
 use Rattle.block.specs.declared.Path.{Path}
+use Rattle.queue.specs.Queue as queue
 use Rattle.settings.specs.declared.Settings.{Settings}
 use Rattle.settings.specs.Settings.{capacityOf}
 use Rattle.bench.specs.declared.Bench.{Bench}
-use Rattle.bench.specs.declared.Answered.{Answered}
-use Rattle.bench.specs.declared.Ticked.{Ticked}
-use Rattle.bench.specs.declared.Ran.{Ran}
-use Rattle.ahead.specs.declared.Ahead.{Ahead}
-use Rattle.history.specs.Contracts.{Makes, Loads, Ticks, Runs, Holds, Releases, Stops, Looks}
+use Rattle.machine.specs.declared.Machine.{Machine}
+use Rattle.machine.specs.declared.Answered.{Answered}
+use Rattle.machine.specs.declared.Ticked.{Ticked}
+use Rattle.machine.specs.declared.Ran.{Ran}
+use Rattle.look.specs.declared.Ahead.{Ahead}
+use Rattle.history.specs.Contracts.{Makes, Loads, Ticks, Runs, Holds, Releases, Stops, ReadsLine, Looks}
 use Rattle.reader.specs.declared.Feed.{Feed}
 use Rattle.reader.specs.declared.Reader.{Reader}
-use Rattle.reader.specs.declared.«text_line».ReadLine.{ReadLine}
+use Rattle.textline.specs.declared.ReadLine.{ReadLine}
 use Rattle.job.specs.Job.{jobOf}
 use Rattle.job.specs.Listing.{jobListing}
-use Rattle.job.specs.declared.Check.{Check}
-use Rattle.job.specs.declared.Filled.{Filled}
-use Rattle.job.specs.Check.{isOver}
-use Rattle.layout.specs.Words.{encodeOf, settingsOf, markWord}
+use Rattle.layout.specs.Words.{settingsOf}
+use Rattle.record.specs.Words.{encodeOf, over}
 use Rattle.progress.specs.Known.{encodeKnown}
-use Rattle.progress.specs.Progress.{encodeProgress, checkIn}
-use Rattle.export.specs.Calls.{Call, answerNumber, tickNumber, reportNumber, arcPath, blockOf}
+use Rattle.progress.specs.Progress.{checkIn}
+use Rattle.calls.specs.Calls.{Call, answerNumber, tickNumber, reportNumber}
+use Rattle.export.specs.Given.{arcPath, blockOf}
 use Rattle.export.specs.Looks.{sumWords, noSums}
-use Rattle.export.specs.Texts.{readNumber, Refuses}
+use Rattle.export.specs.Texts.{readNumber}
+use Rattle.checkcalls.specs.Check.{Refuses}
 use Rattle.export.proofs.vz_make.Reads as make-reads
 use Rattle.export.proofs.vz_load_line.Reads as line-reads
 use Rattle.export.proofs.vz_load_cw.Reads as cw-reads
@@ -41,66 +43,78 @@ use Rattle.export.proofs.vz_run.Reads as run-reads
 use Rattle.export.proofs.vz_hold.Reads as hold-reads
 use Rattle.export.proofs.vz_release.Reads as release-reads
 use Rattle.export.proofs.vz_stop.Reads as stop-reads
-use Rattle.export.proofs.look.«vz_ahead».Reads as ahead-reads
+use Rattle.export.proofs.lookahead.«vz_ahead».Reads as ahead-reads
 use Rattle.export.proofs.text.«vz_read_line».Reads as text-reads
-use Rattle.export.proofs.text.«vz_check_start».Reads as start-reads
-use Rattle.export.proofs.text.«vz_check_fill».Reads as fill-reads
 use Rattle.demands.specs.Asked.{AllYes}
-use Rattle.demands.specs.Sound.{Sound, settingsQuestions}
-use Rattle.demands.specs.Answers.{ReadsLine}
-use Rattle.demands.specs.Texts.{FrontOf, Starts, FillsCheck}
+use Rattle.demands.specs.Bench.{settingsQuestions}
+use Rattle.demands.specs.Sound.{Sound}
+use Rattle.demands.specs.Texts.{FrontOf}
+use Rattle.demands.specs.CheckFromC.{StartsFromC, StartedWords, FillsFromC, OwnFill, IsCheck, RowsOutToC}
 
 -- ---- the machine's own call on the record m: it may give the answer n, as C has it, and the record m′
 
-abbrev pub OwnAnswer : (Answered → Type 0) → (n : ℤ) → Bench → Type 0
-OwnAnswer May n m′ = (r : Answered) × May r × (n ≡ answerNumber (r .answer)) × (m′ ≡ r .bench)
+abbrev pub OwnAnswer : (Answered → Type 0) → (n : ℤ) → Machine → Type 0
+OwnAnswer May n m′ = (r : Answered) × May r × (n ≡ answerNumber (r .answer)) × (m′ ≡ r .machine)
 
-abbrev pub Own : Call → (m : Bench) (n : ℤ) (m′ : Bench) → Type 0
+abbrev pub Own : Call → (m : Machine) (n : ℤ) (m′ : Machine) → Type 0
 Own (Call.load b) m n m′ = OwnAnswer (Loads m b) n m′
-Own Call.tick m n m′ = (r : Ticked) × Ticks m r × (n ≡ tickNumber (r .tick)) × (m′ ≡ r .bench)
+Own Call.tick m n m′ = (r : Ticked) × Ticks m r × (n ≡ tickNumber (r .tick)) × (m′ ≡ r .machine)
 Own Call.hold m n m′ = OwnAnswer (Holds m) n m′
 Own Call.release m n m′ = OwnAnswer (Releases m) n m′
 Own Call.stop m n m′ = OwnAnswer (Stops m) n m′
 
 -- ---- on words
 
+-- words that begin with those of a sound record; what stands behind these is no part of it
+pub record Carries (ws : List ℤ) (m : Machine) : Type 0 where
+  pub sound : Sound m
+  pub words : take (length (encodeOf m)) ws ≡ encodeOf m
+  -- words do not tell what the places hold in which none waits, and no answer depends on it: here they are blank, as in every history
+  pub blank : drop (m .queue .len) (m .queue .blocks) ≡ replicate (16 - m .queue .len) queue.blank
+
 -- words that no sound record has
 abbrev pub NoRecord : List ℤ → Type 0
-NoRecord ws = (m : Bench) → Sound m → ¬ (ws ≡ encodeOf m)
+NoRecord ws = (m : Machine) → ¬ (Carries ws m)
 
 pub record OnWords (call : Call) (before : List ℤ) (n : ℤ) (after : List ℤ) : Type 0 where
-  -- the words after it are again those of a sound record
-  pub own : (m : Bench) → Sound m → before ≡ encodeOf m
-      → (m′ : Bench) × Own call m n m′ × Sound m′ × (after ≡ encodeOf m′)
+  -- the words after it are again those of a sound record, and those behind them are as they were
+  pub own : (m : Machine) → Carries before m → (m′ : Machine) × Own call m n m′ × Carries after m′ × (after ≡ over (encodeOf m′) before)
   -- "Any call on a record: is it sound? 9."; "returns record and buffers unchanged"
   pub others : NoRecord before → (n ≡ negsuc 8) × (after ≡ before)
   -- a refusal of whatever number leaves every word
   pub refused : (k : ℕ) → n ≡ negsuc k → after ≡ before
 
 -- of a run, the ticks and the buffer too
-abbrev pub OwnRun : Bench → (budget : ℕ) (out out′ : RefT (List ℕ)) (n : ℤ) (ticks : ℕ) → Bench → Type 0
+abbrev pub OwnRun : Machine → (budget : ℕ) (out out′ : RefT (List ℕ)) (n : ℤ) (ticks : ℕ) → Machine → Type 0
 OwnRun m budget out out′ n ticks m′ =
-    (r : Ran) × ((κs : Lfts 1) → Runs κs m budget out out′ r) × (n ≡ reportNumber (r .report)) × (ticks ≡ r .ticks) × (m′ ≡ r .bench)
+    (r : Ran) × ((κs : Lfts 1) → Runs κs m budget out out′ r) × (n ≡ reportNumber (r .report)) × (ticks ≡ r .ticks) × (m′ ≡ r .machine)
 
 pub record RunOnWords (before : List ℤ) (budget : ℕ) (out out′ : RefT (List ℕ)) (n : ℤ) (ticks : ℕ) (after : List ℤ) : Type 0 where
-  pub own : (m : Bench) → Sound m → before ≡ encodeOf m
-      → (m′ : Bench) × OwnRun m budget out out′ n ticks m′ × Sound m′ × (after ≡ encodeOf m′)
+  pub own : (m : Machine) → Carries before m
+      → (m′ : Machine) × OwnRun m budget out out′ n ticks m′ × Carries after m′ × (after ≡ over (encodeOf m′) before)
   pub others : NoRecord before → (n ≡ negsuc 8) × (ticks ≡ 0) × (after ≡ before) × (now out′ ≡ now out)
   pub refused : (k : ℕ) → n ≡ negsuc k → (ticks ≡ 0) × (after ≡ before) × (now out′ ≡ now out)
 
+-- so many calls of a tick, each on the words that the one before left
+pub data TickedWords : ℕ → (before after : List ℤ) → Type 0 where
+  none : {ws : List ℤ} → TickedWords zero ws ws
+  one : {n : ℕ} {ws : List ℤ} (κs : Lfts 1) (words words′ : RefT (List ℤ)) (answer : ℤ)
+      → tick-reads.Learnt κs (words, tt) answer (words′, tt) → TickedWords n (now words′) ws → TickedWords (suc n) (now words) ws
+
 -- of a look-ahead, the words of the record that it gives, and the sums; those of the machine itself are lent for reading
 pub record LookOnWords (before : List ℤ) (ticks : ℕ) (n : ℤ) (then sums : List ℤ) : Type 0 where
-  pub own : (m : Bench) → Sound m → before ≡ encodeOf m
-      → (r : Ahead) × Looks m ticks r × (n ≡ answerNumber (r .answer)) × Sound (r .then) × (then ≡ encodeOf (r .then))
-      × (sums ≡ sumWords (r .sums))
+  pub own : (m : Machine) → Carries before m
+      → (r : Ahead) × Looks m ticks r × (n ≡ answerNumber (r .answer)) × Carries then (r .then) × (sums ≡ sumWords (r .sums))
+  -- 02 §1: "the record .. that the same ticks would give on a copy", in every word
+  pub copy : n ≡ pos 0 → (ws : List ℤ) → TickedWords ticks before ws → then ≡ ws
   pub others : NoRecord before → (n ≡ negsuc 8) × (then ≡ before) × (sums ≡ noSums)
   -- 02 §1: "A refusal gives the machine's own record and sums of 0."
   pub refused : (k : ℕ) → n ≡ negsuc k → (then ≡ before) × (sums ≡ noSums)
 
 -- a make asks nothing of the words
-abbrev pub MadeWords : Settings → (n : ℤ) (after : List ℤ) → Type 0
-MadeWords s n after =
-    (r : Answered) × Makes s r × (n ≡ answerNumber (r .answer)) × Sound (r .bench) × (after ≡ encodeOf (r .bench))
+abbrev pub MadeWords : Settings → (before : List ℤ) (n : ℤ) (after : List ℤ) → Type 0
+MadeWords s before n after =
+    (r : Answered) × Makes s r × (n ≡ answerNumber (r .answer)) × Carries after (r .machine) × (after ≡ over (encodeOf (r .machine)) before)
 
 -- ---- a line of a job text, with the G and F known in 2 words
 
@@ -115,58 +129,17 @@ NotKnown ks = (k : Reader) → FeedOf32 (k .feed) → ¬ (ks ≡ encodeKnown k)
 
 pub record LineOnWords (before known : List ℤ) (line : RefT (List ℕ)) (n : ℤ) (after known′ : List ℤ) : Type 0 where
   -- read_line's own, and the words after it are again those of a sound record
-  pub own : (m : Bench) → Sound m → before ≡ encodeOf m → (k : Reader) → FeedOf32 (k .feed) → known ≡ encodeKnown k
-      → (r : ReadLine) × ((κs : Lfts 1) → ReadsLine κs k m line r) × (n ≡ readNumber (r .answer)) × Sound (r .bench)
-      × (after ≡ encodeOf (r .bench)) × (known′ ≡ encodeKnown (r .reader))
+  pub own : (m : Machine) → Carries before m → (k : Reader) → FeedOf32 (k .feed) → known ≡ encodeKnown k
+      → (r : ReadLine) × ((κs : Lfts 1) → ReadsLine κs k m line r) × (n ≡ readNumber (r .answer)) × Carries after (r .machine)
+      × (after ≡ over (encodeOf (r .machine)) before) × (known′ ≡ encodeKnown (r .reader))
   pub others : NoRecord before ⊎ NotKnown known → (n ≡ negsuc 8) × (after ≡ before) × (known′ ≡ known)
   -- "A refused line leaves the known G and F and the machine as before it."
   pub refused : (k : ℕ) → n ≡ negsuc k → (after ≡ before) × (known′ ≡ known)
 
--- ---- the check of a job, in the words of its machine's record and in 8 words of its progress
-
--- the words of the check c
-pub record Tells (c : Check) (ws ps : List ℤ) : Type 0 where
-  pub words : ws ≡ encodeOf (c .tally .bench)
-  pub progress : ps ≡ encodeProgress c
-
--- a start may answer n
-abbrev pub StartsFromC : Lfts 2 → (words words′ progress progress′ : RefT (List ℤ)) (p w xlo xhi ylo yhi n : ℤ) → Type 0
-StartsFromC κs words words′ progress progress′ p w xlo xhi ylo yhi n =
-    start-reads.Learnt κs (words, (progress, (p, (w, (xlo, (xhi, (ylo, (yhi, tt)))))))) n
-    (words′, (progress′, (p, (w, (xlo, (xhi, (ylo, (yhi, tt))))))))
-
--- the words of a check that begins at the machine that a make answers
-abbrev pub StartedWords : Settings → (n : ℤ) (ws ps : List ℤ) → Type 0
-StartedWords s n ws ps = (r : Answered) × Makes s r × (n ≡ answerNumber (r .answer)) × (c : Check) × Starts (r .bench) c × Tells c ws ps
-
--- a fill of the words, lent the text, may answer n
-abbrev pub FillsFromC : Lfts 5 → (ws ws′ ps ps′ : RefT (List ℤ)) (text out out′ : RefT (List ℕ)) (len len′ : RefT ℕ) (n : ℤ) → Type 0
-FillsFromC κs ws ws′ ps ps′ text out out′ len len′ n =
-    fill-reads.Learnt κs (ws, (ps, (text, (out, (len, tt))))) n (ws′, (ps′, (text, (out′, (len′, tt)))))
-
--- the check's own fill: 1 once all is handed out, else 0
-abbrev pub OwnFill : Check → (text out out′ : RefT (List ℕ)) (n : ℤ) (len : ℕ) (ws′ ps′ : List ℤ) → Type 0
-OwnFill c text out out′ n len ws′ ps′ =
-    (f : Filled) × ((κs : Lfts 2) → FillsCheck κs c text out out′ f) × (n ≡ markWord (isOver (f .check))) × (len ≡ f .len)
-    × Tells (f .check) ws′ ps′
-
--- the words of a sound record, and a check's progress at it
-abbrev pub IsCheck : (ws ps : List ℤ) → Bench → Type 0
-IsCheck ws ps m = Sound m × (ws ≡ encodeOf m) × (ps ≡ encodeProgress (checkIn m ps))
-
--- fills of one text, one after the other, lead from these words to those, and hand these bytes out; n is what the last answered
-pub data RowsOutToC (text : List ℕ) (ws ps : List ℤ) : List ℕ → (n : ℤ) → (ws′ ps′ : List ℤ) → Type 0 where
-  none : RowsOutToC text ws ps [] (pos 0) ws ps
-  fill : {bytes : List ℕ} {n : ℤ} {ws₁ ps₁ : List ℤ} → RowsOutToC text ws ps bytes n ws₁ ps₁ → (κs : Lfts 5)
-      (words words′ progress progress′ : RefT (List ℤ)) (lent out out′ : RefT (List ℕ)) (len len′ : RefT ℕ) (n′ : ℤ)
-      → now words ≡ ws₁ → now progress ≡ ps₁ → now lent ≡ text
-      → FillsFromC κs words words′ progress progress′ lent out out′ len len′ n′
-      → RowsOutToC text ws ps (bytes ++ take (now len′) (now out′)) n′ (now words′) (now progress′)
-
 pub record EveryCallFromC : Type 0 where
   pub make : (κs : Lfts 1) (words words′ : RefT (List ℤ)) (p w xlo xhi ylo yhi n : ℤ)
       → make-reads.Learnt κs (words, (p, (w, (xlo, (xhi, (ylo, (yhi, tt))))))) n (words′, (p, (w, (xlo, (xhi, (ylo, (yhi, tt)))))))
-      → MadeWords (settingsOf p w xlo xhi ylo yhi) n (now words′)
+      → MadeWords (settingsOf p w xlo xhi ylo yhi) (now words) n (now words′)
   pub line : (κs : Lfts 1) (words words′ : RefT (List ℤ)) (x y feed n : ℤ)
       → line-reads.Learnt κs (words, (x, (y, (feed, tt)))) n (words′, (x, (y, (feed, tt))))
       → OnWords (Call.load (blockOf Path.Line x y feed)) (now words) n (now words′)
@@ -197,11 +170,11 @@ pub record EveryCallFromC : Type 0 where
       → StartsFromC κs words words′ progress progress′ p w xlo xhi ylo yhi n
       → StartedWords (settingsOf p w xlo xhi ylo yhi) n (now words′) (now progress′)
   pub fill : (κs : Lfts 5) (ws ws′ ps ps′ : RefT (List ℤ)) (text out out′ : RefT (List ℕ)) (len len′ : RefT ℕ) (n : ℤ)
-      → FillsFromC κs ws ws′ ps ps′ text out out′ len len′ n → (m : Bench) → IsCheck (now ws) (now ps) m
-      → OwnFill (checkIn m (now ps)) text out out′ n (now len′) (now ws′) (now ps′)
+      → FillsFromC κs ws ws′ ps ps′ text out out′ len len′ n → (k : Bench) → IsCheck (now ws) (now ps) k
+      → OwnFill (checkIn k (now ps)) text out out′ n (now len′) (now ws′) (now ps′)
   -- all other words get 9, and nothing is written
   pub no-check : (κs : Lfts 5) (ws ws′ ps ps′ : RefT (List ℤ)) (text out out′ : RefT (List ℕ)) (len len′ : RefT ℕ) (n : ℤ)
-      → FillsFromC κs ws ws′ ps ps′ text out out′ len len′ n → ((m : Bench) → ¬ (IsCheck (now ws) (now ps) m))
+      → FillsFromC κs ws ws′ ps ps′ text out out′ len len′ n → ((k : Bench) → ¬ (IsCheck (now ws) (now ps) k))
       → Refuses (now ws) (now ps) (now out) n (now len′) (now ws′) (now ps′) (now out′)
   -- "The check program", from C: whoever fills the words of a start gets the listing, to the byte, and the answer 1 at its end
   pub listing : (κs : Lfts 2) (words words′ progress progress′ : RefT (List ℤ)) (p w xlo xhi ylo yhi n : ℤ)

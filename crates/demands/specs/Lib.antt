@@ -1,15 +1,20 @@
--- To be believed, in this order: Asked, Sound, Questions, Answers, Records and Calls (demand 1); Runs, Lines, Arcs, Texts and TickBytes
--- (demand 2); FromC. Demand 3 and the claims on the look-ahead are in crate history. Proved of them: laws.
+-- To be believed, in this order: Asked, Bench, Block, Sound, Questions, Answers, Records and Calls (demand 1); Taken, Runs, Lines, Arcs,
+-- Texts and TickBytes (demand 2); CheckFromC and FromC. Demand 3, the figure and the claims on the look-ahead are in crate history. Proved
+-- of them: laws.
 pub mod Asked
+pub mod Bench
+pub mod Block
 pub mod Sound
 pub mod Questions
 pub mod Answers
 pub mod Records
 pub mod Calls
+pub mod Taken
 pub mod Runs
 pub mod Lines
 pub mod Arcs
 pub mod Texts
 pub mod TickBytes
+pub mod CheckFromC
 pub mod FromC
 pub mod laws

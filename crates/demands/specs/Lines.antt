@@ -21,14 +21,17 @@ use Rattle.work.specs.Work.{following}
 use Rattle.settings.specs.Settings.{capacityOf}
 use Rattle.bench.specs.declared.Bench.{Bench}
 use Rattle.bench.specs.declared.Answer.{Answer}
-use Rattle.bench.specs.declared.Answered.{Answered}
 use Rattle.bench.specs.declared.Tick.{Tick}
-use Rattle.bench.specs.declared.Ticked.{Ticked}
+use Rattle.bench.specs.declared.Ticked.{Ticked as BenchTicked}
 use Rattle.bench.specs.Bench.{movedOf}
+use Rattle.machine.specs.declared.Machine.{Machine}
+use Rattle.machine.specs.declared.Answered.{Answered}
+use Rattle.machine.specs.declared.Ticked.{Ticked}
 use Rattle.history.specs.Contracts.{Loads, Ticks}
 use Rattle.demands.specs.Asked.{AllYes}
 use Rattle.demands.specs.Sound.{Sound}
-use Rattle.demands.specs.Questions.{loadQuestions}
+use Rattle.demands.specs.Questions.{nextStart, loadQuestions}
+use Rattle.demands.specs.Taken.{Taken, TicksAs}
 
 -- the pulses of cycle c + 1: each axis has a register of capacity q, half filled, to which each cycle adds the axis's increment
 abbrev pub registerPulses : (start end : Point) (c : ℕ) → Pulses
@@ -43,8 +46,8 @@ registerPulses start end c =
 abbrev pub oneMore : Line → Line
 oneMore l = record { start = l .start; end = l .end; feed = l .feed; cycles = l .cycles; done = l .done + 1 }
 
--- a working tick of a record with a line in work. 02 §2: "Line cycles are charged 1,000.", whatever pulses they send
-pub record LineTick (m : Bench) (l : Line) (r : Ticked) : Type 0 where
+-- a working tick of a bench with a line in work. 02 §2: "Line cycles are charged 1,000.", whatever pulses they send
+pub record LineTick (m : Bench) (l : Line) (r : BenchTicked) : Type 0 where
   -- 02 §2: "A tick adds 1,000 × f."
   pub waits : m .remainder + 1000 * l .feed < straight * capacityOf (m .settings)
       → r ≡ record { tick = Tick.Byte 0; bench = movedOf m (m .at) (m .remainder + 1000 * l .feed) (Work.Line l) }
@@ -59,13 +62,16 @@ pub record LineTick (m : Bench) (l : Line) (r : Ticked) : Type 0 where
         bench = movedOf m (shiftedOf (m .at) pulses) rest (following last (Work.Line (oneMore l)));
       })
 
+-- an accepted line
+pub record LineLoaded (m : Machine) (b : Block) (r : Answered) : Type 0 where
+  -- "Each load also answers the register width ..: the fewest bits that hold the larger of |a|, |b|"
+  pub width : (let start = nextStart m in
+      r .answer ≡ Answer.Width (widthOf (max (natAbs (incrementX start (b .end))) (natAbs (incrementY start (b .end))))))
+  -- in work it has no cycle done
+  pub taken : Taken m b (Work.Line (lineOf (nextStart m) (b .end) (b .feed))) (r .machine)
+
 pub record EveryLine : Type 0 where
-  -- an accepted line comes into work at the point with no cycle done; "Each load also answers the register width ..: the fewest bits that
-  -- hold the larger of |a|, |b|"
-  pub load : (m : Bench) (b : Block) (r : Answered) → Loads m b r → AllYes (loadQuestions m b) → b .path ≡ Path.Line
-      → r ≡ record {
-        answer = Answer.Width (widthOf (max (natAbs (incrementX (m .at) (b .end))) (natAbs (incrementY (m .at) (b .end)))));
-        bench = movedOf m (m .at) (m .remainder) (Work.Line (lineOf (m .at) (b .end) (b .feed)));
-      }
-  pub tick : (m : Bench) (l : Line) (r : Ticked) → Ticks m r → Sound m → m .work ≡ Work.Line l → m .held ≡ false
-      → LineTick m l r
+  pub load : (m : Machine) (b : Block) (r : Answered) → Loads m b r → AllYes (loadQuestions m b) → b .path ≡ Path.Line
+      → LineLoaded m b r
+  pub tick : (m : Machine) (l : Line) (r : Ticked) → Ticks m r → Sound m → m .bench .work ≡ Work.Line l → m .bench .held ≡ false
+      → TicksAs (LineTick (m .bench) l) m r

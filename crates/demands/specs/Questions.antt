@@ -1,24 +1,15 @@
--- 01, "Questions, and the number when the answer is no", and 02's 38: what each call is asked, question by question. 1, 2, 3 and the list
--- behind 9 are in Sound; 30, which is asked of a whole text, is in Texts.
+-- 01, "Questions, and the number when the answer is no", and 02's 38: what each call is asked, question by question. 1, 2 and 3 are in
+-- Bench, 11 to 16 in Block, the list behind 9 in Sound; 30, which is asked of a whole text, is in Texts.
 use mathlib.Core.Path.{_≡_}
 use mathlib.Core.Bool.{Bool, true, false}
-use mathlib.Core.Logic.{_≢_}
 use mathlib.Core.List.{List}
-use Prim.Native.Nat.{ℕ, _*_, _%_, _≤_}
-use lib.IntN.{natAbs}
+use Prim.Native.Nat.{ℕ, _*_, _%_, _≤_, _<_}
 use lib.ListN.{length}
 use Rattle.plane.specs.declared.point.Point.{Point}
-use Rattle.circle.specs.declared.plane.Offset.{Offset}
-use Rattle.circle.specs.declared.plane.Turn.{Turn}
-use Rattle.circle.specs.Circle.{Circle}
-use Rattle.arc.specs.Centre.{seenFrom, backFrom}
 use Rattle.block.specs.declared.Block.{Block}
-use Rattle.block.specs.declared.Path.{Path}
-use Rattle.block.specs.Block.{squareOf, arcOf}
-use Rattle.work.specs.declared.Work.{Work}
 use Rattle.settings.specs.declared.Settings.{Settings}
-use Rattle.settings.specs.Settings.{capacityOf}
-use Rattle.bench.specs.declared.Bench.{Bench}
+use Rattle.machine.specs.declared.Machine.{Machine}
+use Rattle.machine.specs.Machine.{startOf}
 use Rattle.letters.specs.declared.letter.Letter.{Letter}
 use Rattle.letters.specs.declared.word.Word.{Word}
 use Rattle.letters.specs.declared.word.Words.{Words}
@@ -30,61 +21,30 @@ use Rattle.reader.specs.declared.Reader.{Reader}
 use Rattle.reader.specs.Reader.{readerAfter, placed, centred, moving, motionKnown, feedKnown, isArc, blockOf}
 use Rattle.reader.specs.Asked.{still}
 use Rattle.demands.specs.Asked.{Questions, none, question, andThen}
-use Rattle.demands.specs.Sound.{InTravel, FeedRight, VisitsInTravel, Sound}
+use Rattle.demands.specs.Block.{blockQuestions}
+use Rattle.demands.specs.Sound.{Sound}
 
 -- "Any call on a record: is it sound? 9."
-abbrev pub soundQuestion : Bench → Questions → Questions
+abbrev pub soundQuestion : Machine → Questions → Questions
 soundQuestion m later = question 9 (Sound m) later
 
 -- 02 §1: "38: more than 1,000,000 ticks, checked after 9."
-abbrev pub lookQuestions : Bench → (ticks : ℕ) → Questions
+abbrev pub lookQuestions : Machine → (ticks : ℕ) → Questions
 lookQuestions m ticks = soundQuestion m (question 38 (ticks ≤ 1000000) none)
 
--- ---- load, by the settings and the place where the block starts
+-- ---- load
 
--- "is nothing in work? 10."
-abbrev pub NothingInWork : Bench → Type 0
-NothingInWork m = m .work ≡ Work.Nothing
+-- 02 §3: "Question 10 becomes: are fewer than 16 waiting?"
+abbrev pub FewerWaiting : Machine → Type 0
+FewerWaiting m = m .queue .len < 16
 
--- "Is f in 1..q0? 11."
-abbrev pub BlockFeedRight : Settings → Block → Type 0
-BlockFeedRight s b = FeedRight (capacityOf s) (b .feed)
+-- 02 §3: "The other load questions, and what a text line leaves out, start from the end of the last waiting block, else of the block in
+-- work, else from the point"
+abbrev pub nextStart : Machine → Point
+nextStart m = startOf (m .bench) (m .queue)
 
--- "Is the end in travel? 12."
-abbrev pub EndInTravel : Settings → Block → Type 0
-EndInTravel s b = InTravel (s .travel) (b .end)
-
--- "Line: do start and end differ? 13."
-abbrev pub StartAndEndDiffer : (start : Point) → Block → Type 0
-StartAndEndDiffer start b = start ≢ b .end
-
--- "Arc: are I and J within ±1,000,000 and not both 0? 14."
-pub record CentreRight (centre : Offset) : Type 0 where
-  pub x : natAbs (centre .x) ≤ 1000000
-  pub y : natAbs (centre .y) ≤ 1000000
-  pub some : ¬ ((natAbs (centre .x) ≡ 0) × (natAbs (centre .y) ≡ 0))
-
--- "Is the end a circle point? 15."
-abbrev pub EndOnCircle : (start : Point) → Block → (centre : Offset) → Type 0
-EndOnCircle start b centre = Circle (squareOf centre) (seenFrom (backFrom start centre) (b .end))
-
--- "Is every visited point in travel? 16."
-abbrev pub EveryVisitInTravel : Settings → (start : Point) → Block → Turn → (centre : Offset) → Type 0
-EveryVisitInTravel s start b turn centre = VisitsInTravel (s .travel) (arcOf start b turn centre) start
-
-abbrev pub pathQuestions : Settings → (start : Point) → Block → Path → Questions
-pathQuestions s start b Path.Line = question 13 (StartAndEndDiffer start b) none
-pathQuestions s start b (Path.Arc turn centre) =
-    question 14 (CentreRight centre)
-    (question 15 (EndOnCircle start b centre) (question 16 (EveryVisitInTravel s start b turn centre) none))
-
--- "Load, after 9, in this order"; Room is what 10 asks: whether there is room for the block
-abbrev pub blockQuestions : (Room : Type 0) → Settings → (start : Point) → Block → Questions
-blockQuestions Room s start b =
-    question 10 Room (question 11 (BlockFeedRight s b) (question 12 (EndInTravel s b) (pathQuestions s start b (b .path))))
-
-abbrev pub loadQuestions : Bench → Block → Questions
-loadQuestions m b = soundQuestion m (blockQuestions (NothingInWork m) (m .settings) (m .at) b)
+abbrev pub loadQuestions : Machine → Block → Questions
+loadQuestions m b = soundQuestion m (blockQuestions (FewerWaiting m) (m .bench .settings) (nextStart m) b)
 
 -- ---- a text line; l is what its bytes mean, after the G and F known with it
 
@@ -130,7 +90,8 @@ wordQuestions after scale bytes l =
 abbrev pub lineBlock : Reader → (scale : ℕ) → (start : Point) → Line → Block
 lineBlock k scale start l = blockOf scale (readerAfter k (l .words)) (l .words) start
 
--- "A line without X, Y, I, J makes no block; nor does a straight line to the point where it stands, and then 10 to 13 are not put."
+-- "A line without X, Y, I, J makes no block; nor does a straight line to the point where it stands, and then 10 to 13 are not put." 02 §3:
+-- "a straight text line to that place makes no block", the place where its block would start
 abbrev pub isBlock : (moves stays : Bool) → Bool
 isBlock true false = true
 isBlock true true = false
@@ -150,5 +111,5 @@ textQuestions Room k s start bytes l =
     (ifBlock (makesBlock k (s .scale) start l) (blockQuestions Room s start (lineBlock k (s .scale) start l)))
 
 -- "Any call on a record: is it sound? 9."
-abbrev pub lineQuestions : Reader → Bench → (bytes : List ℕ) → Line → Questions
-lineQuestions k m bytes l = soundQuestion m (textQuestions (NothingInWork m) k (m .settings) (m .at) bytes l)
+abbrev pub lineQuestions : Reader → Machine → (bytes : List ℕ) → Line → Questions
+lineQuestions k m bytes l = soundQuestion m (textQuestions (FewerWaiting m) k (m .bench .settings) (nextStart m) bytes l)

@@ -13,19 +13,23 @@ use Rattle.work.specs.Work.{addedOf, cyclesLeft, chargesFor, chargesLeft, endOf
 use Rattle.settings.specs.Settings.{capacityOf}
 use Rattle.bench.specs.declared.Bench.{Bench}
 use Rattle.bench.specs.declared.Tick.{Tick}
-use Rattle.bench.specs.declared.Ticked.{Ticked}
-use Rattle.bench.specs.declared.Ran.{Ran}
-use Rattle.book.specs.Book.{Report, Reply}
+use Rattle.queue.specs.Queue.{waiting}
+use Rattle.machine.specs.declared.Machine.{Machine}
+use Rattle.machine.specs.declared.Ticked.{Ticked}
+use Rattle.machine.specs.declared.Ran.{Ran}
+use Rattle.book.specs.Bench.{Report}
+use Rattle.book.specs.Book.{Reply}
 use Rattle.book.specs.Sums.{cyclesMarked}
 use Rattle.history.specs.Contracts.{Ticks, Runs}
 use Rattle.demands.specs.Sound.{Sound}
 use Rattle.demands.specs.Answers.{ranReply}
+use Rattle.demands.specs.Taken.{ComesIn}
 
 -- ticks called one by one, each getting the record that the one before returned, answer these bytes and leave the record m′
-pub data TicksTo : Bench → List ℕ → Bench → Type 0 where
-  none : {m : Bench} → TicksTo m [] m
-  one : {m m′ : Bench} {bytes : List ℕ} (r : Ticked) (byte : ℕ) → Ticks m r → r .tick ≡ Tick.Byte byte
-      → TicksTo (r .bench) bytes m′ → TicksTo m (byte ∷ bytes) m′
+pub data TicksTo : Machine → List ℕ → Machine → Type 0 where
+  none : {m : Machine} → TicksTo m [] m
+  one : {m m′ : Machine} {bytes : List ℕ} (r : Ticked) (byte : ℕ) → Ticks m r → r .tick ≡ Tick.Byte byte
+      → TicksTo (r .machine) bytes m′ → TicksTo m (byte ∷ bytes) m′
 
 -- the report of a run that leaves the buffer as new
 abbrev pub Reports : Ran → (new : List ℕ) → Report → Type 0
@@ -48,36 +52,38 @@ cyclesIn m n =
     mostPaid (λ c. chargesFor (m .at) w c * capacityOf (m .settings)) (m .remainder + n * addedOf w) (min n (cyclesLeft (m .at) w))
 
 -- a run lent the buffer old, which it leaves as new
-pub record Running (m : Bench) (budget : ℕ) (old new : List ℕ) (r : Ran) : Type 0 where
+pub record Running (m : Machine) (budget : ℕ) (old new : List ℕ) (r : Ran) : Type 0 where
   -- "It does the least of its tick budget, the buffer length and the ticks to the block's end"
-  pub ticks : r .ticks ≡ min budget (min (length old) (ticksLeft m))
+  pub ticks : r .ticks ≡ min budget (min (length old) (ticksLeft (m .bench)))
   -- "A run writes tick bytes into a lent buffer": they are its ticks' answers one by one, and it leaves the record that they leave
-  pub bytes : TicksTo m (take (r .ticks) new) (r .bench)
+  pub bytes : TicksTo m (take (r .ticks) new) (r .machine)
   -- and they mark as many cycles as are paid, "at most one a tick"
-  pub cycles : cyclesMarked (take (r .ticks) new) ≡ cyclesIn m (r .ticks)
+  pub cycles : cyclesMarked (take (r .ticks) new) ≡ cyclesIn (m .bench) (r .ticks)
   -- "later bytes keep their contents"
   pub later : drop (r .ticks) new ≡ drop (r .ticks) old
   pub long : length new ≡ length old
   -- "else ended, spent or full, the first that is true"
-  pub ended : Reports r new Report.ended ↔ (ticksLeft m ≤ r .ticks)
-  pub spent : Reports r new Report.spent ↔ ((r .ticks < ticksLeft m) × (budget ≤ r .ticks))
-  pub full : Reports r new Report.full ↔ ((r .ticks < ticksLeft m) × (r .ticks < budget))
-  -- at the block's end nothing is in work, and the point is the commanded end
-  pub over : ticksLeft m ≤ r .ticks → (r .bench .work ≡ Work.Nothing) × (r .bench .at ≡ endOf (m .at) (m .work))
+  pub ended : Reports r new Report.ended ↔ (ticksLeft (m .bench) ≤ r .ticks)
+  pub spent : Reports r new Report.spent ↔ ((r .ticks < ticksLeft (m .bench)) × (budget ≤ r .ticks))
+  pub full : Reports r new Report.full ↔ ((r .ticks < ticksLeft (m .bench)) × (r .ticks < budget))
+  -- 02 §3: "When a block ends, the first waiting one becomes the one in work, and a run still stops there.": the point is the commanded end
+  pub over : ticksLeft (m .bench) ≤ r .ticks
+      → (let end = endOf (m .bench .at) (m .bench .work) in
+      (r .machine .bench .at ≡ end) × ComesIn end (waiting (m .queue)) (r .machine))
 
 -- a run without a tick
-pub record Resting (m : Bench) (old new : List ℕ) (r : Ran) (report : Report) : Type 0 where
+pub record Resting (m : Machine) (old new : List ℕ) (r : Ran) (report : Report) : Type 0 where
   pub reply : ranReply r new ≡ Reply.ran report 0 []
-  pub bench : r .bench ≡ m
+  pub machine : r .machine ≡ m
   pub buffer : new ≡ old
 
-pub record RunOf (m : Bench) (budget : ℕ) (old new : List ℕ) (r : Ran) : Type 0 where
+pub record RunOf (m : Machine) (budget : ℕ) (old new : List ℕ) (r : Ran) : Type 0 where
   -- "It answers idle or held (idle first) with 0 ticks"
-  pub idle : m .work ≡ Work.Nothing → Resting m old new r Report.idle
-  pub held : m .work ≢ Work.Nothing → m .held ≡ true → Resting m old new r Report.held
-  pub works : m .work ≢ Work.Nothing → m .held ≡ false → Running m budget old new r
+  pub idle : m .bench .work ≡ Work.Nothing → Resting m old new r Report.idle
+  pub held : m .bench .work ≢ Work.Nothing → m .bench .held ≡ true → Resting m old new r Report.held
+  pub works : m .bench .work ≢ Work.Nothing → m .bench .held ≡ false → Running m budget old new r
 
 abbrev pub EveryRun : Type 0
 EveryRun =
-    (κs : Lfts 1) (m : Bench) (budget : ℕ) (out out′ : RefT (List ℕ)) (r : Ran) → Runs κs m budget out out′ r → Sound m
+    (κs : Lfts 1) (m : Machine) (budget : ℕ) (out out′ : RefT (List ℕ)) (r : Ran) → Runs κs m budget out out′ r → Sound m
     → RunOf m budget (now out) (now out′) r

@@ -28,7 +28,7 @@ use Rattle.job.proofs.Check.start.Reads as start-reads
 use Rattle.job.proofs.Check.fill.Reads as fill-reads
 use Rattle.job.proofs.Check.is_over.Reads as over-reads
 use Rattle.demands.specs.Asked.{FirstNo, AllYes}
-use Rattle.demands.specs.Sound.{settingsQuestions}
+use Rattle.demands.specs.Bench.{settingsQuestions}
 use Rattle.demands.specs.Questions.{lineBlock, makesBlock, textQuestions}
 
 -- ---- the lines of a text, from number n on, read at a point with a G and an F known, mean these blocks, and end so. "Each block is loaded

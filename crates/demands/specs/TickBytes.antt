@@ -1,4 +1,5 @@
--- Demand 2, the tick bytes of a job: the answers of its ticks. "Each block is loaded once the one before has ended, remainder kept."
+-- Demand 2, the tick bytes of a job: the answers of its ticks. "Each block is loaded once the one before has ended, remainder kept.": so
+-- none ever waits, and the tape works at the bench alone; the bytes are those of the machine's own calls.
 use mathlib.Core.Path.{_≡_}
 use mathlib.Core.Bool.{true}
 use mathlib.Core.List.{List, [], _∷_, _++_}
@@ -12,8 +13,10 @@ use Rattle.settings.specs.declared.Settings.{Settings}
 use Rattle.settings.specs.Settings.{capacityOf}
 use Rattle.bench.specs.declared.Bench.{Bench}
 use Rattle.bench.specs.declared.Answer.{Answer}
-use Rattle.bench.specs.declared.Answered.{Answered}
-use Rattle.bench.specs.Bench.{freshOf}
+use Rattle.bench.specs.Bench.{freshOf as freshBench}
+use Rattle.machine.specs.declared.Machine.{Machine}
+use Rattle.machine.specs.declared.Answered.{Answered}
+use Rattle.machine.specs.Machine.{freshOf}
 use Rattle.book.specs.Sums.{cyclesMarked}
 use Rattle.history.specs.Contracts.{Loads}
 use Rattle.job.specs.Job.{Made, jobOf}
@@ -23,17 +26,17 @@ use Rattle.tape.specs.declared.Filled.{Filled}
 use Rattle.tape.proofs.Tape.start.Reads as start-reads
 use Rattle.tape.proofs.Tape.fill.Reads as fill-reads
 use Rattle.demands.specs.Asked.{AllYes}
-use Rattle.demands.specs.Sound.{settingsQuestions}
+use Rattle.demands.specs.Bench.{settingsQuestions}
 use Rattle.demands.specs.Runs.{TicksTo, ticksLeft}
 use Rattle.demands.specs.Texts.{Filling, FrontOf}
 
 -- blocks loaded from the record m on, each at the record that the one before it left, accepted with its width, and ticked to its end, by
 -- the calls' own contracts: the bytes that they answer
-pub data BlocksTick : Bench → List Made → List ℕ → Type 0 where
-  none : {m : Bench} → BlocksTick m [] []
-  block : {m m′ : Bench} {later : List Made} {bytes rest : List ℕ} (made : Made) (r : Answered) → made .start ≡ m .at
+pub data BlocksTick : Machine → List Made → List ℕ → Type 0 where
+  none : {m : Machine} → BlocksTick m [] []
+  block : {m m′ : Machine} {later : List Made} {bytes rest : List ℕ} (made : Made) (r : Answered) → made .start ≡ m .bench .at
       → Loads m (made .block) r → r .answer ≡ Answer.Width (blockWidth (made .start) (made .block))
-      → TicksTo (r .bench) bytes m′ → length bytes ≡ ticksLeft (r .bench) → m′ .work ≡ Work.Nothing
+      → TicksTo (r .machine) bytes m′ → length bytes ≡ ticksLeft (r .machine .bench) → m′ .bench .work ≡ Work.Nothing
       → BlocksTick m′ later rest → BlocksTick m (made ∷ later) (bytes ++ rest)
 
 -- the tick bytes of a text's job
@@ -60,7 +63,7 @@ pub data BytesOut (text : List ℕ) (t : Tape) : List ℕ → Tape → Type 0 wh
 pub record EveryTickByte : Type 0 where
   pub fill : (κs : Lfts 2) (t : Tape) (text out out′ : RefT (List ℕ)) (f : Filled) → FillsTape κs t text out out′ f
       → Filling 1 (now out) (now out′) (f .len) (f .tape .over)
-  -- whoever fills a tape that began at a fresh machine gets the tick bytes of the text's job
-  pub bytes : (s : Settings) → AllYes (settingsQuestions s) → (t : Tape) → StartsTape (freshOf s) t → (text : List ℕ)
+  -- whoever fills a tape that began at a fresh machine's bench gets the tick bytes of the text's job
+  pub bytes : (s : Settings) → AllYes (settingsQuestions s) → (t : Tape) → StartsTape (freshBench s) t → (text : List ℕ)
       → (whole : List ℕ) × JobBytes s text whole
       × ((bytes : List ℕ) (u : Tape) → BytesOut text t bytes u → FrontOf whole bytes (u .over ≡ true))

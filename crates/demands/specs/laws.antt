@@ -1,4 +1,6 @@
 pub mod Asked
+pub mod Bench
+pub mod Block
 pub mod Sound
 pub mod Answers
 pub mod TextLine
@@ -6,8 +8,10 @@ pub mod Runs
 pub mod Lines
 pub mod Nearest
 pub mod Arcs
-pub mod Texts
-pub mod TickBytes
-pub mod FromC
 pub mod Calls
 pub mod Claims
+pub mod Texts
+pub mod TickBytes
+pub mod Carried
+pub mod CheckFromC
+pub mod FromC

@@ -1,5 +1,6 @@
 // What the user demands, claim by claim. The functions do nothing: each contract is a claim, so that the check names it as proved.
 ghost use Rattle.history.specs.Demand.{EveryHistory, EveryList};
+ghost use Rattle.history.specs.Figure.{EveryFigure};
 ghost use Rattle.history.specs.Look.{EveryLook, EveryLookOn, EveryLookSum};
 ghost use Rattle.demands.specs.Answers.{EveryAnswer};
 ghost use Rattle.demands.specs.Arcs.{EveryArc};
@@ -59,6 +60,11 @@ pub fn every_history()
 // Demand 3 leaves no list of calls out: each has a history from every record.
 pub fn every_list()
     ensures { λ _. ⌜ EveryList ⌝ }
+{}
+
+// Request 3: after every call on a sound record the figure is the count made afresh.
+pub fn every_figure()
+    ensures { λ _. ⌜ EveryFigure ⌝ }
 {}
 
 // Request 1: from any sound record, and so after any history, a look-ahead tells what so many more ticks give.

@@ -1,5 +1,5 @@
--- To be believed: Calls, Looks, Texts. Proved of them: laws.
-pub mod Calls
+-- To be believed: Given, Looks, Texts. Proved of them: laws.
+pub mod Given
 pub mod Looks
 pub mod Texts
 pub mod laws

@@ -1,6 +1,4 @@
-pub mod Words
+pub mod Looks
 pub mod Texts
-pub mod Told
 pub mod Again
-pub mod Start
 pub mod Width

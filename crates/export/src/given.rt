@@ -1,6 +1,6 @@
 // A block as a caller gives it in words.
 ghost use mathlib.Core.Path.{_≡_};
-ghost use Rattle.export.specs.Calls.{arcPath, blockOf};
+ghost use Rattle.export.specs.Given.{arcPath, blockOf};
 use block::Block;
 use block::Path;
 use circle::plane::Offset;

@@ -1,113 +1,120 @@
-// Job texts for C: one line read at a record, and the check of a whole text. What a text has come to stands in words of its own beside the record's.
-// Each call answers for any words: those that are no sound record, or tell nothing known or no progress, get 9 and stay as they are.
+// A line of a job text for C, read at a record of 134 words. The G and F known stand in 2 words beside it. Words that are no sound record,
+// or tell nothing known, get 9 and stay as they are; so do those of a refused line.
 ghost use mathlib.Core.Path.{_≡_};
-ghost use Rattle.layout.specs.Words.{settingsOf};
-ghost use Rattle.export.specs.Calls.{tells, madeOf};
-ghost use Rattle.export.specs.Texts.{tellsLine, toldLineOf, startProgress, TellsFill};
-use crate::answer::answer_number;
-use crate::answer::read_number;
+ghost use Rattle.textline.specs.TextLine.{takenOf};
+ghost use Rattle.record.specs.Words.{encodeOf, over, machineIn};
+ghost use Rattle.calls.specs.Asked.{Asking};
+ghost use Rattle.export.specs.Texts.{readNumber, heardOf, loadsOf, tellsLine, toldLineOf};
+use bench::Answer;
 use bench::Bench;
-use job::Check;
-use layout::decode::machine_in;
-use layout::encode::encode;
-use layout::encode::mark_word;
-use layout::encode::work_words;
-use layout::given::settings;
+use block::Block;
+use calls::load_sound;
+use layout::number::refusal;
+use layout::number::word;
+use plane::point::Point;
 use progress::known::decode_known;
 use progress::known::encode_known;
-use progress::progress::decode_progress;
-use progress::progress::encode_progress;
-use reader::text_line::read_line;
-use store::is_sound;
-use store::store_work;
+use reader::Reader;
+use reader::asked::Asked;
+use reader::asked::ToLoad;
+use reader::asked::ask_line;
+use reader::text_line::Read;
+use record::read::bench_in;
+use record::read::start_in;
+use record::sound::is_sound;
 
-// ---- a line
+// What a line was read as, and what is known after it.
+struct Heard {
+    pub read: Read,
+    pub reader: Reader,
+}
 
-// A line without its LF, read at the record with the G and F known.
+// A text line that makes no block is 0, as what is done.
+fn read_number(read: Read) -> i64
+    ensures { λ r. ⌜ r ≡ readNumber read ⌝ }
+{
+    match read {
+        Read::Nothing => 0,
+        Read::Loaded(n) => word(n),
+        Read::Refused(n) => refusal(n),
+    }
+}
+
+// The block of a line, at the place where it starts; `before` is the reader before the line, `after` the one after it.
+fn load(
+    words: &mut [i64; 134],
+    k: Bench,
+    start: Point,
+    before: Reader,
+    after: Reader,
+    b: Block,
+) -> Heard
+    requires { ⌜ Asking (now words) k start ⌝ }
+    ensures { λ r. ⌜ r ≡ heardOf (loadsOf before after (machineIn (now (words .entry))) b) ⌝ }
+    ensures { λ _. ⌜ now (words .exit)
+        ≡ over (encodeOf (loadsOf before after (machineIn (now (words .entry))) b .machine)) (now (words .entry)) ⌝ }
+{
+    let answer = load_sound(words, k, start, b);
+    match answer {
+        Answer::Done => Heard {
+            read: Read::Nothing,
+            reader: after,
+        },
+        Answer::Width(bits) => Heard {
+            read: Read::Loaded(bits),
+            reader: after,
+        },
+        Answer::Refused(no) => Heard {
+            read: Read::Refused(no),
+            reader: before,
+        },
+    }
+}
+
+// What a line asked, at the place where the next block starts.
+fn take(words: &mut [i64; 134], k: Bench, start: Point, before: Reader, a: Asked) -> Heard
+    requires { ⌜ Asking (now words) k start ⌝ }
+    ensures { λ r. ⌜ r ≡ heardOf (takenOf before (machineIn (now (words .entry))) a) ⌝ }
+    ensures { λ _. ⌜ now (words .exit)
+        ≡ over (encodeOf (takenOf before (machineIn (now (words .entry))) a .machine)) (now (words .entry)) ⌝ }
+{
+    let asks = a.asks;
+    let after = a.reader;
+    match asks {
+        ToLoad::Nothing => Heard {
+            read: Read::Nothing,
+            reader: after,
+        },
+        ToLoad::Block(b) => load(words, k, start, before, after, b),
+        ToLoad::Refused(no) => Heard {
+            read: Read::Refused(no),
+            reader: before,
+        },
+    }
+}
+
+// A line without its LF.
 #[no_mangle]
-pub extern "C" fn vz_read_line(words: &mut [i64; 19], known: &mut [i64; 2], line: &[u8]) -> i64
-    ensures { λ r. ⌜ tellsLine r (now (words .exit)) (now (known .exit)) ≡ toldLineOf (now (words .entry)) (now (known .entry)) (now (line .entry)) ⌝ }
+pub extern "C" fn vz_read_line(words: &mut [i64; 134], known: &mut [i64; 2], line: &[u8]) -> i64
+    ensures { λ r. ⌜ tellsLine r (now (words .exit)) (now (known .exit))
+        ≡ toldLineOf (now (words .entry)) (now (known .entry)) (now (line .entry)) ⌝ }
 {
     if !is_sound(words) {
         return -9;
     }
-    let heard = *known;
-    let k = decode_known(heard);
-    let reader = k.reader;
-    if !k.ok {
+    let given = *known;
+    let d = decode_known(given);
+    if !d.ok {
         return -9;
     }
-    let before = *words;
-    let m = machine_in(before);
-    let r = read_line(reader, m, line);
-    let next = r.bench;
-    let work = next.work;
-    let later = r.reader;
-    let answer = r.answer;
-    let after = encode_known(later);
-    store_work(words, work_words(work));
+    let before = d.reader;
+    let k = bench_in(words);
+    let settings = k.settings;
+    let start = start_in(words, k);
+    let a = ask_line(before, settings.scale, start, line);
+    let h = take(words, k, start, before, a);
+    let read = h.read;
+    let after = encode_known(h.reader);
     *known = after;
-    read_number(answer)
-}
-
-// ---- the check of a text
-
-// Settings are read and answered as by vz_make. Whatever the words were, they are a check after it.
-#[no_mangle]
-pub extern "C" fn vz_check_start(
-    words: &mut [i64; 19],
-    progress: &mut [i64; 8],
-    p: i64,
-    w: i64,
-    xlo: i64,
-    xhi: i64,
-    ylo: i64,
-    yhi: i64,
-) -> i64
-    ensures record { λ r. ⌜ tells r (now (words .exit)) ≡ madeOf (settingsOf p w xlo xhi ylo yhi) ⌝ }
-    ensures progress { λ r. ⌜ now (progress .exit) ≡ startProgress (settingsOf p w xlo xhi ylo yhi) ⌝ }
-{
-    let a = Bench::make(settings(p, w, xlo, xhi, ylo, yhi));
-    let answer = a.answer;
-    let m = a.bench;
-    let after = encode(m);
-    let begun = encode_progress(Check::start(m));
-    *words = after;
-    *progress = begun;
-    answer_number(answer)
-}
-
-// Whole rows go to the front of the buffer, as long as one more surely fits; the rest of it stays.
-#[no_mangle]
-pub extern "C" fn vz_check_fill(
-    words: &mut [i64; 19],
-    progress: &mut [i64; 8],
-    text: &[u8],
-    out: &mut [u8],
-    len: &mut u64,
-) -> i64
-    ensures { λ r. ⌜ TellsFill (now (words .entry)) (now (progress .entry)) (now (text .entry)) (now (out .entry)) r (now (len .exit)) (now (words .exit)) (now (progress .exit)) (now (out .exit)) ⌝ }
-{
-    *len = 0;
-    if !is_sound(words) {
-        return -9;
-    }
-    let before = *words;
-    let m = machine_in(before);
-    let reached = *progress;
-    let p = decode_progress(m, reached);
-    let check = p.check;
-    if !p.ok {
-        return -9;
-    }
-    let f = check.fill(text, out);
-    let next = f.check;
-    let tally = next.tally;
-    let bench = tally.bench;
-    let after = encode(bench);
-    let come = encode_progress(next);
-    *words = after;
-    *progress = come;
-    *len = f.len as u64;
-    mark_word(next.is_over())
+    read_number(read)
 }

@@ -2,10 +2,14 @@
 use Rattle.line.specs.Line.{cyclesOf}
 use Rattle.block.specs.declared.Path.{Path}
 use Rattle.block.specs.Block.{arcOf}
+use Rattle.queue.specs.Queue.{queueOf}
 use Rattle.work.specs.declared.Work.{Work}
 use Rattle.settings.specs.declared.Settings.{Settings}
 use Rattle.bench.specs.declared.Bench.{Bench}
-use Rattle.book.specs.Book.{Job, InWork, Book}
+use Rattle.machine.specs.declared.Machine.{Machine}
+use Rattle.machine.specs.Machine.{machineOf}
+use Rattle.book.specs.Bench.{Job, InWork, workEnd, Bench as BookBench}
+use Rattle.book.specs.Book.{Book}
 
 -- a line keeps its cycles done; an arc keeps none, and goes on from the point
 abbrev pub workAlong : Job → Path → Work
@@ -23,5 +27,9 @@ abbrev pub workOf : InWork → Work
 workOf InWork.nothing = Work.Nothing
 workOf (InWork.working j) = workAlong j (j .block .path)
 
-abbrev pub machineOf : Settings → Book → Bench
-machineOf s b = record { settings = s; at = b .at; held = b .mark; remainder = b .remainder; work = workOf (b .work) }
+abbrev pub benchTold : Settings → BookBench → Bench
+benchTold s k = record { settings = s; at = k .at; held = k .mark; remainder = k .remainder; work = workOf (k .work) }
+
+-- the blocks that wait stand in the first places, behind the end of the block in work, and the other places are blank
+abbrev pub recordOf : Settings → Book → Machine
+recordOf s b = machineOf (benchTold s (b .bench)) (queueOf (workEnd (b .bench)) (b .waiting))

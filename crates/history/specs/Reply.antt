@@ -4,7 +4,8 @@ use Prim.Native.Nat.{ℕ}
 use Rattle.bench.specs.declared.Answer.{Answer}
 use Rattle.bench.specs.declared.Tick.{Tick}
 use Rattle.bench.specs.declared.Report.{Report}
-use Rattle.book.specs.Book.{Report as BookReport, Reply}
+use Rattle.book.specs.Bench.{Report as BookReport}
+use Rattle.book.specs.Book.{Reply}
 
 abbrev pub answerReply : Answer → Reply
 answerReply Answer.Done = Reply.done

@@ -1,1 +1,1 @@
-// Histories of calls: definitions and laws, no code. Crate demands names what is proved of them.
+// Histories of calls on a machine with a queue: definitions and laws, no code.

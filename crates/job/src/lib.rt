@@ -36,7 +36,7 @@ pub struct Filled {
 }
 
 impl Check {
-    // The check of a job that begins at this machine.
+    // The check of a job that begins at this bench.
     pub fn start(bench: Bench) -> Check
         ensures { λ r. ⌜ r ≡ startOf bench ⌝ }
     {

@@ -1,2 +1,2 @@
--- Proved of the machine's calls: laws. Nothing here is to be believed.
+-- Proved of the bench's calls: laws. Nothing here is to be believed.
 pub mod laws

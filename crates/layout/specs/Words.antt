@@ -1,5 +1,5 @@
--- The record as 19 words, signed numbers of 64 bits: the number of this layout, p, w, the lower and the upper bound of X, those of Y, x, y,
--- the mark, the remainder, and eight words for what is in work.
+-- A bench as 19 words, signed numbers of 64 bits: the number of this layout, p, w, the lower and the upper bound of X, those of Y, x, y,
+-- the mark, the remainder, and eight words for what is in work. They are words 0 to 18 of a machine's record, and all that a check keeps.
 use mathlib.Core.Bool.{Bool, true, false, cond, _&&_}
 use mathlib.Core.List.{List, [], _∷_}
 use Prim.Native.Nat.{ℕ, _^_}
@@ -13,13 +13,15 @@ use Rattle.arc.specs.declared.arc.Arc.{Arc}
 use Rattle.work.specs.declared.Work.{Work}
 use Rattle.settings.specs.declared.Settings.{Settings}
 use Rattle.bench.specs.declared.Bench.{Bench}
+use Rattle.bench.specs.Bench.{soundOf}
 use Rattle.layout.specs.declared.encode.Head.{Head}
 use Rattle.layout.specs.declared.encode.WorkWords.{WorkWords}
 
 -- the number of this layout; it grows whenever the words of a record change or one comes to mean something else, so that a record saved
--- under another one is refused. 2: 02 §2 counts the remainder by charges, a thousandfold of what it was
+-- under another one is refused. 2: 02 §2 counts the remainder by charges, a thousandfold of what it was. 3: 02 §3 lets blocks wait, whose
+-- words crate `record` puts behind these
 abbrev pub abi : ℤ
-abi = pos 2
+abi = pos 3
 
 -- a count as a word; -1 where no word holds it, as in no sound record
 unfoldable pub wordOf : ℕ → ℤ
@@ -29,7 +31,7 @@ wordOf n = cond (ltb n (2 ^ 63)) (pos n) (negsuc 0)
 unfoldable pub refusalOf : (question : ℕ) → ℤ
 refusalOf n = negℤ (wordOf n)
 
--- ---- a machine as words
+-- ---- a bench as words
 
 abbrev pub markWord : (held : Bool) → ℤ
 markWord true = pos 1
@@ -145,7 +147,7 @@ headIn ws =
 abbrev pub workWordsIn : List ℤ → WorkWords
 workWordsIn ws = workWords (at ws 11) (at ws 12) (at ws 13) (at ws 14) (at ws 15) (at ws 16) (at ws 17) (at ws 18)
 
--- the machine that the words tell
+-- the bench that the words tell
 unfoldable pub machineIn : List ℤ → Bench
 machineIn ws = machineOf (headIn ws) (workOf (workWordsIn ws))
 
@@ -155,7 +157,11 @@ sameWords [] (w ∷ ws) = false
 sameWords (v ∷ vs) [] = false
 sameWords (v ∷ vs) (w ∷ ws) = equalZ v w && sameWords vs ws
 
--- Words are a record if they are those of the machine that they tell. So another layout's number, a mark that is neither 0 nor 1,
+-- Words are a bench's record if they are those of the bench that they tell. So another layout's number, a mark that is neither 0 nor 1,
 -- a kind above 3, an unused word that is not 0 and a negative count make no record.
 unfoldable pub isRecord : List ℤ → Bool
 isRecord ws = sameWords ws (encodeOf (machineIn ws))
+
+-- "Any call on a record: is it sound? 9.": they are a record, and it is sound
+unfoldable pub soundWords : List ℤ → Bool
+soundWords ws = isRecord ws && soundOf (machineIn ws)

@@ -1,6 +1,7 @@
-// The machine that 19 words tell, and whether they are a record at all.
+// The bench that 19 words tell, and whether they are a sound record.
 ghost use mathlib.Core.Path.{_≡_};
 ghost use Rattle.layout.specs.Words.{lineOf, arcOf, workOf, headIn, workWordsIn, settingsIn, machineOf, machineIn, isRecord};
+ghost use Rattle.layout.specs.Words.{soundWords};
 use crate::encode::Head;
 use crate::encode::WorkWords;
 use crate::given::settings;
@@ -8,6 +9,7 @@ use crate::number::count;
 use crate::right::words_right;
 use arc::arc::Arc;
 use bench::Bench;
+use bench::sound;
 use circle::plane::Turn;
 use line::line::Line;
 use plane::point::Point;
@@ -112,7 +114,7 @@ pub fn machine_of(h: Head, work: Work) -> Bench
 }
 
 // Whether the words are a record. Each that is no position is asked whether `encode` writes such, so that nothing need be encoded again.
-pub fn is_record(words: [i64; 19]) -> bool
+fn is_record(words: [i64; 19]) -> bool
     ensures { λ r. ⌜ r ≡ isRecord words ⌝ }
 {
     words_right(words[0], head_in(words), work_words_in(words))
@@ -124,4 +126,19 @@ pub fn machine_in(words: [i64; 19]) -> Bench
 {
     let work = work_of(work_words_in(words));
     machine_of(head_in(words), work)
+}
+
+// Whether the words are those of a sound record.
+pub fn is_sound(words: &[i64; 19]) -> bool
+    ensures { λ r. ⌜ r ≡ soundWords (now (words .entry)) ⌝ }
+{
+    let given = *words;
+    if !is_record(given) {
+        return false;
+    }
+    let m = machine_in(given);
+    let settings = m.settings;
+    let at = m.at;
+    let work = m.work;
+    sound(settings, at, m.remainder, work)
 }

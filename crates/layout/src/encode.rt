@@ -1,4 +1,4 @@
-// The record of a machine as 19 words that a caller in C owns. `specs/Words.antt` says which word is what.
+// The record of a bench as 19 words that a caller in C owns. `specs/Words.antt` says which word is what.
 ghost use mathlib.Core.Path.{_≡_};
 ghost use Rattle.layout.specs.Words.{markWord, turnWord, workWordsOf, headOf, wordsOf, encodeOf};
 use crate::number::word;
@@ -8,8 +8,8 @@ use circle::plane::Turn;
 use line::line::Line;
 use work::Work;
 
-// Word 0, the number of this layout.
-pub const ABI: i64 = 2;
+// Word 0, the number of the layout, of these words and of those of a machine with a queue.
+pub const ABI: i64 = 3;
 
 // Words 1 to 10: the settings, the position, the mark and the remainder.
 pub struct Head {

@@ -72,7 +72,7 @@ pub fn next_place(place: Place, at: usize) -> usize
 }
 
 impl Tally {
-    // Before the first line of a job at this machine.
+    // Before the first line of a job at this bench.
     pub fn start(bench: Bench) -> Tally
         ensures { λ r. ⌜ r ≡ startOf bench ⌝ }
     {

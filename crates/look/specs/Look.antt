@@ -1,7 +1,7 @@
 -- 02 §1, Where will it be?: "Add a look-ahead of up to 1,000,000 ticks. It gives the record and the signed pulse sum per axis that the same
 -- ticks would give on a copy. The machine itself comes back unchanged." With 02 §3 these ticks go on through the blocks that wait.
 use mathlib.Core.Bool.{cond}
-use mathlib.Core.List.{List, [], _∷_}
+use mathlib.Core.List.{List, []}
 use Prim.Native.Nat.{ℕ, zero, suc}
 use lib.Dec.{leb}
 use lib.IntN.{pos, _-ℤ_}
@@ -11,9 +11,9 @@ use Rattle.plane.specs.Byte.{codeX, codeY}
 use Rattle.run.specs.Run.{stripOf}
 use Rattle.settings.specs.Settings.{capacityOf}
 use Rattle.bench.specs.declared.Answer.{Answer}
-use Rattle.bench.specs.declared.Tick.{Tick}
 use Rattle.bench.specs.Bench.{movedOf}
-use Rattle.daybook.specs.Sums.{pulsesIn}
+use Rattle.ahead.specs.Ahead.{inFront}
+use Rattle.book.specs.Sums.{pulsesIn}
 use Rattle.machine.specs.declared.Machine.{Machine}
 use Rattle.machine.specs.Machine.{soundOf}
 use Rattle.machine.specs.Calls.{nextOf, tickOf}
@@ -25,11 +25,6 @@ use Rattle.look.specs.declared.Passed.{Passed}
 pub record Ticking : Type 0 where
   pub bytes : List ℕ
   pub machine : Machine
-
--- a refused tick has no byte
-abbrev pub inFront : Tick → List ℕ → List ℕ
-inFront (Tick.Byte b) bytes = b ∷ bytes
-inFront (Tick.Refused number) bytes = bytes
 
 unfoldable pub tickingOf : (n : ℕ) → Machine → Ticking
 tickingOf zero m = record { bytes = []; machine = m }

@@ -16,7 +16,7 @@ use run::skip::skip_work;
 use settings::capacity;
 
 // How far a caller may look.
-const MOST_TICKS: u64 = 1_000_000;
+pub const MOST_TICKS: u64 = 1_000_000;
 
 // The pulses sent on each axis, plus ones less minus ones.
 pub struct Sums {
@@ -51,7 +51,8 @@ fn refused(own: Machine, number: u64) -> Ahead
     }
 }
 
-fn way(from: Point, to: Point) -> Sums
+// The pulses that lead from one point to another.
+pub fn way(from: Point, to: Point) -> Sums
     requires { ⌜ Near 1000000 from × Near 1000000 to ⌝ }
     ensures { λ r. ⌜ r ≡ wayOf from to ⌝ }
 {

@@ -20,6 +20,10 @@ use Rattle.bench.specs.Bench.{soundOf as benchSound}
 use Rattle.machine.specs.declared.Machine.{Machine}
 use Rattle.machine.specs.Machine.{toDo, soundOf, startOf}
 
+-- so many cycles taken off the count, where it has so many
+abbrev pub lessOf : (cycles count : ℕ) → TakenOff
+lessOf cycles count = cond (leb cycles count) (record { right = true; left = count - cycles }) wrong
+
 -- the block in work, taken off the count
 unfoldable pub workOff : (at : Point) → Work → (root count : ℕ) → TakenOff
 workOff at w root count =

@@ -5,3 +5,4 @@ pub mod Load
 pub mod Calls
 pub mod Keeps
 pub mod Alone
+pub mod Rest

@@ -9,7 +9,7 @@ ghost use Rattle.settings.specs.Settings.{capacityOf};
 ghost use Rattle.bench.specs.Bench.{soundOf};
 ghost use Rattle.machine.specs.Machine.{waitingRight, startOf};
 ghost use Rattle.machine.specs.Calls.{nextOf};
-ghost use Rattle.machine.specs.Asked.{workOff, cyclesTold, Coming, Left};
+ghost use Rattle.machine.specs.Asked.{lessOf, workOff, cyclesTold, Coming, Left};
 use crate::Machine;
 use bench::Bench;
 use bench::Tick;
@@ -18,28 +18,51 @@ use queue::Queue;
 use queue::TakenOff;
 use queue::wrong;
 use settings::capacity;
+use whole::root::is_nearest_root;
 use work::Work;
 use work::begin;
 use work::is_nothing;
 use work::rest::cycles_left;
 use work::rest::end_of;
-use work::rest::is_root;
 
-// Whether the block in work has its root and no more cycles to do than the count has, and what the count is without them.
-pub fn work_off(at: Point, work: Work, root: u64, count: u64) -> TakenOff
-    requires { ⌜ Countable at work ⌝ }
-    ensures { λ r. ⌜ r ≡ workOff at work root count ⌝ }
+// So many cycles taken off the count, where it has so many.
+fn less(cycles: u64, count: u64) -> TakenOff
+    ensures { λ r. ⌜ r ≡ lessOf cycles count ⌝ }
 {
-    if !is_root(work, root) {
-        return wrong();
-    }
-    let cycles = cycles_left(at, work, root);
     if count < cycles {
         return wrong();
     }
     TakenOff {
         right: true,
         left: count - cycles,
+    }
+}
+
+// Whether the block in work has its root and no more cycles to do than the count has, and what the count is without them. Kind by kind, so
+// that what a tick asks of its own kind stands in line.
+pub fn work_off(at: Point, work: Work, root: u64, count: u64) -> TakenOff
+    requires { ⌜ Countable at work ⌝ }
+    ensures { λ r. ⌜ r ≡ workOff at work root count ⌝ }
+{
+    match work {
+        Work::Nothing => {
+            if root != 0 {
+                return wrong();
+            }
+            less(0, count)
+        }
+        Work::Line(l) => {
+            if root != l.cycles {
+                return wrong();
+            }
+            less(l.cycles - l.done, count)
+        }
+        Work::Arc(a) => {
+            if !is_nearest_root(2 * a.square, root) {
+                return wrong();
+            }
+            less(a.cycles(root, at), count)
+        }
     }
 }
 

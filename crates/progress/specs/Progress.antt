@@ -1,4 +1,4 @@
--- A check's progress as 8 words beside its machine's record, signed numbers of 64 bits: the stage, where the next line begins in the text,
+-- A check's progress as 8 words beside its bench's, signed numbers of 64 bits: the stage, where the next line begins in the text,
 -- the G and the F known, and the lines, blocks, cycles and ticks so far.
 use mathlib.Core.Bool.{cond}
 use mathlib.Core.List.{List, [], _∷_}
@@ -71,7 +71,7 @@ progressIn ws =
       ticks = at ws 7;
     }
 
--- the check at this machine that the words tell, if they are one's progress at all
+-- the check at this bench that the words tell, if they are one's progress at all
 unfoldable pub checkIn : Bench → List ℤ → Check
 checkIn m ws = checkOf m (progressIn ws)
 

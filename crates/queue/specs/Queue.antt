@@ -54,7 +54,7 @@ pushedOf q w = record { blocks = set (q .blocks) (q .len) w; len = q .len + 1 }
 abbrev pub firstOf : Queue → Waiting
 firstOf q = getD (q .blocks) 0 blank
 
--- each block goes a place on, and the last place becomes blank
+-- each block moves up a place, and the last place becomes blank
 unfoldable pub poppedOf : Queue → Queue
 poppedOf q = record { blocks = drop 1 (q .blocks) ++ (blank ∷ []); len = q .len - 1 }
 

@@ -9,19 +9,18 @@ use Rattle.whole.specs.Equal.{equalZ}
 use Rattle.plane.specs.declared.point.Point.{Point}
 use Rattle.plane.specs.declared.travel.Travel.{Travel}
 use Rattle.block.specs.Block.{blockCycles}
-use Rattle.block.specs.Chain.{chainCycles}
+use Rattle.block.specs.Chain.{endAfter, chainCycles}
 use Rattle.queue.specs.Queue.{waiting, queueSound}
 use Rattle.queue.specs.Test.{fits}
 use Rattle.settings.specs.Settings.{capacityOf}
 use Rattle.bench.specs.declared.Bench.{Bench}
 use Rattle.machine.specs.Machine.{waitingRight}
-use Rattle.layout.specs.Words.{at, countOf, headOf, headIn, workWordsOf, workWordsIn, sameWords}
+use Rattle.layout.specs.Words.{abi, at, countOf, headOf, headIn, workWordsOf, workWordsIn, sameWords}
 use Rattle.layout.specs.Right.{isCount, headRight, workRight}
 use Rattle.record.specs.declared.read.Figures.{Figures}
 use Rattle.record.specs.declared.read.BlockWords.{BlockWords}
-use Rattle.record.specs.Words.{abi, figuresOf, frontOf, sevenOf, blockWordsOf, waitingOf, blockWordsIn, waitingIn, queueIn, figuresIn}
-use Rattle.record.specs.Words.{lenIn}
-use Rattle.record.specs.Words.{benchIn}
+use Rattle.record.specs.Words.{figuresOf, frontOf, sevenOf, blockWordsOf, waitingOf, blockWordsIn, waitingIn, queueIn, figuresIn}
+use Rattle.record.specs.Words.{lenIn, benchIn}
 
 -- ---- the words in front
 
@@ -60,7 +59,7 @@ rowRight q0 t ws start count i zero = eqb count 0
 rowRight q0 t ws start count i (suc n) =
     let w = waitingIn ws i in
     (isBlock (blockWordsIn ws i) && fits q0 t start w count)
-    && rowRight q0 t ws (w .block .end) (count - blockCycles start (w .block)) (i + 1) n
+    && rowRight q0 t ws (endAfter start (w .block)) (count - blockCycles start (w .block)) (i + 1) n
 
 -- so many blocks that wait behind one that ends here: their words are right, they are sound, and they take so many cycles
 abbrev pub rowSound : (q0 : ℕ) → Travel → List ℤ → (len : ℕ) (from : Point) (cycles : ℕ) → Bool

@@ -1,4 +1,4 @@
--- The record as words, signed numbers of 64 bits: 0 to 18 the number of this layout and the bench, 19 the root of the block in work, 20 the
+-- The record as words, signed numbers of 64 bits: 0 to 18 the number of the layout and the bench, 19 the root of the block in work, 20 the
 -- cycles still to do, 21 how many blocks wait, and from 22 on seven words for each of these, the first to be cut first.
 use mathlib.Core.Bool.{Bool, cond, _&&_}
 use mathlib.Core.List.{List, [], _∷_, _++_}
@@ -16,14 +16,10 @@ use Rattle.machine.specs.declared.Machine.{Machine}
 use Rattle.machine.specs.Machine.{soundOf}
 use Rattle.layout.specs.declared.encode.Head.{Head}
 use Rattle.layout.specs.declared.encode.WorkWords.{WorkWords}
-use Rattle.layout.specs.Words.{wordOf, turnWord, workWordsOf, headOf, countOf, workOf, at, headIn, workWordsIn, sameWords}
+use Rattle.layout.specs.Words.{abi, wordOf, turnWord, workWordsOf, headOf, countOf, workOf, at, headIn, workWordsIn, sameWords}
 use Rattle.layout.specs.Words.{machineOf as benchOf}
 use Rattle.record.specs.declared.read.Figures.{Figures}
 use Rattle.record.specs.declared.read.BlockWords.{BlockWords}
-
--- the number of this layout, as that of `layout`; 3: 02 §3 lets blocks wait
-abbrev pub abi : ℤ
-abi = pos 3
 
 -- ---- a machine as words
 

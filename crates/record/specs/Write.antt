@@ -68,13 +68,13 @@ setBlock ws n b =
     set (set (set (set (set (set (set ws n (b .kind)) (n + 1) (b .x)) (n + 2) (b .y)) (n + 3) (b .feed)) (n + 4) (b .i)) (n + 5) (b .j))
     (n + 6) (b .root)
 
--- the first block that waits goes, and the words of the others move seven words on
+-- the first block that waits goes, and the words of the others move up by seven words
 abbrev pub shifted : List ℤ → (others : ℕ) → List ℤ
 shifted ws n = paste ws 22 (drop 29 ws) (7 * n)
 
--- nothing in work, no remainder, none waiting
-abbrev pub stopped : List ℤ → List ℤ
-stopped ws = set (set (set (setWork (set ws 10 (pos 0)) (workWordsOf Work.Nothing)) 19 (pos 0)) 20 (pos 0)) 21 (pos 0)
+-- no remainder, nothing to do, none waiting
+abbrev pub emptied : List ℤ → List ℤ
+emptied ws = set (set (set ws 10 (pos 0)) 20 (pos 0)) 21 (pos 0)
 
 -- a block comes into work from here: the first that waits, of so many
 abbrev pub broughtOf : List ℤ → Point → (len : ℕ) → List ℤ

@@ -5,3 +5,4 @@ pub mod Sound
 pub mod Write
 pub mod Later
 pub mod Load
+pub mod Again

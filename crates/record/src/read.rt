@@ -18,9 +18,6 @@ use plane::point::Point;
 use queue::Waiting;
 use work::rest::end_of;
 
-// Word 0, the number of this layout.
-pub const ABI: i64 = 3;
-
 // Words 19 to 21: the root of the block in work, the cycles still to do, and how many blocks wait.
 pub struct Figures {
     pub root: i64,
@@ -149,6 +146,14 @@ pub fn waiting_in(words: &[i64; 134], place: usize) -> Waiting
     ensures { λ r. ⌜ r ≡ waitingIn (now (words .entry)) place ⌝ }
 {
     waiting_of(block_words_in(words, place))
+}
+
+// The root of the block in work.
+pub fn root_in(words: &[i64; 134]) -> u64
+    ensures { λ r. ⌜ r ≡ countOf (at (now (words .entry)) 19) ⌝ }
+{
+    let figures = figures_in(words);
+    count(figures.root)
 }
 
 // The cycles still to do.

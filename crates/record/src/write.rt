@@ -11,6 +11,7 @@ ghost use Rattle.record.specs.Write.{Bringing, Later, Loading, setPlace,
 ghost use Rattle.record.specs.Write.{idleOf};
 ghost use Rattle.layout.specs.Words.{wordOf};
 use crate::read::BlockWords;
+use crate::read::bench_in;
 use crate::read::figures_in;
 use crate::read::left_in;
 use crate::read::len_in;
@@ -65,7 +66,7 @@ fn set_work(words: &mut [i64; 134], w: WorkWords)
     words[18] = g;
 }
 
-// The first block's words go, and those of the others, so many, move seven words on.
+// The first block's words go, and those of the others, so many, move up by seven words.
 fn shift(words: &mut [i64; 134], others: usize)
     requires { ⌜ others < 16 ⌝ }
     ensures { λ _. ⌜ now (words .exit) ≡ shifted (now (words .entry)) others ⌝ }
@@ -228,14 +229,14 @@ pub fn store_mark(words: &mut [i64; 134], held: bool)
     words[9] = mark_word(held);
 }
 
-// After a stop: no remainder, nothing in work, and none waits.
+// After a stop: no remainder, and none waits, so that nothing comes into work.
 pub fn store_stop(words: &mut [i64; 134])
     requires { ⌜ soundWords (now words) ≡ true ⌝ }
     ensures { λ _. ⌜ now (words .exit) ≡ over (encodeOf (idleOf (machineIn (now (words .entry))))) (now (words .entry)) ⌝ }
 {
+    let k = bench_in(words);
     words[10] = 0;
-    set_work(words, nothing_words());
-    words[19] = 0;
     words[20] = 0;
     words[21] = 0;
+    bring_in(words, k.at);
 }

@@ -37,7 +37,7 @@ fn is_refused(answer: Read) -> bool
 }
 
 impl Tape {
-    // The tick bytes of a job that begins at this machine.
+    // The tick bytes of a job that begins at this bench.
     pub fn start(bench: Bench) -> Tape
         ensures { λ r. ⌜ r ≡ startOf bench ⌝ }
     {

@@ -1,12 +1,10 @@
 // What is left of the block in work, without walking to its end.
 ghost use mathlib.Core.Path.{_≡_};
-ghost use lib.Dec.{eqb};
 ghost use Rattle.work.specs.Work.{cyclesLeft, endOf};
 ghost use Rattle.work.specs.Rest.{Countable, leftOf, rootIn, Rooted};
 use crate::Work;
 use circle::step::STRAIGHT;
 use plane::point::Point;
-use whole::root::is_nearest_root;
 use whole::root::nearest_root;
 
 // What the end of the block in work depends on.
@@ -61,18 +59,6 @@ pub fn root_of(work: Work) -> u64
         Work::Nothing => 0,
         Work::Line(l) => l.cycles,
         Work::Arc(a) => nearest_root(2 * a.square),
-    }
-}
-
-// Whether this is the root, by its square; any number may be asked.
-pub fn is_root(work: Work, root: u64) -> bool
-    requires { ⌜ Rooted work ⌝ }
-    ensures { λ r. ⌜ r ≡ eqb root (rootIn work) ⌝ }
-{
-    match work {
-        Work::Nothing => root == 0,
-        Work::Line(l) => root == l.cycles,
-        Work::Arc(a) => is_nearest_root(2 * a.square, root),
     }
 }
 

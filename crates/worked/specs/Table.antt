@@ -1,7 +1,7 @@
--- 01, "Pulses worked by hand": the starred rows, each as document 01 has it, and what it is for a row to hold. After them examples of 02
--- §2, worked out by hand: an arc, a line with a diagonal cycle, and a remainder that no history leaves.
+-- 01, "Pulses worked by hand": the starred rows, each as document 01 has it, and what it is for a row to hold. After them examples worked
+-- out by hand, of 02 §2: an arc, a line with a diagonal cycle, and a remainder that no history leaves; of 02 §3: blocks that wait.
 use mathlib.Core.Bool.{Bool, true, false, _&&_, Bool·beq}
-use mathlib.Core.List.{List, [], _∷_}
+use mathlib.Core.List.{List, [], _∷_, _++_}
 use Prim.Native.Nat.{ℕ, zero, suc, _*_}
 use lib.Dec.{eqb}
 use lib.IntN.{ℤ, pos, negsuc}
@@ -29,8 +29,10 @@ use Rattle.work.specs.Work.{workAlong}
 use Rattle.run.specs.Run.{Strip, stripOf}
 use Rattle.settings.specs.declared.Settings.{Settings}
 use Rattle.bench.specs.declared.Answer.{Answer}
-use Rattle.bench.specs.Bench.{freshOf}
-use Rattle.bench.specs.Calls.{loadOf}
+use Rattle.bench.specs.declared.Tick.{Tick}
+use Rattle.machine.specs.declared.Machine.{Machine}
+use Rattle.machine.specs.Machine.{freshOf}
+use Rattle.machine.specs.Calls.{loadOf, tickOf}
 
 abbrev pub at : (x y : ℤ) → Point
 at x y = record { x = x; y = y }
@@ -40,6 +42,10 @@ pub data Row : Type 0 where
   line : (a b : ℤ) (q : ℕ) (points : List Point) → Row
   -- load of this block into a fresh machine with this upper X bound, its other settings standard, answers this number; 0 where it accepts it
   load : (upper : ℕ) → Block → (number : ℕ) → Row
+  -- the same after these blocks were loaded, one after the other, into a standard machine
+  loadAfter : List Block → Block → (number : ℕ) → Row
+  -- these blocks loaded so, ticks answer these bytes; then the point is this, so many blocks wait, and so many cycles are still to do
+  queued : List Block → (bytes : List ℕ) (point : Point) (waiting left : ℕ) → Row
   -- an arc of N from a point to a point, seen from the centre, visits these points and takes as many cycles as they are
   arc : (N : ℕ) (turn : Turn) (start end : Offset) (visited : List Offset) → Row
   -- a full turn of N from a point takes so many cycles
@@ -121,9 +127,38 @@ sameNumbers (n ∷ ns) (m ∷ ms) = eqb n m && sameNumbers ns ms
 abbrev pub stripFrom : Block → (r n : ℕ) → Strip
 stripFrom b r n = let o = at (pos 0) (pos 0) in stripOf 300000 n o r (workAlong o b (b .path))
 
+-- blocks loaded one after the other
+unfoldable pub loaded : Machine → List Block → Machine
+loaded m [] = m
+loaded m (b ∷ later) = loaded (loadOf m b .machine) later
+
+-- the byte of a tick, and after so many ticks all bytes, and the machine; no byte is 64
+abbrev pub byteOf : Tick → ℕ
+byteOf (Tick.Byte b) = b
+byteOf (Tick.Refused number) = 64
+
+unfoldable pub bytesOf : (n : ℕ) → Machine → List ℕ
+bytesOf zero m = []
+bytesOf (suc n) m = let t = tickOf m in byteOf (t .tick) ∷ bytesOf n (t .machine)
+
+unfoldable pub after : (n : ℕ) → Machine → Machine
+after zero m = m
+after (suc n) m = after n (tickOf m .machine)
+
+-- a pulse to the right and back, so many times
+unfoldable pub toAndFro : ℕ → List Block
+toAndFro zero = []
+toAndFro (suc n) = lineTo (at (pos 1) (pos 0)) ∷ lineTo (at (pos 0) (pos 0)) ∷ toAndFro n
+
 unfoldable pub holds : Row → Bool
 holds (line a b q ps) = eqb (cyclesOf (at (pos 0) (pos 0)) (at a b)) q && same (points (at a b) q 1) ps
 holds (load upper b number) = eqb (numberOf (loadOf (freshOf (boundedBy upper)) b .answer)) number
+holds (loadAfter bs b number) = eqb (numberOf (loadOf (loaded (freshOf (boundedBy 1000000)) bs) b .answer)) number
+holds (queued bs bytes p waiting left) =
+    let m = loaded (freshOf (boundedBy 1000000)) bs in
+    let m′ = after (length bytes) m in
+    sameNumbers (bytesOf (length bytes) m) bytes
+    && (equalPoint (m′ .bench .at) p && (eqb (m′ .queue .len) waiting && eqb (m′ .left) left))
 holds (arc N turn start end ps) = let k = cycles N turn start end in eqb k (length ps) && sameSeen (visits N turn start k 1) ps
 holds (fullTurn N turn start k) = eqb (cycles N turn start start) k
 holds (endTest N end F accepted) = equalZ (excess N end) F && Bool·beq (onCircle N end) accepted
@@ -142,6 +177,9 @@ allHold (r ∷ rs) = holds r && allHold rs
 
 abbrev pub halfTurn : Arc
 halfTurn = record { centre = at (pos 0) (pos 5); square = 25; turn = Counterclockwise; end = at (pos 0) (pos 10); feed = 1 }
+
+abbrev pub corner : List Block
+corner = lineBy (at (pos 1) (pos 0)) 200000 ∷ lineBy (at (pos 1) (pos 1)) 200000 ∷ lineBy (at (pos 0) (pos 1)) 200000 ∷ []
 
 unfoldable pub table : List Row
 table =
@@ -196,4 +234,16 @@ table =
     ∷ gives 300000 300000 420000000 3000 2
     ∷ ends 300000 300000 420000000 3000 3 3
     ∷ ticked (lineBy (at (pos 3) (pos 0)) 300000) 420000000 (17 ∷ 17 ∷ 49 ∷ []) 420000000
+    -- 02 §3. Lines of one pulse each, right, up and left, at f 200,000: a tick adds 200 M, and a cycle is due at 300 M. The first ends on
+    -- tick 2 with 100 M left; with these the second reaches its 300 M on its first tick, and nothing is left for the third.
+    ∷ queued corner [] (at (pos 0) (pos 0)) 2 3
+    ∷ queued corner (0 ∷ 49 ∷ []) (at (pos 1) (pos 0)) 1 2
+    ∷ queued corner (0 ∷ 49 ∷ 52 ∷ []) (at (pos 1) (pos 1)) 0 1
+    ∷ queued corner (0 ∷ 49 ∷ 52 ∷ 0 ∷ 50 ∷ 0 ∷ []) (at (pos 0) (pos 1)) 0 0
+    -- a block to where the one in work ends gets 13, one back to the present point is a block
+    ∷ loadAfter (lineTo (at (pos 1) (pos 0)) ∷ []) (lineTo (at (pos 1) (pos 0))) 13
+    ∷ loadAfter (lineTo (at (pos 1) (pos 0)) ∷ []) (lineTo (at (pos 0) (pos 0))) 0
+    -- "are fewer than 16 waiting?": one in work and 15 or 16 behind it
+    ∷ loadAfter (toAndFro 8) (lineTo (at (pos 1) (pos 0))) 0
+    ∷ loadAfter (toAndFro 8 ++ (lineTo (at (pos 1) (pos 0)) ∷ [])) (lineTo (at (pos 0) (pos 0))) 10
     ∷ []

@@ -5,8 +5,8 @@ use mathlib.Core.List.{List, [], _∷_, _++_}
 use Prim.Native.Nat.{ℕ, zero, suc, _+_}
 use native.Mathlib.Omega.{arith}
 use lib.Dec.{eqb}
-use lib.IntN.{ℤ, pos, _+ℤ_, _-ℤ_, +ℤ-idr}
-use Rattle.whole.specs.laws.Difference.{ring, var, num, _⊕_, _⊖_}
+use lib.IntN.{ℤ, pos, _+ℤ_, +ℤ-idr}
+use Rattle.whole.specs.laws.Difference.{ring, var, num, _⊕_}
 use Rattle.plane.specs.declared.point.Point.{Point}
 use Rattle.plane.specs.declared.travel.Travel.{Travel}
 use Rattle.plane.specs.Point.{equalPoint}
@@ -33,7 +33,7 @@ use Rattle.keeps.specs.laws.Calls.{tick-keeps}
 use Rattle.book.specs.Sums.{pulsesIn}
 use Rattle.book.specs.laws.Byte.{sent-one, onward}
 use Rattle.book.specs.laws.Way.{arc-way}
-use Rattle.ahead.specs.Ahead.{inFront, tickingOf, sumsOf, wayOf}
+use Rattle.ahead.specs.Ahead.{inFront, tickingOf}
 
 -- these bytes lead from one point to the other
 pub record Leads (from : Point) (bytes : List ℕ) (to : Point) : Type 0 where
@@ -114,7 +114,7 @@ tick-leads m e = rw e (by (m .held || isNothing (m .work)))
 
 -- ---- ticks one after the other
 
-after-tick : {from mid to : Point} (k : Tick) (bytes : List ℕ) → Leads from (inFront k []) mid → Leads mid bytes to
+pub after-tick : {from mid to : Point} (k : Tick) (bytes : List ℕ) → Leads from (inFront k []) mid → Leads mid bytes to
     → Leads from (inFront k bytes) to
 after-tick {from} (Tick.Byte b) bytes h g =
     record {
@@ -136,13 +136,3 @@ ticking-leads zero m e = leads-none (m .at)
 ticking-leads (suc n) m e =
     let next = tickOf m .bench in
     after-tick (tickOf m .tick) (tickingOf n next .bytes) (tick-leads m e) (ticking-leads n next (tick-keeps m e))
-
--- so the sum is the way
-pub leads-way : {from to : Point} {bytes : List ℕ} → Leads from bytes to → sumsOf bytes ≡ wayOf from to
-leads-way {from} {to} {bytes} l =
-    let x = axis (from .x) (to .x) (pulsesIn codeX bytes) (l .x) in
-    let y = axis (from .y) (to .y) (pulsesIn codeY bytes) (l .y) in
-    λ i. record { x = x i; y = y i }
-  where
-    axis : (u v s : ℤ) → v ≡ u +ℤ s → s ≡ v -ℤ u
-    axis u v s e = ring (var s) (var u ⊕ var s ⊖ var u) (omega arith) ∙ ap (λ (z : ℤ). z -ℤ u) (sym e)

@@ -1,17 +1,19 @@
--- A run counts as its ticks, in the feed numbers and in the ledger too: what `Sums` and `Ledger` add for a run at once is what its ticks add one by one.
+-- A run counts as its ticks, in the feed numbers and in the ledger too: what `Sums` and `Ledger` add for a run at once is what its ticks
+-- add one by one.
 use mathlib.Core.Path.{_≡_, refl, sym, ap, ap₂, _∙_}
 use mathlib.Core.Bool.{Bool, true, false, true≢false}
-use mathlib.Core.List.{List, [], _∷_}
+use mathlib.Core.List.{List, [], _∷_, cons≢nil}
 use Prim.Native.Nat.{ℕ, zero, suc, _+_, _*_, _<_, min}
 use native.Mathlib.Omega.{arith}
 use lib.ListN.{length, replicate}
 use Rattle.plane.specs.declared.point.Point.{Point}
 use Rattle.plane.specs.declared.travel.Travel.{Travel}
 use Rattle.block.specs.declared.Block.{Block}
-use Rattle.book.specs.Book.{Job, InWork, Book, Call, isNothing, addedBy, jobDue, bookTick, inFront, strip, runEntry}
+use Rattle.book.specs.Bench.{Job, InWork, Bench, isNothing, addedBy, jobDue, benchTick, inFront, strip, benchRun}
+use Rattle.book.specs.Book.{Book, Call, settled, runEntry}
 use Rattle.book.specs.Sums.{tickBytes, feedsSince}
-use Rattle.book.specs.Ledger.{Fate, Account, whileInWork, worked, fateAt, ledger}
-use Rattle.book.specs.laws.Sound.{bookOf, JobSound, Sound}
+use Rattle.book.specs.Ledger.{Fate, Account, comesIn, whileInWork, worked, fateAt, ledger}
+use Rattle.book.specs.laws.Sound.{benchOf, JobSound, BenchSound, Sound}
 use Rattle.book.specs.laws.Stretch.{Stretch, one-tick}
 use Rattle.book.specs.laws.Ledger.{Agree, untouched, touched}
 
@@ -20,51 +22,58 @@ abbrev account : Account → List Account → Fate → ℕ → List Account
 account a older f n = record { block = a .block; start = a .start; remainder = a .remainder; ticks = n; fate = f } ∷ older
 
 module _ (q0 : ℕ) (t : Travel) where
-  -- n ticks from b on, the block j in work, that leave `after`
-  pub record Adds (b : Book) (j : Job) (n : ℕ) (after : Book) : Type 0 where
-    pub feeds : (before : ℕ) → feedsSince q0 t before b (replicate n Call.tick) ≡ before + n * addedBy (j .block)
+  -- n ticks from b on, the block j in work and l waiting, that leave `after`
+  pub record Adds (b : Bench) (l : List Block) (j : Job) (n : ℕ) (after : Bench) : Type 0 where
+    pub feeds : (before : ℕ)
+        → feedsSince q0 t before (record { bench = b; waiting = l }) (replicate n Call.tick) ≡ before + n * addedBy (j .block)
     pub accounts : (a : Account) (older : List Account) → a .fate ≡ Fate.inWork
-        → ledger q0 t (a ∷ older) b (replicate n Call.tick) ≡ worked n (fateAt (after .at) (after .work)) a ∷ older
+        → ledger q0 t (a ∷ older) (record { bench = b; waiting = l }) (replicate n Call.tick)
+        ≡ comesIn after (after .work) l (worked n (fateAt (after .at) (after .work)) a ∷ older)
 
-  pub strip-adds : (most : ℕ) (at : Point) (r : ℕ) (j : Job) → JobSound q0 t at j → r < jobDue q0 j
-      → (let b = bookOf at false r (InWork.working j) in Adds b j (length (strip q0 t most b .codes)) (strip q0 t most b .last))
-  unfolding strip feedsSince ledger
-  strip-adds zero at r j s low =
-      record { feeds = λ before. omega arith; accounts = λ a older e. λ i. account a older (e i) (let p : a .ticks ≡ a .ticks + 0 = omega arith in p i) }
-  strip-adds (suc n) at r j s low =
-      let k = bookTick q0 t (bookOf at false r (InWork.working j)) in
-      by (k .code) (k .after .at) (k .after .mark) (k .after .remainder) (k .after .work) refl (one-tick q0 t at r j s low) (strip-adds n)
+  pub strip-adds : (l : List Block) (most : ℕ) (at : Point) (r : ℕ) (j : Job) → JobSound q0 t at j → r < jobDue q0 j
+      → (let b = benchOf at false r (InWork.working j) in Adds b l j (length (strip q0 most b .codes)) (strip q0 most b .last))
+  unfolding strip feedsSince ledger settled
+  strip-adds l zero at r j s low =
+      record {
+        feeds = λ before. omega arith;
+        accounts = λ a older e. λ i. account a older (e i) (let p : a .ticks ≡ a .ticks + 0 = omega arith in p i);
+      }
+  strip-adds l (suc n) at r j s low =
+      let k = benchTick q0 (benchOf at false r (InWork.working j)) in
+      by (k .code) (k .after .at) (k .after .mark) (k .after .remainder) (k .after .work) refl (one-tick q0 t at r j s low) (strip-adds l n)
     where
-      b : Book
-      b = bookOf at false r (InWork.working j)
+      b : Bench
+      b = benchOf at false r (InWork.working j)
 
-      -- the account after the first tick
-      first : {mid : Point} {mark : Bool} {r′ : ℕ} {w : InWork} → bookTick q0 t b .after ≡ bookOf mid mark r′ w → (a : Account) → a .fate ≡ Fate.inWork
-          → whileInWork (worked 1 (fateAt (bookTick q0 t b .after .at) (bookTick q0 t b .after .work))) a (a .fate) ≡ worked 1 (fateAt mid w) a
-      first is a e = ap (whileInWork _ a) e ∙ ap (λ (after : Book). worked 1 (fateAt (after .at) (after .work)) a) is
+      -- the accounts after the first tick, and what follows
+      then : (a : Account) (older : List Account) (m : ℕ) → Fate → Bench → List Account
+      then a older m f after =
+          let first = whileInWork (worked 1 (fateAt (after .at) (after .work))) a f in
+          ledger q0 t (comesIn after (after .work) l (first ∷ older)) (settled after l) (replicate m Call.tick)
 
-      by : (byte : ℕ) (mid : Point) (mark : Bool) (r′ : ℕ) (w : InWork) → bookTick q0 t b .after ≡ bookOf mid mark r′ w
-          → Stretch q0 t at r j (byte ∷ []) (bookOf mid mark r′ w)
+      by : (byte : ℕ) (mid : Point) (mark : Bool) (r′ : ℕ) (w : InWork) → benchTick q0 b .after ≡ benchOf mid mark r′ w
+          → Stretch q0 t at r j (byte ∷ []) (benchOf mid mark r′ w)
           → ((at : Point) (r : ℕ) (j : Job) → JobSound q0 t at j → r < jobDue q0 j
-          → (let b = bookOf at false r (InWork.working j) in Adds b j (length (strip q0 t n b .codes)) (strip q0 t n b .last)))
-          → (let s = inFront q0 t (isNothing w) (record { code = byte; after = bookOf mid mark r′ w }) (strip q0 t n (bookOf mid mark r′ w)) in
-          Adds b j (length (s .codes)) (s .last))
+          → (let b = benchOf at false r (InWork.working j) in Adds b l j (length (strip q0 n b .codes)) (strip q0 n b .last)))
+          → (let s = inFront (isNothing w) (record { code = byte; after = benchOf mid mark r′ w }) (strip q0 n (benchOf mid mark r′ w)) in
+          Adds b l j (length (s .codes)) (s .last))
       by byte mid true r′ w is x later = absurd (true≢false (x .free))
       by byte mid false r′ InWork.nothing is x later =
-          record { feeds = λ before. omega arith; accounts = λ a older e. ap (λ (c : Account). c ∷ older) (first is a e) }
+          record { feeds = λ before. omega arith; accounts = λ a older e. ap₂ (then a older 0) e is }
       by byte mid false r′ (InWork.working next) is x later =
-          let m = length (strip q0 t n (bookOf mid false r′ (InWork.working next)) .codes) in
-          let last = strip q0 t n (bookOf mid false r′ (InWork.working next)) .last in
+          let m = length (strip q0 n (benchOf mid false r′ (InWork.working next)) .codes) in
+          let last = strip q0 n (benchOf mid false r′ (InWork.working next)) .last in
           let rest = later mid r′ next (x .sound .work) (x .sound .below) in
           let feed = ap (λ (k : Block). m * addedBy k) (x .left .block) in
           record {
             feeds = λ before.
-                ap (λ (after : Book). feedsSince q0 t (before + 1 * addedBy (j .block)) after (replicate m Call.tick)) is
+                ap (λ (after : Bench). feedsSince q0 t (before + 1 * addedBy (j .block)) (settled after l) (replicate m Call.tick)) is
                 ∙ omega (arith, rest .feeds (before + 1 * addedBy (j .block)), feed);
             accounts = λ a older e.
-                ap₂ (λ (c : Account) (after : Book). ledger q0 t (c ∷ older) after (replicate m Call.tick)) (first is a e) is
+                ap₂ (then a older m) e is
                 ∙ rest .accounts (worked 1 Fate.inWork a) older refl
-                ∙ (let p : a .ticks + 1 + m ≡ a .ticks + suc m = omega arith in λ i. account a older (fateAt (last .at) (last .work)) (p i));
+                ∙ (let p : a .ticks + 1 + m ≡ a .ticks + suc m = omega arith in
+                λ i. comesIn last (last .work) l (account a older (fateAt (last .at) (last .work)) (p i)));
           }
 
   -- ---- at every sound book, with the ledger that agrees with it
@@ -73,24 +82,32 @@ module _ (q0 : ℕ) (t : Travel) where
     pub feeds : (before : ℕ) → feedsSince q0 t before b (c ∷ []) ≡ feedsSince q0 t before b (replicate n Call.tick)
     pub accounts : ledger q0 t older b (c ∷ []) ≡ ledger q0 t older b (replicate n Call.tick)
 
-  pub run-is-ticks : (b : Book) (older : List Account) (budget buffer : ℕ) → Sound q0 t b → Agree q0 (b .remainder) (b .work) older
+  pub run-is-ticks : (b : Book) (older : List Account) (budget buffer : ℕ) → Sound q0 t b
+      → Agree q0 (b .bench .remainder) (b .bench .work) older
       → Same b older (Call.run budget buffer) (length (tickBytes (runEntry q0 t b budget buffer .reply)))
-  unfolding runEntry feedsSince ledger
-  run-is-ticks b older budget buffer s h = by (b .at) (b .mark) (b .remainder) (b .work) older s h
+  unfolding benchRun feedsSince ledger
+  run-is-ticks b older budget buffer s h =
+      let k = b .bench in by (k .at) (k .mark) (k .remainder) (k .work) (b .waiting) older (s .bench) (s .none) h
     where
-      by : (at : Point) (mark : Bool) (r : ℕ) (w : InWork) (l : List Account) → Sound q0 t (bookOf at mark r w) → Agree q0 r w l
-          → (let b = bookOf at mark r w in Same b l (Call.run budget buffer) (length (tickBytes (runEntry q0 t b budget buffer .reply))))
-      by at mark r InWork.nothing l s h = record { feeds = λ before. omega arith; accounts = untouched q0 _ l h }
-      by at mark r (InWork.working j) [] s h = absurd h
-      by at true r (InWork.working j) (a ∷ l) s h =
+      by : (at : Point) (mark : Bool) (r : ℕ) (w : InWork) (l : List Block) (older : List Account) → BenchSound q0 t (benchOf at mark r w)
+          → (isNothing w ≡ true → l ≡ []) → Agree q0 r w older
+          → (let b : Book = record { bench = benchOf at mark r w; waiting = l } in
+          Same b older (Call.run budget buffer) (length (tickBytes (runEntry q0 t b budget buffer .reply))))
+      by at mark r InWork.nothing [] older s alone h = record { feeds = λ before. omega arith; accounts = untouched q0 _ older h }
+      by at mark r InWork.nothing (x ∷ l) older s alone h = absurd (cons≢nil (alone refl))
+      by at mark r (InWork.working j) l [] s alone h = absurd h
+      by at true r (InWork.working j) l (a ∷ older) s alone h =
           let p : a .ticks + 0 ≡ a .ticks = omega arith in
           record {
             feeds = λ before. omega arith;
-            accounts = ap (λ (c : Account). c ∷ l) (touched (worked 0 Fate.inWork) (h .0)) ∙ (λ i. account a l (sym (h .0 .fate) i) (p i));
+            accounts = ap (λ (c : Account). c ∷ older) (touched (worked 0 Fate.inWork) (h .0))
+                ∙ (λ i. account a older (sym (h .0 .fate) i) (p i));
           }
-      by at false r (InWork.working j) (a ∷ l) s h =
-          let x = strip-adds (min budget buffer) at r j (s .work) (s .below) in
+      by at false r (InWork.working j) l (a ∷ older) s alone h =
+          let x = strip-adds l (min budget buffer) at r j (s .work) (s .below) in
+          let last = strip q0 (min budget buffer) (benchOf at false r (InWork.working j)) .last in
           record {
             feeds = λ before. sym (x .feeds before);
-            accounts = ap (λ (c : Account). c ∷ l) (touched (worked _ _) (h .0)) ∙ sym (x .accounts a l (h .0 .fate));
+            accounts = ap (λ (c : Account). comesIn last (last .work) l (c ∷ older)) (touched (worked _ _) (h .0))
+                ∙ sym (x .accounts a older (h .0 .fate));
           }

@@ -2,7 +2,7 @@
 -- In a history every block begins so.
 use mathlib.Core.Path.{_≡_}
 use mathlib.Core.Bool.{true}
-use mathlib.Core.List.{List, []}
+use mathlib.Core.List.{List}
 use Prim.Native.Nat.{ℕ, zero, suc, _+_, _-_, _*_, _≤_, _<_}
 use native.Mathlib.Nat.{mul-le-mul-right, lt-of-not-le, not-le-of-lt, lt-suc-self}
 use native.Mathlib.Omega.{arith}
@@ -19,12 +19,12 @@ use Rattle.block.specs.Block.{blockCycles}
 use Rattle.block.specs.Charge.{blockCharge, chargesTo, blockCharges}
 use Rattle.block.specs.Questions.{loadNo}
 use Rattle.block.specs.laws.Charge.{block-charge-range}
-use Rattle.book.specs.Book.{Call, freshBook, addedBy}
-use Rattle.book.specs.Ledger.{ledger, blockTicks, blockLeaves, Every, BeginsBelow}
+use Rattle.book.specs.Bench.{addedBy}
+use Rattle.book.specs.Book.{Call}
+use Rattle.book.specs.Ledger.{accounts, blockTicks, blockLeaves, Every, Given, AcceptedThere, BeginsBelow}
 use Rattle.book.specs.laws.Settings.{SettingsRight}
 use Rattle.book.specs.laws.Way.{block-way}
 use Rattle.book.specs.laws.Load.{load-right}
-use Rattle.book.specs.laws.Sound.{idle-below}
 use Rattle.book.specs.laws.Accounts.{accounts-hold}
 
 -- ---- any block, of a feed in 1..q0 and with cycles to do
@@ -55,15 +55,16 @@ module _ (q0 : ℕ) (start : Point) (b : Block) (some : 1 ≤ b .feed) (short : 
         let k = blockCycles start b in
         rw (total-dues k) at (last-is-end dues (addedBy b) (omega arith) each r k cycles first)
 
+    -- a tick for each cycle at least
+    pub begun-enough : blockCycles start b ≤ blockTicks q0 r start b
+    begun-enough =
+        let k = blockCycles start b in
+        rw (total-dues k) at (end-enough dues (addedBy b) (omega arith) each r k cycles first)
+
     -- 01: "The remainder goes over to the next block.": less than a tick adds
     begun-leaves : r + blockTicks q0 r start b * addedBy b - due < addedBy b
-    begun-leaves = by (blockTicks q0 r start b) enough (end-tick due (addedBy b) r (omega arith))
+    begun-leaves = by (blockTicks q0 r start b) begun-enough (end-tick due (addedBy b) r (omega arith))
       where
-        enough : blockCycles start b ≤ blockTicks q0 r start b
-        enough =
-            let k = blockCycles start b in
-            rw (total-dues k) at (end-enough dues (addedBy b) (omega arith) each r k cycles first)
-
         by : (t : ℕ) → blockCycles start b ≤ t → Reaches due (addedBy b) r t → r + t * addedBy b - due < addedBy b
         by zero l e = absurd (omega arith)
         by (suc t) l e =
@@ -82,7 +83,7 @@ pub record Begun (q0 r : ℕ) (start : Point) (b : Block) : Type 0 where
 pub accepted-begins : (q0 : ℕ) (t : Travel) → Wide t → (start : Point) (b : Block) → Inside t start → loadNo q0 t true start b ≡ 0
     → (r : ℕ) → r < straight * q0 → Begun q0 r start b
 accepted-begins q0 t wide start b here accepted r below =
-    let right = load-right q0 t wide true start b here accepted in
+    let right = load-right q0 t wide start b here accepted in
     let cycles = block-way b here (right .path) .some in
     record {
       ends = begun-ends q0 start b (right .some) (right .short) cycles r below;
@@ -91,7 +92,18 @@ accepted-begins q0 t wide start b here accepted r below =
 
 -- ---- in a history
 
-pub accounts-below : (q0 : ℕ) (t : Travel) → SettingsRight q0 t → (cs : List Call) → Every (BeginsBelow q0) (ledger q0 t [] freshBook cs)
+pub accounts-below : (q0 : ℕ) (t : Travel) → SettingsRight q0 t → (cs : List Call) → Every (BeginsBelow q0) (accounts q0 t cs)
 accounts-below q0 t settings cs =
-    accounts-hold (λ k start r. r < straight * q0) q0 t settings
-    (λ b k s right. idle-below q0 (b .remainder) (b .work) (right .none) (s .below)) cs
+    accounts-hold (λ k start r. r < straight * q0) q0 t settings (λ start r k here below asked right. below) cs
+
+pub accounts-accepted : (q0 : ℕ) (t : Travel) → SettingsRight q0 t → (cs : List Call)
+    → Every (AcceptedThere q0 t) (accounts q0 t cs)
+accounts-accepted q0 t settings cs =
+    accounts-hold (λ k start r. loadNo q0 t true start k ≡ 0) q0 t settings (λ start r k here below asked right. asked) cs
+
+pub accounts-given : (q0 : ℕ) (t : Travel) → SettingsRight q0 t → (cs : List Call) → Every (Given q0) (accounts q0 t cs)
+accounts-given q0 t settings cs =
+    accounts-hold (λ k start r. 1 ≤ blockTicks q0 r start k) q0 t settings
+    (λ start r k here below asked right.
+    let cycles = block-way k here (right .path) .some in
+    omega (arith, cycles, begun-enough q0 start k (right .some) (right .short) cycles r below)) cs

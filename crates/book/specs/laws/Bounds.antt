@@ -9,7 +9,8 @@ use Rattle.arc.specs.declared.arc.Arc.{Arc}
 use Rattle.arc.specs.laws.Step.{after-within}
 use Rattle.block.specs.declared.Path.{Path}
 use Rattle.block.specs.Block.{arcOf, pointAlong, blockPoint}
-use Rattle.book.specs.Book.{Job, InWork, Book, Call, freshBook, closing}
+use Rattle.book.specs.Bench.{Job, InWork}
+use Rattle.book.specs.Book.{Book, Call, freshBook, closing}
 use Rattle.book.specs.Bounds.{OnPath, OnWork, InBounds}
 use Rattle.book.specs.laws.Settings.{SettingsRight}
 use Rattle.book.specs.laws.Way.{PathRight}
@@ -48,7 +49,7 @@ module _ (q0 : ℕ) (t : Travel) where
   work-bounds at (InWork.working j) s = job-bounds at j s
 
   pub in-bounds : (b : Book) → Sound q0 t b → InBounds b
-  in-bounds b s = work-bounds (b .at) (b .work) (s .work)
+  in-bounds b s = work-bounds (b .bench .at) (b .bench .work) (s .bench .work)
 
   pub history-bounds : SettingsRight q0 t → (cs : List Call) → InBounds (closing q0 t freshBook cs)
   history-bounds settings cs = in-bounds (closing q0 t freshBook cs) (history-sound q0 t settings cs)

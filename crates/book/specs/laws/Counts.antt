@@ -1,6 +1,6 @@
 -- The cycles of every account of an arc, and the points that they visit, are those of the paper's walk to its end.
 use mathlib.Core.Path.{sym, subst}
-use mathlib.Core.List.{List, []}
+use mathlib.Core.List.{List}
 use Prim.Native.Nat.{ℕ}
 use Rattle.plane.specs.declared.point.Point.{Point}
 use Rattle.plane.specs.declared.travel.Travel.{Travel}
@@ -17,8 +17,8 @@ use Rattle.arc.specs.laws.Step.{seen-after}
 use Rattle.block.specs.declared.Block.{Block}
 use Rattle.block.specs.declared.Path.{Path}
 use Rattle.block.specs.Block.{squareOf, arcOf}
-use Rattle.book.specs.Book.{Call, freshBook}
-use Rattle.book.specs.Ledger.{ledger, Every, CountedAlong, Counted}
+use Rattle.book.specs.Book.{Call}
+use Rattle.book.specs.Ledger.{accounts, Every, CountedAlong, Counted}
 use Rattle.book.specs.laws.Settings.{SettingsRight}
 use Rattle.book.specs.laws.Way.{PathRight}
 use Rattle.book.specs.laws.Accounts.{accounts-hold}
@@ -44,7 +44,7 @@ counted-along t start b Path.Line r = tt
 counted-along t start b (Path.Arc turn centre) r =
     counted-arc start b turn centre (on-circle-to _ _ (r .at .on) .circle) (on-circle-to _ _ (r .at .end-on) .circle)
 
-pub accounts-counted : (q0 : ℕ) (t : Travel) → SettingsRight q0 t → (cs : List Call) → Every Counted (ledger q0 t [] freshBook cs)
+pub accounts-counted : (q0 : ℕ) (t : Travel) → SettingsRight q0 t → (cs : List Call) → Every Counted (accounts q0 t cs)
 accounts-counted q0 t settings cs =
     accounts-hold (λ k start r. CountedAlong start k (k .path)) q0 t settings
-    (λ b k s right. counted-along t (b .at) k (k .path) (right .path)) cs
+    (λ start r k here below asked right. counted-along t start k (k .path) (right .path)) cs

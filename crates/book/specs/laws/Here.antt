@@ -16,7 +16,7 @@ use Rattle.arc.specs.laws.Step.{Circles, after-none, last-cycle, more-cycles}
 use Rattle.arc.specs.laws.Work.{ArcAt, keeps}
 use Rattle.block.specs.declared.Path.{Path}
 use Rattle.block.specs.Block.{arcOf, cyclesAlong, pointAlong, blockCycles, blockPoint}
-use Rattle.book.specs.Book.{Job}
+use Rattle.book.specs.Bench.{Job}
 use Rattle.book.specs.laws.Way.{LineRight, PathRight}
 use Rattle.book.specs.laws.Sound.{JobSound}
 

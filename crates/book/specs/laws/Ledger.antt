@@ -1,7 +1,7 @@
--- Every account of the ledger is right: a block has ended exactly on its end tick, at its commanded end, and before that it has had fewer ticks.
+-- Every account is right: a block has ended exactly on its end tick, at its commanded end, and before that it has had fewer ticks; while it
+-- waits it has none.
 use mathlib.Core.Path.{_≡_, refl, sym, ap, subst, _∙_}
-use mathlib.Core.Bool.{true, false≢true}
-use mathlib.Core.List.{List, [], _∷_}
+use mathlib.Core.List.{List, [], _∷_, _++_}
 use Prim.Native.Nat.{ℕ, zero, suc, _+_, _*_, _<_}
 use native.Mathlib.Omega.{arith}
 use lib.ListN.{length}
@@ -11,14 +11,15 @@ use Rattle.divider.specs.laws.AddUp.{fewer, exactly}
 use Rattle.block.specs.declared.Block.{Block}
 use Rattle.block.specs.Charge.{chargesTo}
 use Rattle.block.specs.Questions.{loadNo}
-use Rattle.book.specs.Book.{Job, InWork, Book, Call, freshBook, isNothing, addedBy, jobDue, loaded, loadEntry, entry, closing}
-use Rattle.book.specs.Ledger.{Fate, Account, opened, whileInWork, newest, worked, fateAt, accountsAfter, ledger}
-use Rattle.book.specs.Ledger.{ticksGiven, RightFate, Right, Every}
-use Rattle.book.specs.laws.Load.{load-right}
+use Rattle.book.specs.Bench.{Job, InWork, Bench, addedBy, jobDue, workEnd, benchTick, benchRun}
+use Rattle.book.specs.Book.{Book, Call, freshBook, startOf, hasRoom, settledWith, settled, loaded, loadEntry, entry, closing}
+use Rattle.book.specs.Ledger.{Fate, Account, account, comesIn, opened, whileInWork, newest, worked, fateAt, unbegun, accountsAfter}
+use Rattle.book.specs.Ledger.{ledger, accounts, ticksGiven, RightFate, Right, Every}
 use Rattle.book.specs.laws.Settings.{SettingsRight}
-use Rattle.book.specs.laws.Sound.{JobSound, WorkSound, Sound, jobPaid, jobCharges, Below, due-within, fresh-sound}
+use Rattle.book.specs.laws.Sound.{JobSound, WorkSound, BenchSound, Sound, jobPaid, jobCharges, Below, due-within, fresh-sound}
 use Rattle.book.specs.laws.Stretch.{Left, Stretch, stretchCharges}
-use Rattle.book.specs.laws.Call.{Ticking, rests, works, tick-does, run-does, call-kept, history-sound}
+use Rattle.book.specs.laws.Ticking.{Ticking, rests, works, tick-does, run-does}
+use Rattle.book.specs.laws.Call.{call-kept, history-sound}
 
 -- ---- the accounts and the book
 
@@ -31,14 +32,16 @@ pub record Open (q0 : ℕ) (r : ℕ) (j : Job) (a : Account) : Type 0 where
 
 -- the account of a block no longer in work, and right
 abbrev pub ClosedFate : (q0 : ℕ) → Account → Fate → Type 0
+ClosedFate q0 a Fate.isWaiting = ⊥
 ClosedFate q0 a Fate.inWork = ⊥
 ClosedFate q0 a (Fate.endedAt p) = RightFate q0 a (Fate.endedAt p)
 ClosedFate q0 a Fate.wasStopped = RightFate q0 a Fate.wasStopped
+ClosedFate q0 a Fate.stoppedWaiting = RightFate q0 a Fate.stoppedWaiting
 
 abbrev pub Closed : (q0 : ℕ) → Account → Type 0
 Closed q0 a = ClosedFate q0 a (a .fate)
 
--- the newest is the book's block in work, where there is one; the others are closed
+-- the newest of the ledger is the book's block in work, where there is one; the others are closed
 abbrev pub Agree : (q0 : ℕ) → (r : ℕ) → InWork → List Account → Type 0
 Agree q0 r InWork.nothing l = Every (Closed q0) l
 Agree q0 r (InWork.working j) [] = ⊥
@@ -47,9 +50,11 @@ Agree q0 r (InWork.working j) (a ∷ l) = Open q0 r j a × Every (Closed q0) l
 -- ---- so every account is right
 
 closed-right : (q0 : ℕ) (a : Account) (f : Fate) → ClosedFate q0 a f → RightFate q0 a f
+closed-right q0 a Fate.isWaiting h = absurd h
 closed-right q0 a Fate.inWork h = absurd h
 closed-right q0 a (Fate.endedAt p) h = h
 closed-right q0 a Fate.wasStopped h = h
+closed-right q0 a Fate.stoppedWaiting h = h
 
 all-right : (q0 : ℕ) (l : List Account) → Every (Closed q0) l → Every (Right q0) l
 all-right q0 [] h = tt
@@ -73,9 +78,11 @@ work-right q0 t at r (InWork.working j) (a ∷ l) s below h =
 -- ---- each call keeps the agreement
 
 closed-same : (q0 : ℕ) (g : Account → Account) (a : Account) (f : Fate) → ClosedFate q0 a f → whileInWork g a f ≡ a
+closed-same q0 g a Fate.isWaiting h = absurd h
 closed-same q0 g a Fate.inWork h = absurd h
 closed-same q0 g a (Fate.endedAt p) h = refl
 closed-same q0 g a Fate.wasStopped h = refl
+closed-same q0 g a Fate.stoppedWaiting h = refl
 
 -- where nothing is in work nothing is touched
 pub untouched : (q0 : ℕ) (g : Account → Account) (l : List Account) → Every (Closed q0) l → newest g l ≡ l
@@ -85,6 +92,12 @@ untouched q0 g (a ∷ l) h = ap (λ (c : Account). c ∷ l) (closed-same q0 g a 
 -- the account in work is
 pub touched : {q0 r : ℕ} {j : Job} {a : Account} (g : Account → Account) → Open q0 r j a → whileInWork g a (a .fate) ≡ g a
 touched {a = a} g o = ap (whileInWork g a) (o .fate)
+
+-- accounts of blocks that did not come into work
+unbegun-every : (P : Account → Type 0) (f : Fate) → ((start : Point) (k : Block) → P (account f start 0 k))
+    → (start : Point) (l : List Block) (older : List Account) → Every P older → Every P (unbegun f start l older)
+unbegun-every P f each start [] older h = h
+unbegun-every P f each start (k ∷ l) older h = unbegun-every P f each (k .end) l _ (each start k, h)
 
 module _ (q0 : ℕ) (t : Travel) where
   -- a tick that does nothing
@@ -99,12 +112,13 @@ module _ (q0 : ℕ) (t : Travel) where
       )
 
   -- a stretch
-  stretched : {at : Point} {r : ℕ} {j : Job} {bytes : List ℕ} {after : Book} (n : ℕ) → n ≡ length bytes → JobSound q0 t at j
+  stretched : {at : Point} {r : ℕ} {j : Job} {bytes : List ℕ} {after : Bench} (n : ℕ) → n ≡ length bytes → JobSound q0 t at j
       → Stretch q0 t at r j bytes after → (l : List Account) → Agree q0 r (InWork.working j) l
       → Agree q0 (after .remainder) (after .work) (newest (worked n (fateAt (after .at) (after .work))) l)
   stretched n len s x [] h = absurd h
   stretched {r = r} {j = j} {bytes = bytes} {after = after} n len s x (a ∷ l) h =
-      subst (λ (c : Account). Agree q0 (after .remainder) (after .work) (c ∷ l)) (sym (touched (worked n (fateAt (after .at) (after .work))) (h .0)))
+      subst (λ (c : Account). Agree q0 (after .remainder) (after .work) (c ∷ l))
+      (sym (touched (worked n (fateAt (after .at) (after .work))) (h .0)))
       (by (after .work) (x .left))
     where
       o : Open q0 r j a
@@ -139,16 +153,12 @@ module _ (q0 : ℕ) (t : Travel) where
         h .1,
       )
 
-  ticking-agrees : {b : Book} {w : InWork} {bytes : List ℕ} {n : ℕ} {after : Book} (l : List Account) → Ticking q0 t b w bytes n after
-      → b .work ≡ w → Sound q0 t b → Agree q0 (b .remainder) (b .work) l
+  ticking-agrees : {b : Bench} {w : InWork} {bytes : List ℕ} {n : ℕ} {after : Bench} (l : List Account) → Ticking q0 t b w bytes n after
+      → b .work ≡ w → BenchSound q0 t b → Agree q0 (b .remainder) (b .work) l
       → Agree q0 (after .remainder) (after .work) (newest (worked n (fateAt (after .at) (after .work))) l)
   ticking-agrees {b} l (rests silent) e s h = resting (b .at) (b .remainder) (b .work) l h
   ticking-agrees {b} l (works {n = n} len x) e s h =
       stretched n len (subst (WorkSound q0 t (b .at)) e (s .work)) x l (subst (λ (w : InWork). Agree q0 (b .remainder) w l) e h)
-
-  none-open : (r : ℕ) (w : InWork) (l : List Account) → isNothing w ≡ true → Agree q0 r w l → Every (Closed q0) l
-  none-open r InWork.nothing l e h = h
-  none-open r (InWork.working j) l e h = absurd (false≢true e)
 
   stop-agrees : (at : Point) (r : ℕ) (w : InWork) (l : List Account) → WorkSound q0 t at w → Below q0 w r → Agree q0 r w l
       → Every (Closed q0) (newest (worked 0 Fate.wasStopped) l)
@@ -157,46 +167,65 @@ module _ (q0 : ℕ) (t : Travel) where
   stop-agrees at r (InWork.working j) (a ∷ l) s below h =
       (subst (Closed q0) (sym (touched (worked 0 Fate.wasStopped) (h .0))) (omega (arith, open-fewer s below (h .0))), h .1)
 
+  -- the first that waits comes in: where nothing is in work, all accounts are closed
+  comes-agrees : (k : Bench) (l : List Block) (older : List Account) → Agree q0 (k .remainder) (k .work) older
+      → (let b = settled k l in Agree q0 (b .bench .remainder) (b .bench .work) (comesIn k (k .work) l older))
+  unfolding settled chargesTo
+  comes-agrees k l older h = by (k .work) refl l h
+    where
+      by : (w : InWork) → k .work ≡ w → (l : List Block) → Agree q0 (k .remainder) w older
+          → (let b = settledWith k w l in Agree q0 (b .bench .remainder) (b .bench .work) (comesIn k w l older))
+      by InWork.nothing same [] h = subst (λ (w : InWork). Agree q0 (k .remainder) w older) (sym same) h
+      by InWork.nothing same (b ∷ l) h =
+          let unfed : 0 * q0 + k .remainder ≡ k .remainder + 0 * addedBy b = omega arith in
+          (record { fate = refl; block = refl; start = refl; fed = unfed }, h)
+      by (InWork.working j) same l h = subst (λ (w : InWork). Agree q0 (k .remainder) w older) (sym same) h
+
+  load-agrees : (b : Book) (k : Block) (older : List Account) → Agree q0 (b .bench .remainder) (b .bench .work) older
+      → (let e = loadEntry q0 t b k in Agree q0 (e .next .bench .remainder) (e .next .bench .work) (opened b k (e .reply) older))
+  unfolding loadEntry
+  load-agrees b k older h = by (loadNo q0 t (hasRoom b) (startOf b) k)
+    where
+      by : (n : ℕ) → (let e = loaded b k n in Agree q0 (e .next .bench .remainder) (e .next .bench .work) (opened b k (e .reply) older))
+      by zero = comes-agrees (b .bench) (b .waiting ++ (k ∷ [])) older h
+      by (suc n) = h
+
+  pub call-agrees : (b : Book) (c : Call) (older : List Account) → Sound q0 t b → Agree q0 (b .bench .remainder) (b .bench .work) older
+      → (let e = entry q0 t b c in Agree q0 (e .next .bench .remainder) (e .next .bench .work) (accountsAfter q0 t b c older))
+  call-agrees b (Call.load k) older s h = load-agrees b k older h
+  call-agrees b Call.tick older s h =
+      comes-agrees (benchTick q0 (b .bench) .after) (b .waiting) _ (ticking-agrees older (tick-does q0 t b (s .bench)) refl (s .bench) h)
+  call-agrees b (Call.run budget buffer) older s h =
+      comes-agrees (benchRun q0 (b .bench) budget buffer .after) (b .waiting) _
+      (ticking-agrees older (run-does q0 t b budget buffer (s .bench)) refl (s .bench) h)
+  call-agrees b Call.hold older s h = h
+  call-agrees b Call.release older s h = h
+  call-agrees b Call.stop older s h =
+      let k = b .bench in
+      unbegun-every (Closed q0) Fate.stoppedWaiting (λ start k. refl) (workEnd k) (b .waiting) _
+      (stop-agrees (k .at) (k .remainder) (k .work) older (s .bench .work) (s .bench .below) h)
+
+  -- ---- every list of calls
+
   module _ (settings : SettingsRight q0 t) where
-    load-agrees : (b : Book) (k : Block) (l : List Account) → Sound q0 t b → Agree q0 (b .remainder) (b .work) l
-        → (let e = loadEntry q0 t b k in Agree q0 (e .next .remainder) (e .next .work) (opened b k (e .reply) l))
-    unfolding loadEntry chargesTo
-    load-agrees b k l s h = by (loadNo q0 t (isNothing (b .work)) (b .at) k) refl
-      where
-        by : (n : ℕ) → loadNo q0 t (isNothing (b .work)) (b .at) k ≡ n
-            → (let e = loaded q0 t b k n in Agree q0 (e .next .remainder) (e .next .work) (opened b k (e .reply) l))
-        by zero e =
-            let right = load-right q0 t (settings .wide) (isNothing (b .work)) (b .at) k (s .inside) e in
-            let unfed : 0 * q0 + b .remainder ≡ b .remainder + 0 * addedBy k = omega arith in
-            (record { fate = refl; block = refl; start = refl; fed = unfed }, none-open (b .remainder) (b .work) l (right .none) h)
-        by (suc n) e = h
-
-    pub call-agrees : (b : Book) (c : Call) (l : List Account) → Sound q0 t b → Agree q0 (b .remainder) (b .work) l
-        → Agree q0 (entry q0 t b c .next .remainder) (entry q0 t b c .next .work) (accountsAfter q0 t b c l)
-    call-agrees b (Call.load k) l s h = load-agrees b k l s h
-    call-agrees b Call.tick l s h = ticking-agrees l (tick-does q0 t b s) refl s h
-    call-agrees b (Call.run budget buffer) l s h = ticking-agrees l (run-does q0 t b budget buffer s) refl s h
-    call-agrees b Call.hold l s h = h
-    call-agrees b Call.release l s h = h
-    call-agrees b Call.stop l s h = stop-agrees (b .at) (b .remainder) (b .work) l (s .work) (s .below) h
-
-    -- ---- every list of calls
-
-    pub ledger-agrees : (b : Book) (cs : List Call) (l : List Account) → Sound q0 t b → Agree q0 (b .remainder) (b .work) l
-        → (let after = closing q0 t b cs in Agree q0 (after .remainder) (after .work) (ledger q0 t l b cs))
+    pub ledger-agrees : (b : Book) (cs : List Call) (older : List Account) → Sound q0 t b
+        → Agree q0 (b .bench .remainder) (b .bench .work) older
+        → (let after = closing q0 t b cs in Agree q0 (after .bench .remainder) (after .bench .work) (ledger q0 t older b cs))
     unfolding closing ledger
-    ledger-agrees b [] l s h = h
-    ledger-agrees b (c ∷ cs) l s h =
-        ledger-agrees (entry q0 t b c .next) cs (accountsAfter q0 t b c l) (call-kept q0 t settings b c s) (call-agrees b c l s h)
+    ledger-agrees b [] older s h = h
+    ledger-agrees b (c ∷ cs) older s h =
+        ledger-agrees (entry q0 t b c .next) cs (accountsAfter q0 t b c older) (call-kept q0 t settings b c s) (call-agrees b c older s h)
 
     -- the account in work, if any, is the book's block in work
     pub history-agrees : (cs : List Call)
-        → (let after = closing q0 t freshBook cs in Agree q0 (after .remainder) (after .work) (ledger q0 t [] freshBook cs))
+        → (let after = closing q0 t freshBook cs in
+        Agree q0 (after .bench .remainder) (after .bench .work) (ledger q0 t [] freshBook cs))
     history-agrees cs = ledger-agrees freshBook cs [] (fresh-sound settings) tt
 
-    pub accounts-right : (cs : List Call) → Every (Right q0) (ledger q0 t [] freshBook cs)
+    pub accounts-right : (cs : List Call) → Every (Right q0) (accounts q0 t cs)
     accounts-right cs =
         let after = closing q0 t freshBook cs in
-        let s = history-sound q0 t settings cs in
-        let l = ledger q0 t [] freshBook cs in
-        work-right q0 t (after .at) (after .remainder) (after .work) l (s .work) (s .below) (history-agrees cs)
+        let k = after .bench in
+        let s = history-sound q0 t settings cs .bench in
+        unbegun-every (Right q0) Fate.isWaiting (λ start k. refl) (workEnd k) (after .waiting) _
+        (work-right q0 t (k .at) (k .remainder) (k .work) (ledger q0 t [] freshBook cs) (s .work) (s .below) (history-agrees cs))

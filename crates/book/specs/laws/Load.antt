@@ -1,12 +1,10 @@
 -- What the questions 10 to 16 settle where none was answered by no.
-use mathlib.Core.Path.{_≡_}
-use mathlib.Core.Bool.{Bool, true}
+use mathlib.Core.Path.{_≡_, refl}
+use mathlib.Core.Bool.{Bool, true, false}
 use Prim.Native.Nat.{ℕ, _≤_}
 use native.Mathlib.Omega.{arith}
 use lib.IntN.{ℤ, pos, negsuc, natAbs, _+ℤ_}
-use borrow.Author.Tests.{leb-true}
 use Rattle.whole.specs.laws.Order.{abs-add}
-use Rattle.whole.specs.laws.Test.{both}
 use Rattle.plane.specs.declared.point.Point.{Point}
 use Rattle.plane.specs.declared.travel.Travel.{Travel}
 use Rattle.plane.specs.Travel.{insideOf}
@@ -21,6 +19,7 @@ use Rattle.block.specs.declared.Block.{Block}
 use Rattle.block.specs.declared.Path.{Path}
 use Rattle.block.specs.Block.{arcOf}
 use Rattle.block.specs.Questions.{pathNo, loadNo}
+use Rattle.block.specs.laws.Accepted.{yes}
 use Rattle.block.specs.laws.Asked.{answered}
 use Rattle.block.specs.laws.Begin.{OffsetRight, offset-right, start-on}
 use Rattle.book.specs.laws.Way.{PathRight}
@@ -38,14 +37,21 @@ centre-inside o right start near =
 
 -- ---- all together
 
-pub record LoadRight (q0 : ℕ) (t : Travel) (idle : Bool) (start : Point) (b : Block) : Type 0 where
-  pub none : idle ≡ true
+pub record LoadRight (q0 : ℕ) (t : Travel) (start : Point) (b : Block) : Type 0 where
   pub some : 1 ≤ b .feed
   pub short : b .feed ≤ q0
   pub path : PathRight t start b (b .path)
 
+-- question 10, and the others
+pub room-asked : (q0 : ℕ) (t : Travel) (room : Bool) (start : Point) (b : Block) → loadNo q0 t room start b ≡ 0
+    → (room ≡ true) × (loadNo q0 t true start b ≡ 0)
+unfolding loadNo
+room-asked q0 t true start b e = (refl, e)
+room-asked q0 t false start b e = absurd (omega arith)
+
 module _ (q0 : ℕ) (t : Travel) (wide : Wide t) where
-  path-right : (start : Point) (b : Block) → Inside t start → Inside t (b .end) → (p : Path) → pathNo t start b p ≡ 0 → PathRight t start b p
+  path-right : (start : Point) (b : Block) → Inside t start → Inside t (b .end) → (p : Path) → pathNo t start b p ≡ 0
+      → PathRight t start b p
   unfolding arcOf
   path-right start b here there Path.Line e = record { end-inside = there; apart = differ-apart start (b .end) (answered 12 e .0) }
   path-right start b here there (Path.Arc turn centre) e =
@@ -62,16 +68,7 @@ module _ (q0 : ℕ) (t : Travel) (wide : Wide t) where
         };
       }
 
-  pub load-right : (idle : Bool) (start : Point) (b : Block) → Inside t start → loadNo q0 t idle start b ≡ 0 → LoadRight q0 t idle start b
-  unfolding loadNo
-  load-right idle start b here e =
-      let none = answered 9 e in
-      let feed = answered 10 (none .1) in
-      let end = answered 11 (feed .1) in
-      let f = both (feed .0) in
-      record {
-        none = none .0;
-        some = leb-true 1 (b .feed) (f .0);
-        short = leb-true (b .feed) q0 (f .1);
-        path = path-right start b here (inside (end .0)) (b .path) (end .1);
-      }
+  pub load-right : (start : Point) (b : Block) → Inside t start → loadNo q0 t true start b ≡ 0 → LoadRight q0 t start b
+  load-right start b here e =
+      let y = yes q0 t true start b e in
+      record { some = y .some; short = y .most; path = path-right start b here (inside (y .end-in)) (b .path) (y .path) }

@@ -1,7 +1,7 @@
 -- A run is its ticks, one by one, and does the least of budget, buffer and ticks to the block's end.
 use mathlib.Core.Path.{_≡_, refl, sym, ap, ap₂, subst, subst₂, _∙_}
 use mathlib.Core.Bool.{Bool, true, false}
-use mathlib.Core.List.{List, [], _∷_, map}
+use mathlib.Core.List.{List, [], _∷_, map, cons≢nil}
 use Prim.Native.Nat.{ℕ, zero, suc, _+_, _-_, _*_, _≤_, _<_, min}
 use native.Mathlib.Nat.{mul-le-mul-right}
 use native.Mathlib.Omega.{arith}
@@ -15,12 +15,15 @@ use Rattle.divider.specs.Divider.{endTick}
 use Rattle.divider.specs.laws.AddUp.{fewer, exactly, rest}
 use Rattle.block.specs.declared.Block.{Block}
 use Rattle.block.specs.Charge.{blockCharges}
-use Rattle.book.specs.Book.{Job, InWork, Book, Call, Report, Reply, Strip, isNothing, addedBy, jobDue}
-use Rattle.book.specs.Book.{bookTick, inFront, strip, reportOf, runEntry, replies, closing}
+use Rattle.book.specs.Bench.{Job, InWork, Bench, Strip, Report, isNothing, addedBy, jobDue, benchTick, inFront, strip, reportOf}
+use Rattle.book.specs.Bench.{benchRun}
+use Rattle.book.specs.Book.{Book, Call, Reply, settled, runEntry, replies, closing}
 use Rattle.book.specs.Sums.{tickBytes}
 use Rattle.book.specs.Ledger.{Account, ticksGiven}
-use Rattle.book.specs.laws.Sound.{bookOf, JobSound, WorkSound, Sound, jobCharge, jobPaid, jobCharges, Below, charge-within}
+use Rattle.book.specs.laws.Sound.{benchOf, JobSound, WorkSound, BenchSound, Sound, jobCharge, jobPaid, jobCharges, Below}
+use Rattle.book.specs.laws.Sound.{charge-within}
 use Rattle.book.specs.laws.Stretch.{Left, Stripped, stretchCharges, strip-stretch}
+use Rattle.book.specs.laws.Settled.{settled-busy}
 use Rattle.book.specs.laws.Ledger.{Open}
 
 -- the working ticks to the end of the block in work, at the remainder r
@@ -44,37 +47,53 @@ module _ (q0 : ℕ) (t : Travel) where
   unfolding replies closing
   none b = record { answers = refl; leaves = refl }
 
-  pub strip-ticks : (most : ℕ) (b : Book) → OneByOne b (strip q0 t most b .codes) (strip q0 t most b .last)
+  -- from a book with a block in work
+  strip-ticks : (most : ℕ) (k : Bench) (l : List Block) → isNothing (k .work) ≡ false
+      → OneByOne (record { bench = k; waiting = l }) (strip q0 most k .codes) (settled (strip q0 most k .last) l)
   unfolding strip replies closing
-  strip-ticks zero b = none b
-  strip-ticks (suc n) b = by (isNothing (bookTick q0 t b .after .work)) (strip-ticks n (bookTick q0 t b .after))
+  strip-ticks zero k l busy = record { answers = refl; leaves = sym (settled-busy k l busy) }
+  strip-ticks (suc n) k l busy = by (isNothing (benchTick q0 k .after .work)) refl (strip-ticks n (benchTick q0 k .after) l)
     where
-      by : (ended : Bool)
-          → (let k = bookTick q0 t b in
-          let s = strip q0 t n (k .after) in
-          OneByOne (k .after) (s .codes) (s .last) → OneByOne b (inFront q0 t ended k s .codes) (inFront q0 t ended k s .last))
-      by true rest = record { answers = refl; leaves = refl }
-      by false rest = record { answers = ap (λ (l : List Reply). Reply.byte (bookTick q0 t b .code) ∷ l) (rest .answers); leaves = rest .leaves }
+      after : Bench
+      after = benchTick q0 k .after
 
-  -- whatever the book: a run's bytes, and the book that it leaves, are those of its ticks
-  pub run-ticks : (b : Book) (budget buffer : ℕ) → (let e = runEntry q0 t b budget buffer in OneByOne b (tickBytes (e .reply)) (e .next))
-  unfolding runEntry
-  run-ticks b budget buffer = by (b .at) (b .mark) (b .remainder) (b .work)
+      by : (ended : Bool) → isNothing (after .work) ≡ ended
+          → (let s = strip q0 n after in
+          let whole = inFront ended (benchTick q0 k) s in
+          (isNothing (after .work) ≡ false → OneByOne (record { bench = after; waiting = l }) (s .codes) (settled (s .last) l))
+          → OneByOne (record { bench = k; waiting = l }) (whole .codes) (settled (whole .last) l))
+      by true e rest = record { answers = refl; leaves = refl }
+      by false e rest =
+          let r = rest e in
+          let m = length (strip q0 n after .codes) in
+          let same = settled-busy after l e in
+          record {
+            answers = ap (λ (l : List Reply). Reply.byte (benchTick q0 k .code) ∷ l)
+                (ap (λ (b : Book). replies q0 t b (replicate m Call.tick)) same ∙ r .answers);
+            leaves = ap (λ (b : Book). closing q0 t b (replicate m Call.tick)) same ∙ r .leaves;
+          }
+
+  -- a run's bytes, and the book that it leaves, are those of its ticks
+  pub run-ticks : (b : Book) (budget buffer : ℕ) → Sound q0 t b
+      → (let e = runEntry q0 t b budget buffer in OneByOne b (tickBytes (e .reply)) (e .next))
+  unfolding benchRun settled
+  run-ticks b budget buffer s = by (b .bench .at) (b .bench .mark) (b .bench .remainder) (b .bench .work) (b .waiting) (s .none)
     where
-      by : (at : Point) (mark : Bool) (r : ℕ) (w : InWork)
-          → (let b = bookOf at mark r w in
+      by : (at : Point) (mark : Bool) (r : ℕ) (w : InWork) (l : List Block) → (isNothing w ≡ true → l ≡ [])
+          → (let b : Book = record { bench = benchOf at mark r w; waiting = l } in
           let e = runEntry q0 t b budget buffer in
           OneByOne b (tickBytes (e .reply)) (e .next))
-      by at mark r InWork.nothing = none _
-      by at true r (InWork.working j) = none _
-      by at false r (InWork.working j) = strip-ticks (min budget buffer) _
+      by at mark r InWork.nothing [] alone = none _
+      by at mark r InWork.nothing (x ∷ l) alone = absurd (cons≢nil (alone refl))
+      by at true r (InWork.working j) l alone = none _
+      by at false r (InWork.working j) l alone = strip-ticks (min budget buffer) _ l refl
 
   -- ---- how many ticks
 
   module _ (at : Point) (r : ℕ) (j : Job) (sound : JobSound q0 t at j) (low : r < jobDue q0 j) where
-    counted : (most : ℕ) → Counted q0 most r j (strip q0 t most (bookOf at false r (InWork.working j)))
+    counted : (most : ℕ) → Counted q0 most r j (strip q0 most (benchOf at false r (InWork.working j)))
     counted most =
-        let s = strip q0 t most (bookOf at false r (InWork.working j)) in
+        let s = strip q0 most (benchOf at false r (InWork.working j)) in
         let x = strip-stretch q0 t most at r j sound low in
         by s x (s .last .work) (x .ended) (x .stretch .left) (x .stretch .sound .work) (x .stretch .sound .below)
       where
@@ -103,17 +122,18 @@ module _ (q0 : ℕ) (t : Travel) where
             let all = x .used-up ends in
             record { ticks = omega arith; ended = ends ∙ sym (lt-leb (jobTicksLeft q0 r j) most (omega arith)) }
 
-    working-run : (budget buffer : ℕ)
-        → (let b = bookOf at false r (InWork.working j) in
+    working-run : (budget buffer : ℕ) (l : List Block)
+        → (let k = benchOf at false r (InWork.working j) in
         let most = min budget buffer in
-        runEntry q0 t b budget buffer .reply
-        ≡ Reply.ran (reportOf q0 t (leb (jobTicksLeft q0 r j) most) (leb budget buffer)) (min most (jobTicksLeft q0 r j))
-        (strip q0 t most b .codes))
-    unfolding runEntry
-    working-run budget buffer =
-        let s = strip q0 t most (bookOf at false r (InWork.working j)) in
+        runEntry q0 t (record { bench = k; waiting = l }) budget buffer .reply
+        ≡ Reply.ran (reportOf (leb (jobTicksLeft q0 r j) most) (leb budget buffer)) (min most (jobTicksLeft q0 r j))
+        (strip q0 most k .codes))
+    unfolding benchRun
+    working-run budget buffer l =
+        let s = strip q0 most (benchOf at false r (InWork.working j)) in
         let c = counted most in
-        ap₂ (λ (report : Report) (n : ℕ). Reply.ran report n (s .codes)) (reports (s .ended) (length (s .codes)) (c .ended) (c .ticks) (leb left most) refl) (c .ticks)
+        ap₂ (λ (report : Report) (n : ℕ). Reply.ran report n (s .codes))
+        (reports (s .ended) (length (s .codes)) (c .ended) (c .ticks) (leb left most) refl) (c .ticks)
       where
         most : ℕ
         most = min budget buffer
@@ -123,49 +143,58 @@ module _ (q0 : ℕ) (t : Travel) where
 
         -- where the block has not ended, what is used up is the lesser of budget and buffer
         reports : (ended : Bool) (n : ℕ) → ended ≡ leb left most → n ≡ min most left → (u : Bool) → leb left most ≡ u
-            → reportOf q0 t ended (leb budget n) ≡ reportOf q0 t (leb left most) (leb budget buffer)
+            → reportOf ended (leb budget n) ≡ reportOf (leb left most) (leb budget buffer)
         reports ended n p l true e =
-            ap (λ (u : Bool). reportOf q0 t u (leb budget n)) (p ∙ e) ∙ ap (λ (u : Bool). reportOf q0 t u (leb budget buffer)) (sym e)
+            ap (λ (u : Bool). reportOf u (leb budget n)) (p ∙ e) ∙ ap (λ (u : Bool). reportOf u (leb budget buffer)) (sym e)
         reports ended n p l false e =
             let short = leb-false left most e in
-            ap₂ (reportOf q0 t) p (same-test
+            ap₂ reportOf p (same-test
             (λ h. le-leb budget buffer (omega (arith, leb-true budget n h)))
             (λ h. le-leb budget n (omega (arith, leb-true budget buffer h))))
 
-  module _ (b : Book) (j : Job) (s : Sound q0 t b) (work : b .work ≡ InWork.working j) (free : b .mark ≡ false) where
-    job-sound : JobSound q0 t (b .at) j
-    job-sound = subst (WorkSound q0 t (b .at)) work (s .work)
+  module _ (b : Book) (j : Job) (s : BenchSound q0 t (b .bench)) (work : b .bench .work ≡ InWork.working j)
+      (free : b .bench .mark ≡ false) where
+    job-sound : JobSound q0 t (b .bench .at) j
+    job-sound = subst (WorkSound q0 t (b .bench .at)) work (s .work)
 
-    job-below : b .remainder < jobDue q0 j
-    job-below = subst (λ (w : InWork). Below q0 w (b .remainder)) work (s .below)
+    job-below : b .bench .remainder < jobDue q0 j
+    job-below = subst (λ (w : InWork). Below q0 w (b .bench .remainder)) work (s .below)
+
+    abbrev left : ℕ
+    left = jobTicksLeft q0 (b .bench .remainder) j
 
     -- a strip does every tick that it may, up to the end of the block
-    pub strip-counted : (most : ℕ) → Counted q0 most (b .remainder) j (strip q0 t most b)
+    pub strip-counted : (most : ℕ) → Counted q0 most (b .bench .remainder) j (strip q0 most (b .bench))
     strip-counted most =
-        subst₂ (λ (m : Bool) (w : InWork). Counted q0 most (b .remainder) j (strip q0 t most (bookOf (b .at) m (b .remainder) w))) (sym free) (sym work)
-        (counted (b .at) (b .remainder) j job-sound job-below most)
+        let k = b .bench in
+        subst₂ (λ (m : Bool) (w : InWork). Counted q0 most (k .remainder) j (strip q0 most (benchOf (k .at) m (k .remainder) w)))
+        (sym free) (sym work) (counted (k .at) (k .remainder) j job-sound job-below most)
 
-    -- 01, Ticks and runs: "It does the least of its tick budget, the buffer length and the ticks to the block's end"; "else ended, spent or full, the
-    -- first that is true"
+    -- 01, Ticks and runs: "It does the least of its tick budget, the buffer length and the ticks to the block's end"; "else ended, spent or
+    -- full, the first that is true"
     pub run-report : (budget buffer : ℕ)
         → (let most = min budget buffer in
-        let left = jobTicksLeft q0 (b .remainder) j in
-        runEntry q0 t b budget buffer .reply ≡ Reply.ran (reportOf q0 t (leb left most) (leb budget buffer)) (min most left) (strip q0 t most b .codes))
+        runEntry q0 t b budget buffer .reply
+        ≡ Reply.ran (reportOf (leb left most) (leb budget buffer)) (min most left) (strip q0 most (b .bench) .codes))
     run-report budget buffer =
         let most = min budget buffer in
-        let left = jobTicksLeft q0 (b .remainder) j in
+        let k = b .bench in
         subst₂ (λ (m : Bool) (w : InWork).
-        let k = bookOf (b .at) m (b .remainder) w in
-        runEntry q0 t k budget buffer .reply ≡ Reply.ran (reportOf q0 t (leb left most) (leb budget buffer)) (min most left) (strip q0 t most k .codes))
-        (sym free) (sym work) (working-run (b .at) (b .remainder) j job-sound job-below budget buffer)
+        let now = benchOf (k .at) m (k .remainder) w in
+        runEntry q0 t (record { bench = now; waiting = b .waiting }) budget buffer .reply
+        ≡ Reply.ran (reportOf (leb left most) (leb budget buffer)) (min most left) (strip q0 most now .codes))
+        (sym free) (sym work) (working-run (k .at) (k .remainder) j job-sound job-below budget buffer (b .waiting))
 
     -- up to the end of the block n ticks in a run are n ticks called one by one
-    pub so-many-ticks : (n : ℕ) → n ≤ jobTicksLeft q0 (b .remainder) j
-        → (replies q0 t b (replicate n Call.tick) ≡ map Reply.byte (strip q0 t n b .codes)) × (closing q0 t b (replicate n Call.tick) ≡ strip q0 t n b .last)
+    pub so-many-ticks : (n : ℕ) → n ≤ left
+        → (let s = strip q0 n (b .bench) in
+        (replies q0 t b (replicate n Call.tick) ≡ map Reply.byte (s .codes))
+        × (closing q0 t b (replicate n Call.tick) ≡ settled (s .last) (b .waiting)))
     so-many-ticks n most =
-        let all : length (strip q0 t n b .codes) ≡ n = omega (arith, strip-counted n .ticks) in
-        let o = strip-ticks n b in
-        (ap (λ (m : ℕ). replies q0 t b (replicate m Call.tick)) (sym all) ∙ o .answers, ap (λ (m : ℕ). closing q0 t b (replicate m Call.tick)) (sym all) ∙ o .leaves)
+        let all : length (strip q0 n (b .bench) .codes) ≡ n = omega (arith, strip-counted n .ticks) in
+        let o = strip-ticks n (b .bench) (b .waiting) (ap isNothing work) in
+        let ticks = ap (λ (m : ℕ). replicate m Call.tick) (sym all) in
+        (ap (replies q0 t b) ticks ∙ o .answers, ap (closing q0 t b) ticks ∙ o .leaves)
 
   -- the ticks left are those that the block's account still lacks
   pub account-left : {at : Point} {r : ℕ} {j : Job} {a : Account} → JobSound q0 t at j → r < jobDue q0 j → Open q0 r j a

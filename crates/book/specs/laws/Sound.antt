@@ -1,24 +1,28 @@
 -- What holds of every book of a history: the remainder does not pay for the next cycle, the point is in travel, and so is the way of the
--- block in work.
-use mathlib.Core.Path.{_≡_}
+-- block in work; and those that wait would be accepted in turn.
+use mathlib.Core.Path.{_≡_, refl, subst}
 use mathlib.Core.Bool.{Bool, true, false≢true}
+use mathlib.Core.List.{[]}
 use Prim.Native.Nat.{ℕ, _+_, _*_, _≤_, _<_}
 use native.Mathlib.Nat.{mul-le-mul-right}
 use native.Mathlib.Omega.{arith}
+use lib.ListN.{length}
 use Rattle.plane.specs.declared.point.Point.{Point}
 use Rattle.plane.specs.declared.travel.Travel.{Travel}
 use Rattle.plane.specs.laws.Travel.{Inside}
 use Rattle.circle.specs.Charge.{straight, diagonal}
 use Rattle.block.specs.Block.{blockCycles, blockPoint}
 use Rattle.block.specs.Charge.{blockCharge, chargesTo, blockCharges}
+use Rattle.block.specs.Chain.{chainAccepted}
 use Rattle.block.specs.laws.Charge.{block-charge-range, charges-next}
-use Rattle.book.specs.Book.{Job, InWork, Book, freshBook, isNothing, jobDue}
+use Rattle.book.specs.Bench.{Job, InWork, Bench, freshBench, isNothing, endIn, workEnd, jobDue}
+use Rattle.book.specs.Book.{Book, freshBook}
 use Rattle.book.specs.laws.Settings.{SettingsRight}
 use Rattle.book.specs.laws.Way.{PathRight, Way, block-way}
 
--- a book by its parts, so that a law can be proved for each mark and each work
-abbrev pub bookOf : Point → Bool → ℕ → InWork → Book
-bookOf at mark r w = record { at = at; mark = mark; remainder = r; work = w }
+-- a bench by its parts, so that a law can be proved for each mark and each work
+abbrev pub benchOf : Point → Bool → ℕ → InWork → Bench
+benchOf at mark r w = record { at = at; mark = mark; remainder = r; work = w }
 
 -- the block in work: its feed is in 1..q0, cycles are left to do, and the point is the one after those done
 pub record JobSound (q0 : ℕ) (t : Travel) (at : Point) (j : Job) : Type 0 where
@@ -68,13 +72,13 @@ charge-within {j = j} s = charges-next (j .start) (j .block) (j .done) (blockCyc
 pub due-within : {q0 : ℕ} {t : Travel} {at : Point} {j : Job} → JobSound q0 t at j → jobPaid j * q0 + jobDue q0 j ≤ jobCharges j * q0
 due-within {q0} s = omega (arith, mul-le-mul-right q0 (charge-within s))
 
-pub record Sound (q0 : ℕ) (t : Travel) (b : Book) : Type 0 where
+pub record BenchSound (q0 : ℕ) (t : Travel) (b : Bench) : Type 0 where
   pub below : Below q0 (b .work) (b .remainder)
   pub inside : Inside t (b .at)
   pub work : WorkSound q0 t (b .at) (b .work)
 
-pub fresh-sound : {q0 : ℕ} {t : Travel} → SettingsRight q0 t → Sound q0 t freshBook
-fresh-sound s = record { below = omega (arith, s .some); inside = s .origin; work = tt }
+pub fresh-bench : {q0 : ℕ} {t : Travel} → SettingsRight q0 t → BenchSound q0 t freshBench
+fresh-bench s = record { below = omega (arith, s .some); inside = s .origin; work = tt }
 
 pub job-way : {q0 : ℕ} {t : Travel} {at : Point} {j : Job} → JobSound q0 t at j
     → Way t (j .start) (j .block .end) (blockCycles (j .start) (j .block)) (blockPoint (j .start) (j .block))
@@ -82,3 +86,25 @@ job-way {j = j} s = block-way (j .block) (s .start) (s .path)
 
 pub job-inside : {q0 : ℕ} {t : Travel} {at : Point} {j : Job} → JobSound q0 t at j → Inside t at
 job-inside {j = j} s = rw (s .point) (job-way s .inside (j .done) (omega (arith, s .more)))
+
+-- where the block in work ends, and so where the first that waits starts, is in travel
+pub end-inside : {q0 : ℕ} {t : Travel} {b : Bench} → BenchSound q0 t b → Inside t (workEnd b)
+end-inside {q0} {t} {b} s = by (b .work) (s .work)
+  where
+    by : (w : InWork) → WorkSound q0 t (b .at) w → Inside t (endIn (b .at) w)
+    by InWork.nothing work = s .inside
+    by (InWork.working j) work =
+        let way = job-way work in subst (Inside t) (way .ends) (way .inside (blockCycles (j .start) (j .block)) (omega arith))
+
+-- ---- with the blocks that wait
+
+-- 02 §3: "only waiting blocks that would be accepted in turn, and none waiting when nothing is in work"
+pub record Sound (q0 : ℕ) (t : Travel) (b : Book) : Type 0 where
+  pub bench : BenchSound q0 t (b .bench)
+  pub few : length (b .waiting) ≤ 16
+  pub accepted : chainAccepted q0 t (workEnd (b .bench)) (b .waiting) ≡ true
+  pub none : isNothing (b .bench .work) ≡ true → b .waiting ≡ []
+
+pub fresh-sound : {q0 : ℕ} {t : Travel} → SettingsRight q0 t → Sound q0 t freshBook
+unfolding chainAccepted
+fresh-sound s = record { bench = fresh-bench s; few = omega arith; accepted = refl; none = λ i. refl }

@@ -19,11 +19,11 @@ use Rattle.block.specs.declared.Block.{Block}
 use Rattle.block.specs.Block.{blockCycles, blockPoint}
 use Rattle.block.specs.Charge.{chargeBy, chargesTo, blockCharges}
 use Rattle.block.specs.laws.Charge.{charge-is, charges-suc}
-use Rattle.book.specs.Book.{Job, InWork, Book, Ticked, Strip, isNothing, addedBy, jobDue}
-use Rattle.book.specs.Book.{cycleTick, fedTick, bookTick, inFront, strip}
+use Rattle.book.specs.Bench.{Job, InWork, Bench, Ticked, Strip, isNothing, addedBy, jobDue}
+use Rattle.book.specs.Bench.{cycleTick, fedTick, benchTick, inFront, strip}
 use Rattle.book.specs.Sums.{pulsesIn, chargeMarked, chargesMarked}
 use Rattle.book.specs.laws.Byte.{sent-one, onward, Silent, zero-silent, none-silent}
-use Rattle.book.specs.laws.Sound.{bookOf, JobSound, WorkSound, Sound, jobCharge, jobPaid, jobCharges, Below, below-due}
+use Rattle.book.specs.laws.Sound.{benchOf, JobSound, WorkSound, BenchSound, jobCharge, jobPaid, jobCharges, Below, below-due}
 use Rattle.book.specs.laws.Sound.{job-way, job-inside}
 
 -- the block goes on, or its last cycle was done: then the remainder is less than a tick adds, for the tick before had not reached the due
@@ -45,12 +45,12 @@ Left j charges at r (InWork.working next) = Going j charges next
 abbrev pub stretchCharges : Job → (bytes : List ℕ) → ℕ
 stretchCharges j bytes = chargesMarked (j .block .path) bytes
 
-pub record Stretch (q0 : ℕ) (t : Travel) (at : Point) (r : ℕ) (j : Job) (bytes : List ℕ) (after : Book) : Type 0 where
+pub record Stretch (q0 : ℕ) (t : Travel) (at : Point) (r : ℕ) (j : Job) (bytes : List ℕ) (after : Bench) : Type 0 where
   pub x : after .at .x ≡ at .x +ℤ pulsesIn codeX bytes
   pub y : after .at .y ≡ at .y +ℤ pulsesIn codeY bytes
   pub feeds : stretchCharges j bytes * q0 + after .remainder ≡ r + length bytes * addedBy (j .block)
   pub free : after .mark ≡ false
-  pub sound : Sound q0 t after
+  pub sound : BenchSound q0 t after
   pub left : Left j (stretchCharges j bytes) (after .at) (after .remainder) (after .work)
 
 module _ (q0 : ℕ) (t : Travel) where
@@ -62,7 +62,7 @@ module _ (q0 : ℕ) (t : Travel) where
   -- without a cycle only the remainder grows
   standing : {bytes : List ℕ} → Silent bytes → (at : Point) (r : ℕ) (j : Job) → JobSound q0 t at j
       → (r′ : ℕ) → r′ ≡ r + length bytes * addedBy (j .block) → r′ < jobDue q0 j
-      → Stretch q0 t at r j bytes (bookOf at false r′ (InWork.working j))
+      → Stretch q0 t at r j bytes (benchOf at false r′ (InWork.working j))
   standing silent at r j s r′ adds below =
       let none = silent .charges (j .block .path) in
       record {
@@ -76,7 +76,7 @@ module _ (q0 : ℕ) (t : Travel) where
 
   one-cycle : (at : Point) (r : ℕ) (j : Job) → JobSound q0 t at j → r < jobDue q0 j
       → (r′ : ℕ) → jobDue q0 j + r′ ≡ r + addedBy (j .block)
-      → TickStretch at r j (cycleTick q0 t (bookOf at false r (InWork.working j)) j r′)
+      → TickStretch at r j (cycleTick (benchOf at false r (InWork.working j)) j r′)
   unfolding cycleTick
   one-cycle at r j s low r′ adds = by (eqb (j .done + 1) (blockCycles (j .start) (j .block))) refl
     where
@@ -106,7 +106,7 @@ module _ (q0 : ℕ) (t : Travel) where
       -- whatever is in work after it
       with-work : (byte : ℕ) (last : Bool) → byte ≡ cycleByte (pulsesBetween at next) last → (w : InWork) → Below q0 w r′
           → WorkSound q0 t next w → Left j (stretchCharges j (byte ∷ [])) next r′ w
-          → Stretch q0 t at r j (byte ∷ []) (bookOf next false r′ w)
+          → Stretch q0 t at r j (byte ∷ []) (benchOf next false r′ w)
       with-work byte last is w below sound left =
           let k = told at next last in
           record {
@@ -123,7 +123,8 @@ module _ (q0 : ℕ) (t : Travel) where
 
       by : (last : Bool) → eqb (j .done + 1) (blockCycles (j .start) (j .block)) ≡ last
           → Stretch q0 t at r j (cycleByte (pulsesBetween at next) last ∷ [])
-          (bookOf next false r′ (cond last InWork.nothing (InWork.working (record { block = j .block; start = j .start; done = j .done + 1 }))))
+          (benchOf next false r′
+          (cond last InWork.nothing (InWork.working (record { block = j .block; start = j .start; done = j .done + 1 }))))
       by true e =
           let last = eqb-true (j .done + 1) (blockCycles (j .start) (j .block)) e in
           with-work _ true refl InWork.nothing (omega (arith, small, s .short)) tt (record {
@@ -139,19 +140,20 @@ module _ (q0 : ℕ) (t : Travel) where
           (record { block = refl; start = refl; paid = sym (paid _ false refl) })
 
   pub one-tick : (at : Point) (r : ℕ) (j : Job) → JobSound q0 t at j → r < jobDue q0 j
-      → TickStretch at r j (bookTick q0 t (bookOf at false r (InWork.working j)))
-  unfolding bookTick
+      → TickStretch at r j (benchTick q0 (benchOf at false r (InWork.working j)))
+  unfolding benchTick
   one-tick at r j s low = by (tick (jobDue q0 j) (addedBy (j .block)) r)
     where
       by : {f : Fed} → Tick (jobDue q0 j) (addedBy (j .block)) r f
-          → TickStretch at r j (fedTick q0 t (bookOf at false r (InWork.working j)) j f)
+          → TickStretch at r j (fedTick (benchOf at false r (InWork.working j)) j f)
       by (does-one {rest} e) = one-cycle at r j s low rest e
       by (does-none {rest} l e) = standing zero-silent at r j s rest (omega arith) l
 
   -- ---- one tick, and a stretch after it
 
   module _ (at : Point) (r : ℕ) (j : Job) (byte : ℕ) (mid : Point) (r′ : ℕ) (next : Job) (bytes : List ℕ) where
-    joined-axis : (code : ℕ → ℕ) (u v w : ℤ) → v ≡ u +ℤ pulsesIn code (byte ∷ []) → w ≡ v +ℤ pulsesIn code bytes → w ≡ u +ℤ pulsesIn code (byte ∷ bytes)
+    joined-axis : (code : ℕ → ℕ) (u v w : ℤ) → v ≡ u +ℤ pulsesIn code (byte ∷ []) → w ≡ v +ℤ pulsesIn code bytes
+        → w ≡ u +ℤ pulsesIn code (byte ∷ bytes)
     joined-axis code u v w e f =
         onward u (pulseOf (code byte)) (pulsesIn code bytes) (e ∙ ap (λ (z : ℤ). u +ℤ z) (+ℤ-idr (pulseOf (code byte)))) f
 
@@ -172,8 +174,8 @@ module _ (q0 : ℕ) (t : Travel) where
         by (InWork.working k) h =
             record { block = h .block ∙ g .block; start = h .start ∙ g .start; paid = omega (arith, g .paid, h .paid, same) }
 
-    joined : {after : Book} → Stretch q0 t at r j (byte ∷ []) (bookOf mid false r′ (InWork.working next)) → Stretch q0 t mid r′ next bytes after
-        → Stretch q0 t at r j (byte ∷ bytes) after
+    joined : {after : Bench} → Stretch q0 t at r j (byte ∷ []) (benchOf mid false r′ (InWork.working next))
+        → Stretch q0 t mid r′ next bytes after → Stretch q0 t at r j (byte ∷ bytes) after
     joined {after} a b =
         record {
           x = joined-axis codeX (at .x) (mid .x) (after .at .x) (a .x) (b .x);
@@ -203,7 +205,7 @@ module _ (q0 : ℕ) (t : Travel) where
     pub used-up : s .ended ≡ false → length (s .codes) ≡ most
 
   pub strip-stretch : (most : ℕ) (at : Point) (r : ℕ) (j : Job) → JobSound q0 t at j → r < jobDue q0 j
-      → Stripped most at r j (strip q0 t most (bookOf at false r (InWork.working j)))
+      → Stripped most at r j (strip q0 most (benchOf at false r (InWork.working j)))
   unfolding strip
   strip-stretch zero at r j s low =
       record {
@@ -213,13 +215,14 @@ module _ (q0 : ℕ) (t : Travel) where
         used-up = λ e. refl;
       }
   strip-stretch (suc n) at r j s low =
-      let k = bookTick q0 t (bookOf at false r (InWork.working j)) in
+      let k = benchTick q0 (benchOf at false r (InWork.working j)) in
       by (k .code) (k .after .at) (k .after .mark) (k .after .remainder) (k .after .work) (one-tick at r j s low) (strip-stretch n)
     where
-      by : (byte : ℕ) (mid : Point) (mark : Bool) (r′ : ℕ) (w : InWork) → Stretch q0 t at r j (byte ∷ []) (bookOf mid mark r′ w)
+      by : (byte : ℕ) (mid : Point) (mark : Bool) (r′ : ℕ) (w : InWork) → Stretch q0 t at r j (byte ∷ []) (benchOf mid mark r′ w)
           → ((at : Point) (r : ℕ) (j : Job) → JobSound q0 t at j → r < jobDue q0 j
-          → Stripped n at r j (strip q0 t n (bookOf at false r (InWork.working j))))
-          → Stripped (suc n) at r j (inFront q0 t (isNothing w) (record { code = byte; after = bookOf mid mark r′ w }) (strip q0 t n (bookOf mid mark r′ w)))
+          → Stripped n at r j (strip q0 n (benchOf at false r (InWork.working j))))
+          → (let first : Ticked = record { code = byte; after = benchOf mid mark r′ w } in
+          Stripped (suc n) at r j (inFront (isNothing w) first (strip q0 n (benchOf mid mark r′ w))))
       by byte mid true r′ w a rest = absurd (true≢false (a .free))
       by byte mid false r′ InWork.nothing a rest =
           record { stretch = a; ended = refl; within = omega arith; used-up = λ e. absurd (true≢false e) }

@@ -1,4 +1,4 @@
--- `load` is right because it asks the questions of the definition, from the place of the definition.
+-- `load` is right because on words of a sound record it asks and takes as the machine's load, from the place of the definition.
 use borrow.Author.Needs.{needs}
 use borrow.Author.Tests.{not-true, not-false}
 use mathlib.Core.Path.{_≡_, sym, _∙_}
@@ -7,10 +7,9 @@ use denote.Ref.{now}
 use mir.Syntax.{w64}
 use mir.Val.{SFits}
 use mir.Facts.{toZ-ofZ}
-use Rattle.layout.specs.laws.Number.{refusal-fits, through}
 use Rattle.record.specs.Words.{soundWords}
-use Rattle.calls.specs.laws.Told.{told-refused}
-use Rattle.calls.specs.laws.Load.{sixteen-most, settings-pass, asks, load-refuses, load-takes}
+use Rattle.calls.specs.laws.Told.{told-refused, load-told}
+use Rattle.calls.specs.laws.Load.{sixteen-most}
 use Rattle.calls.proofs.load.Statement.{statement}
 use Rattle.calls.proofs.load.Tie as tie
 
@@ -28,53 +27,27 @@ bench-in-requires : tie.Need-bench-in-requires
 bench-in-requires c κs = search needs
 
 start-in-requires : tie.Need-start-in-requires
-start-in-requires c κs = sixteen-most _ (sound (c .before .before .before .before .before))
+start-in-requires c κs = sixteen-most _ (sound (c .before .before .before))
 
-len-in-requires : tie.Need-len-in-requires
-len-in-requires c κs = search needs
+load-sound-requires : tie.Need-load-sound-requires
+load-sound-requires c κs =
+    let p = c .before in
+    let k = p .before .before in
+    record { sound = sound (k .before .before); bench-is = k .bench-in .ensures; start-is = p .start-in .ensures }
 
-capacity-requires : tie.Need-capacity-requires
-capacity-requires c κs =
-    let k = c .before .before .before .before .before .before in
-    settings-pass _ (sound (k .before .before)) (k .bench-in .ensures)
-
-load-no-requires : tie.Need-load-no-requires
-load-no-requires c κs =
-    let p = c .before .before .before in
-    let k = p .before .before .before .before in
-    asks _ (sound (k .before .before)) (k .bench-in .ensures) (p .start-in .ensures)
-
-refusal-requires : tie.Need-refusal-requires
-refusal-requires c κs = search needs
+answer-number-requires : tie.Need-answer-number-requires
+answer-number-requires c κs = search needs
 
 returns-2 : tie.Need-returns-2
 returns-2 c =
-    let n = c .before .before in
-    let l = n .before .before in
-    let p = l .before .before in
-    let k = p .before .before .before .before in
-    let e = k .before .before in
-    simp (through (refusal-fits _) (c .refusal .ensures))
-    (load-refuses _ (sound e) (k .bench-in .ensures) (p .start-in .ensures) (e .before .before .before .args .b)
-    (n .before .capacity .ensures) (l .len-in .ensures) (n .load-no .ensures) (c .before .if2 .taken))
-
-take-requires : tie.Need-take-requires
-take-requires c κs =
-    let n = c .before .before in
-    let l = n .before .before in
-    let p = l .before .before in
-    let k = p .before .before .before .before in
-    let e = k .before .before in
-    load-takes _ (sound e) (k .bench-in .ensures) (p .start-in .ensures) (e .before .before .before .args .b)
-    (n .before .capacity .ensures) (l .len-in .ensures) (n .load-no .ensures) (c .before .if2 .left)
-
-returns-3 : tie.Need-returns-3
-returns-3 c =
-    let r : SFits w64 (c .take .result) = search needs in
-    simp toZ-ofZ (c .take .ensures)
+    let n : SFits w64 (c .answer-number .result) = search needs in
+    let a = c .before in
+    let e = a .before .before .before .before .before .before in
+    simp toZ-ofZ
+    (simp (c .answer-number .ensures)
+    (load-told _ (sound e) (e .before .before .before .args .b) (a .load-sound .ensures .0) (a .load-sound .ensures .1)))
 
 pub load-spec : {M : Type 1} → statement M
 load-spec =
     tie.close
-    (tie.spec is-sound-requires returns bench-in-requires start-in-requires len-in-requires capacity-requires load-no-requires
-    refusal-requires returns-2 take-requires returns-3)
+    (tie.spec is-sound-requires returns bench-in-requires start-in-requires load-sound-requires answer-number-requires returns-2)

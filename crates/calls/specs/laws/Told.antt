@@ -8,18 +8,20 @@ use lib.IntN.{ℤ, pos, negsuc}
 use lib.ListN.{length}
 use Rattle.run.specs.Run.{written}
 use Rattle.work.specs.Work.{cyclesLeft}
+use Rattle.block.specs.declared.Block.{Block}
 use Rattle.bench.specs.declared.Bench.{Bench}
+use Rattle.bench.specs.declared.Answer.{Answer}
 use Rattle.bench.specs.declared.Ticked.{Ticked}
 use Rattle.bench.specs.declared.Ran.{Ran}
 use Rattle.bench.specs.Bench.{soundOf}
 use Rattle.bench.specs.Calls.{tickOf as benchTick}
 use Rattle.bench.specs.Run.{runOf as benchRun}
 use Rattle.machine.specs.declared.Machine.{Machine}
-use Rattle.machine.specs.Calls.{markOf, nextOf, tickOf, holdOf, releaseOf, stopOf}
+use Rattle.machine.specs.Calls.{markOf, nextOf, loadOf, tickOf, holdOf, releaseOf, stopOf}
 use Rattle.machine.specs.Run.{runOf}
 use Rattle.machine.specs.Asked.{cyclesTold, Left}
 use Rattle.machine.specs.laws.Right.{Sound, sound, work-most}
-use Rattle.machine.specs.laws.Onward.{tick-onward, tick-left, run-onward, work-countable, work-left-most}
+use Rattle.machine.specs.laws.Onward.{Onward, tick-onward, tick-left, run-onward, work-countable, work-left-most}
 use Rattle.machine.specs.laws.Next.{left-less}
 use Rattle.machine.specs.laws.Load.{left-bound}
 use Rattle.layout.specs.Words.{at, countOf}
@@ -28,7 +30,8 @@ use Rattle.record.specs.Words.{encodeOf, over, benchIn, machineIn, soundWords}
 use Rattle.record.specs.Write.{Later}
 use Rattle.record.specs.laws.Write.{told-sound}
 use Rattle.record.specs.laws.Later.{tick-later, run-later}
-use Rattle.calls.specs.Calls.{tickNumber, reportNumber, Call, tells, callOf, refused, toldOf, tellsRun, ran, toldRunOf}
+use Rattle.calls.specs.Calls.{answerNumber, tickNumber, reportNumber, Call, tells, callOf, refused, toldOf, tellsRun, ran}
+use Rattle.calls.specs.Calls.{toldRunOf}
 
 pub told-refused : (ws : List ℤ) → soundWords ws ≡ false → (call : Call) → refused ws ≡ toldOf ws call
 unfolding toldOf
@@ -55,6 +58,11 @@ module _ (ws : List ℤ) (t : soundWords ws ≡ true) where
   pub stop-told : tells (pos 0) (over (encodeOf (idleOf (machineIn ws))) ws) ≡ toldOf ws Call.stop
   unfolding callOf stopOf machineIn
   stop-told = rw (told-sound ws t) at (told-call Call.stop)
+
+  pub load-told : (b : Block) {answer : Answer} {after : List ℤ} → answer ≡ loadOf (machineIn ws) b .answer
+      → after ≡ over (encodeOf (loadOf (machineIn ws) b .machine)) ws → tells (answerNumber answer) after ≡ toldOf ws (Call.load b)
+  unfolding callOf
+  load-told b is stored = rw (is, stored) (told-call (Call.load b))
 
   -- ---- ticks: what the functions below ask, and what is told
 
@@ -86,21 +94,26 @@ module _ (ws : List ℤ) (t : soundWords ws ≡ true) where
 
   -- ---- runs
 
+  -- what is left of the block in work once ticks led on from the bench
+  pub onward-left : {k k′ : Bench} → k ≡ benchIn ws → Onward (benchIn ws) k′ → {left root : ℕ} → left ≡ countOf (at ws 20)
+      → root ≡ countOf (at ws 19) → Left left k k′ root
+  unfolding machineIn
+  onward-left {k} {k′} k-is o left-is root-is =
+      rw (k-is, left-is, root-is)
+      (record {
+        before = work-countable (m .bench) (parts .bench);
+        after = work-countable k′ (o .sound);
+        root-before = parts .right .root-is;
+        root-after = λ more. parts .right .root-is ∙ sym (o .root more);
+        most = work-most (parts .right);
+        fits = omega (arith, left-bound m parts, work-left-most k′ (o .sound));
+      })
+
   module _ {k : Bench} (k-is : k ≡ benchIn ws) (budget buffer : ℕ) {r : Ran} (is : r ≡ benchRun (benchIn ws) budget buffer .ran) {left : ℕ}
       (left-is : left ≡ countOf (at ws 20)) where
     pub run-left : {root : ℕ} → root ≡ countOf (at ws 19) → Left left k (r .bench) root
     unfolding machineIn
-    run-left root-is =
-        let o = run-onward (m .bench) (parts .bench) budget buffer is in
-        rw (k-is, left-is, root-is)
-        (record {
-          before = work-countable (m .bench) (parts .bench);
-          after = work-countable (r .bench) (o .sound);
-          root-before = parts .right .root-is;
-          root-after = λ more. parts .right .root-is ∙ sym (o .root more);
-          most = work-most (parts .right);
-          fits = omega (arith, left-bound m parts, work-left-most (r .bench) (o .sound));
-        })
+    run-left root-is = onward-left k-is (run-onward (m .bench) (parts .bench) budget buffer is) left-is root-is
 
     pub run-stores : {then : ℕ} → then ≡ left - cyclesLeft (k .at) (k .work) + cyclesLeft (r .bench .at) (r .bench .work)
         → Later ws (r .bench) then

@@ -1,5 +1,5 @@
 -- `every_list` is right because each call's contract is an equation, which its definition meets.
-use Rattle.history.specs.laws.Exists.{every-list}
+use Rattle.history.specs.laws.Claim.{every-list}
 use Rattle.demands.proofs.every_list.Statement.{statement}
 use Rattle.demands.proofs.every_list.Tie as tie
 

@@ -3,12 +3,12 @@ use mathlib.Core.Path.{refl, sym, _∙_}
 use lib.ListN.{length}
 use denote.Ref.{now, at-last}
 use Rattle.run.specs.Run.{written}
-use Rattle.bench.specs.Calls.{makeOf, loadOf, tickOf, holdOf, releaseOf, stopOf}
-use Rattle.bench.specs.Run.{runOf}
-use Rattle.ahead.specs.Ahead.{aheadOf}
+use Rattle.machine.specs.Calls.{makeOf, loadOf, tickOf, holdOf, releaseOf, stopOf}
+use Rattle.machine.specs.Run.{runOf}
+use Rattle.look.specs.Look.{aheadOf}
 use Rattle.words.specs.laws.Scan.{lineOf}
 use Rattle.words.specs.laws.Reading.{line-means}
-use Rattle.reader.specs.TextLine.{readLineOf}
+use Rattle.textline.specs.TextLine.{readLineOf}
 use Rattle.demands.specs.Answers.{Comes, EveryAnswer}
 use Rattle.demands.specs.Records.{EveryRecord}
 use Rattle.demands.specs.laws.Sound.{sound-is}

@@ -1,8 +1,8 @@
 -- A run of any sound record does every tick that it may, and its bytes are its ticks' one by one.
 use mathlib.Core.Path.{_≡_, refl, sym, ap, subst, _∙_}
-use mathlib.Core.Bool.{Bool, true, false}
+use mathlib.Core.Bool.{Bool, true, false, cond}
 use mathlib.Core.Logic.{_≢_, _↔_}
-use mathlib.Core.List.{List}
+use mathlib.Core.List.{List, []}
 use Prim.Native.Nat.{ℕ, zero, suc, _*_, _≤_, _<_, min}
 use native.Mathlib.Omega.{arith}
 use lib.Dec.{leb}
@@ -21,25 +21,38 @@ use Rattle.run.specs.Run.{Strip, inFront, stripOf, written, SoundIn}
 use Rattle.run.specs.laws.Strip.{strip-ends, end-tick, strip-early}
 use Rattle.run.specs.laws.Paid.{strip-pays}
 use Rattle.settings.specs.Settings.{capacityOf}
+use Rattle.queue.specs.declared.Queue.{Queue}
+use Rattle.queue.specs.Queue.{waiting}
+use Rattle.queue.specs.laws.Waiting.{none-waits, pop-waiting}
 use Rattle.bench.specs.declared.Bench.{Bench}
-use Rattle.bench.specs.declared.Ticked.{Ticked}
+use Rattle.bench.specs.declared.Tick.{Tick}
 use Rattle.bench.specs.declared.Report.{Report}
-use Rattle.bench.specs.Bench.{soundOf, movedOf}
-use Rattle.bench.specs.Calls.{working, tickOf}
-use Rattle.bench.specs.Run.{reportOf, ranOver, noTick, runOf}
+use Rattle.bench.specs.Bench.{movedOf}
+use Rattle.bench.specs.Calls.{working, tickOf as benchTick}
+use Rattle.bench.specs.Run.{reportOf, ranOver, noTick as benchNoTick, runOf as benchRun}
 use Rattle.bench.specs.laws.Calls.{tick-works}
-use Rattle.keeps.specs.laws.Calls.{tick-keeps}
 use Rattle.finish.specs.Finish.{lastTickOf}
 use Rattle.finish.specs.laws.Record.{AtWork, at-work}
 use Rattle.finish.specs.laws.Strip.{strip-marks}
-use Rattle.book.specs.Book.{Reply, Report as BookReport}
+use Rattle.machine.specs.declared.Machine.{Machine}
+use Rattle.machine.specs.declared.Ticked.{Ticked}
+use Rattle.machine.specs.Machine.{soundOf, machineOf}
+use Rattle.machine.specs.Calls.{nextOf, firstIn, ticks, tickOf}
+use Rattle.machine.specs.Run.{ranOn, noTick, runOf}
+use Rattle.machine.specs.laws.Right.{sound}
+use Rattle.look.specs.laws.Sums.{next-stands}
+use Rattle.machine.specs.laws.Rest.{next-own}
+use Rattle.look.specs.laws.Pass.{next, moved, same, kept, working-on}
+use Rattle.book.specs.Bench.{Report as BookReport}
+use Rattle.book.specs.Book.{Reply}
 use Rattle.book.specs.Sums.{cyclesMarked}
 use Rattle.tape.specs.laws.Pieces.{runs}
 use Rattle.history.specs.Reply.{runReply}
 use Rattle.history.specs.laws.Run.{first-bytes}
+use Rattle.demands.specs.Taken.{ComesIn}
 use Rattle.demands.specs.Runs.{TicksTo, cyclesIn, Running, EveryRun}
+use Rattle.demands.specs.laws.Block.{nothing-is}
 use Rattle.demands.specs.laws.Sound.{sound-is}
-use Rattle.demands.specs.laws.Answers.{nothing-is}
 
 -- ---- how many ticks, and whether the last ended the block
 
@@ -63,36 +76,65 @@ strip-counts {q0} n t {at} {r} {w} i e = by (leb t n) refl
 
 -- ---- one by one
 
-pub tick-at-work : (m : Bench) → AtWork m → working m (advanceOf (capacityOf (m .settings)) (m .at) (m .remainder) (m .work)) ≡ tickOf m
-tick-at-work m a = tick-works m (a .sound) (a .free) (a .busy) refl
+pub bench-tick : (k : Bench) → AtWork k → working k (advanceOf (capacityOf (k .settings)) (k .at) (k .remainder) (k .work)) ≡ benchTick k
+bench-tick k a = tick-works k (a .sound) (a .free) (a .busy) refl
 
-pub strip-ticks : (n : ℕ) (m : Bench) → AtWork m
-    → (let s = stripOf (capacityOf (m .settings)) n (m .at) (m .remainder) (m .work) in TicksTo m (s .bytes)
-    (movedOf m (s .at) (s .remainder) (s .work)))
-unfolding stripOf movedOf
-strip-ticks zero m a = TicksTo.none
-strip-ticks (suc n) m a =
-    by (isNothing (next .work)) refl
-    (λ busy. strip-ticks n (movedOf m (next .at) (next .remainder) (next .work))
-    (record {
-      sound = subst (λ (t : Ticked). soundOf (t .bench) ≡ true) (sym (tick-at-work m a)) (tick-keeps m (a .sound));
-      free =
-          a .free;
-      busy = busy;
-    }))
+module _ (m : Machine) (e : soundOf m ≡ true) (a : AtWork (m .bench)) where
+  tick-is : ticks (Tick.Byte (next m e a .byte)) (nextOf (moved m e a) (m .queue)) ≡ tickOf m
+  unfolding tickOf
+  tick-is = rw (e, sym (bench-tick (m .bench) a)) refl
+
+pub strip-ticks : (n : ℕ) (m : Machine) → soundOf m ≡ true → AtWork (m .bench)
+    → (let k = m .bench in
+    let s = stripOf (capacityOf (k .settings)) n (k .at) (k .remainder) (k .work) in
+    TicksTo m (s .bytes) (nextOf (movedOf k (s .at) (s .remainder) (s .work)) (m .queue)))
+unfolding stripOf movedOf machineOf
+strip-ticks zero m e a = subst (TicksTo m []) (sym (next-own m (sound m e))) TicksTo.none
+strip-ticks (suc n) m e a =
+    by (isNothing (next m e a .work)) refl
+    (λ busy. strip-ticks n (machineOf (moved m e a) (m .queue)) (kept m e a busy) (working-on m e a busy))
   where
-    next : Advance
-    next = advanceOf (capacityOf (m .settings)) (m .at) (m .remainder) (m .work)
+    k : Bench
+    k = m .bench
+
+    first : Advance
+    first = next m e a
 
     rest : Strip
-    rest = stripOf (capacityOf (m .settings)) n (next .at) (next .remainder) (next .work)
+    rest = stripOf (capacityOf (k .settings)) n (first .at) (first .remainder) (first .work)
 
-    by : (ended : Bool) → isNothing (next .work) ≡ ended
-        → (isNothing (next .work) ≡ false
-        → TicksTo (movedOf m (next .at) (next .remainder) (next .work)) (rest .bytes) (movedOf m (rest .at) (rest .remainder) (rest .work)))
-        → (let s = inFront ended next rest in TicksTo m (s .bytes) (movedOf m (s .at) (s .remainder) (s .work)))
-    by true e later = TicksTo.one (working m next) (next .byte) (tick-at-work m a) refl TicksTo.none
-    by false e later = TicksTo.one (working m next) (next .byte) (tick-at-work m a) refl (later e)
+    one : Ticked
+    one = ticks (Tick.Byte (first .byte)) (nextOf (moved m e a) (m .queue))
+
+    After : Strip → Machine
+    After s = nextOf (movedOf k (s .at) (s .remainder) (s .work)) (m .queue)
+
+    by : (ended : Bool) → isNothing (first .work) ≡ ended
+        → (isNothing (first .work) ≡ false → TicksTo (machineOf (moved m e a) (m .queue)) (rest .bytes) (After rest))
+        → (let s = inFront ended first rest in TicksTo m (s .bytes) (After s))
+    by true none later = TicksTo.one one (first .byte) (tick-is m e a) refl TicksTo.none
+    by false more later =
+        TicksTo.one one (first .byte) (tick-is m e a) refl
+        (subst (λ (m′ : Machine). TicksTo m′ (rest .bytes) (After rest)) (sym (same m e a more)) (later more))
+
+-- ---- a block has ended
+
+pub comes-in : (k : Bench) (q : Queue) → q .len ≤ length (q .blocks) → k .work ≡ Work.Nothing → ComesIn (k .at) (waiting q) (nextOf k q)
+unfolding nextOf machineOf movedOf
+comes-in k q most none = let idle : isNothing (k .work) ≡ true = ap isNothing none in rw idle (by (q .len) refl)
+  where
+    by : (n : ℕ) → q .len ≡ n → ComesIn (k .at) (waiting q) (firstIn k q n)
+    by zero e = let empty = none-waits q e in rw empty (none, empty)
+    by (suc n) e = rw (pop-waiting q (omega arith) most) (refl, refl)
+
+pub remainder-then : (k : Bench) (q : Queue) → nextOf k q .bench .remainder ≡ k .remainder
+unfolding nextOf machineOf movedOf
+remainder-then k q = by (isNothing (k .work)) (q .len)
+  where
+    by : (idle : Bool) (n : ℕ) → cond idle (firstIn k q n) (machineOf k q) .bench .remainder ≡ k .remainder
+    by true zero = refl
+    by true (suc n) = refl
+    by false n = refl
 
 -- ---- what it reports
 
@@ -146,8 +188,8 @@ reported t n budget bytes = by (leb t n) refl (leb budget n) refl
 
 -- ---- the call
 
-busy-is : (m : Bench) → m .work ≢ Work.Nothing → isNothing (m .work) ≡ false
-busy-is m some = refuted (isNothing (m .work)) (λ e. some (nothing-is (m .work) .0 e))
+pub busy-is : (k : Bench) → k .work ≢ Work.Nothing → isNothing (k .work) ≡ false
+busy-is k some = refuted (isNothing (k .work)) (λ e. some (nothing-is (k .work) .0 e))
 
 written-later : (bytes old : List ℕ) → drop (length bytes) (written bytes old) ≡ drop (length bytes) old
 unfolding written
@@ -157,57 +199,84 @@ written-long : (bytes old : List ℕ) → length bytes ≤ length old → length
 unfolding written
 written-long bytes old h = simp (length-append, length-drop) (omega arith)
 
-module _ (m : Bench) (budget : ℕ) (old : List ℕ) (a : AtWork m) where
+module _ (m : Machine) (budget : ℕ) (old : List ℕ) (e : soundOf m ≡ true) (a : AtWork (m .bench)) where
+  abbrev bench : Bench
+  bench = m .bench
+
   abbrev strip : Strip
-  strip = stripOf (capacityOf (m .settings)) (min budget (length old)) (m .at) (m .remainder) (m .work)
+  strip = stripOf (capacityOf (bench .settings)) (min budget (length old)) (bench .at) (bench .remainder) (bench .work)
 
-  counted : Counted (min budget (length old)) (lastTickOf m) strip
-  counted = strip-counts (min budget (length old)) (lastTickOf m) (at-work a) (end-tick (at-work a))
+  counted : Counted (min budget (length old)) (lastTickOf bench) strip
+  counted = strip-counts (min budget (length old)) (lastTickOf bench) (at-work a) (end-tick (at-work a))
 
-  run-over : strip .ended ≡ true → (strip .work ≡ Work.Nothing) × (strip .at ≡ endOf (m .at) (m .work))
-  run-over e =
-      let most = leb-true (lastTickOf m) (min (min budget (length old)) (lastTickOf m)) (sym (counted .ended) ∙ e) in
-      let s = strip-ends (min budget (length old)) (lastTickOf m) (at-work a) (end-tick (at-work a)) (omega arith) in
-      (s .idle, s .reached)
+  abbrev after : Machine
+  after = nextOf (movedOf bench (strip .at) (strip .remainder) (strip .work)) (m .queue)
+
+  run-over : strip .ended ≡ true
+      → (let end = endOf (bench .at) (bench .work) in (after .bench .at ≡ end) × ComesIn end (waiting (m .queue)) after)
+  unfolding movedOf
+  run-over last =
+      let most = leb-true (lastTickOf bench) (min (min budget (length old)) (lastTickOf bench)) (sym (counted .ended) ∙ last) in
+      let s = strip-ends (min budget (length old)) (lastTickOf bench) (at-work a) (end-tick (at-work a)) (omega arith) in
+      let queue = sound m e .right .queue in
+      let k = movedOf bench (strip .at) (strip .remainder) (strip .work) in
+      let in-work = comes-in k (m .queue) (omega (arith, queue .most, queue .sixteen)) (s .idle) in
+      (next-stands k (m .queue) ∙ s .reached, subst (λ (p : Point). ComesIn p (waiting (m .queue)) after) (s .reached) in-work)
 
   -- the bytes mark the cycles that so many ticks pay
-  paid : cyclesMarked (strip .bytes) ≡ cyclesIn m (length (strip .bytes))
+  paid : cyclesMarked (strip .bytes) ≡ cyclesIn bench (length (strip .bytes))
   paid =
       let n = min budget (length old) in
       omega (arith, strip-marks n (at-work a) .up, strip-pays (at-work a) n)
 
-  running : Running m budget old (written (strip .bytes) old) (ranOver m budget strip .ran)
-  unfolding movedOf endTick lastTick
+  running : Running m budget old (written (strip .bytes) old) (ranOn m (ranOver bench budget strip) .ran)
+  unfolding endTick lastTick
   running =
       let n = length (strip .bytes) in
       let count = counted .ticks in
-      let is : strip .ended ≡ leb (lastTickOf m) n = counted .ended ∙ ap (leb (lastTickOf m)) (sym count) in
+      let is : strip .ended ≡ leb (lastTickOf bench) n = counted .ended ∙ ap (leb (lastTickOf bench)) (sym count) in
       let new = take n (written (strip .bytes) old) in
-      let r : Reported (lastTickOf m) n budget new (runReply (reportOf (strip .ended) (leb budget n)) n new) = rw is
-      (reported (lastTickOf m) n budget new) in
+      let r : Reported (lastTickOf bench) n budget new (runReply (reportOf (strip .ended) (leb budget n)) n new) = rw is
+      (reported (lastTickOf bench) n budget new) in
       record {
         ticks = omega arith;
-        bytes = rw (first-bytes (strip .bytes) old) (strip-ticks (min budget (length old)) m a);
+        bytes = rw (first-bytes (strip .bytes) old) (strip-ticks (min budget (length old)) m e a);
         cycles = rw (first-bytes (strip .bytes) old) paid;
         later = written-later (strip .bytes) old;
         long = written-long (strip .bytes) old (omega arith);
         ended = r .ended;
         spent = r .spent;
         full = r .full;
-        over = λ e. run-over (is ∙ le-leb (lastTickOf m) n e);
+        over = λ e. run-over (is ∙ le-leb (lastTickOf bench) n e);
       }
 
+-- a run without a tick leaves the record
+rests : (m : Machine) → soundOf m ≡ true → (budget : ℕ) (old : List ℕ) (report : Report)
+    → benchRun (m .bench) budget (length old) ≡ benchNoTick (m .bench) report → runOf m budget (length old) ≡ noTick m report
+unfolding runOf
+rests m e budget old report is = rw (e, is, next-own m (sound m e)) refl
+
+-- and one of a machine at work is its bench's, then what comes into work
+runs-on : (m : Machine) → soundOf m ≡ true → (a : AtWork (m .bench)) (budget buffer : ℕ)
+    → (let k = m .bench in
+    runOf m budget buffer
+    ≡ ranOn m (ranOver k budget (stripOf (capacityOf (k .settings)) (min budget buffer) (k .at) (k .remainder) (k .work))))
+unfolding runOf
+runs-on m e a budget buffer = rw (e, runs (m .bench) a budget buffer) refl
+
 pub every-run : EveryRun
-unfolding runOf written
+unfolding benchRun written
 every-run κs m budget out out′ r h s =
+    let e = sound-is m .1 s in
+    let k = sound m e .bench in
     record {
       idle = λ none.
-          let e : runOf m budget (length (now out)) ≡ noTick m Report.Idle = rw (sound-is m .1 s, nothing-is (m .work) .1 none) in
-          rw (h .1, h .0, e) (record { reply = refl; bench = refl; buffer = refl });
+          let t = rests m e budget (now out) Report.Idle (rw (k, nothing-is (m .bench .work) .1 none)) in
+          rw (h .1, h .0, t) (record { reply = refl; machine = refl; buffer = refl });
       held = λ some mark.
-          let e : runOf m budget (length (now out)) ≡ noTick m Report.Held = rw (sound-is m .1 s, busy-is m some, mark) in
-          rw (h .1, h .0, e) (record { reply = refl; bench = refl; buffer = refl });
+          let t = rests m e budget (now out) Report.Held (rw (k, busy-is (m .bench) some, mark)) in
+          rw (h .1, h .0, t) (record { reply = refl; machine = refl; buffer = refl });
       works = λ some free.
-          let a : AtWork m = record { sound = sound-is m .1 s; free = free; busy = busy-is m some } in
-          rw (h .1, h .0, runs m a budget (length (now out))) (running m budget (now out) a);
+          let a : AtWork (m .bench) = record { sound = k; free = free; busy = busy-is (m .bench) some } in
+          rw (h .1, h .0, runs-on m e a budget (length (now out))) (running m budget (now out) e a);
     }

@@ -6,7 +6,7 @@ use mathlib.Core.List.{List}
 use Prim.Native.Nat.{ℕ, zero, suc}
 use native.Mathlib.Omega.{arith}
 use borrow.Author.Tests.{leb-true, le-leb, eqb-true, eq-eqb}
-use lib.Dec.{leb}
+use lib.Dec.{leb, ltb}
 use lib.ListN.{length}
 use denote.Ref.{RefT, now}
 use contract.Lifetimes.{Lfts}
@@ -14,12 +14,11 @@ use Rattle.whole.specs.laws.Test.{both, joined}
 use Rattle.plane.specs.declared.point.Point.{Point}
 use Rattle.block.specs.declared.Block.{Block}
 use Rattle.block.specs.Questions.{ask, loadNo}
-use Rattle.work.specs.Work.{isNothing}
 use Rattle.settings.specs.declared.Settings.{Settings}
 use Rattle.settings.specs.Settings.{capacityOf}
-use Rattle.bench.specs.declared.Bench.{Bench}
-use Rattle.bench.specs.Bench.{soundOf}
-use Rattle.bench.specs.Calls.{loadWith, loadOf}
+use Rattle.machine.specs.declared.Machine.{Machine}
+use Rattle.machine.specs.Machine.{soundOf}
+use Rattle.machine.specs.Calls.{loadWith, loadOf}
 use Rattle.letters.specs.declared.letter.Letter.the-variants.{N, G, F, X, Y, I, J}
 use Rattle.letters.specs.declared.word.Word.{Word}
 use Rattle.letters.specs.declared.word.Words.{Words}
@@ -31,18 +30,22 @@ use Rattle.reader.specs.declared.Motion.{Motion}
 use Rattle.reader.specs.declared.Reader.{Reader}
 use Rattle.reader.specs.declared.asked.ToLoad.{ToLoad}
 use Rattle.reader.specs.declared.«text_line».Read.{Read}
-use Rattle.reader.specs.declared.«text_line».ReadLine.{ReadLine}
 use Rattle.reader.specs.Reader.{readerAfter, motionRight, onPulse, allOnPulse, placed, centred, moving, allKnown, isArc, centreRight, lineNo, blockOf}
 use Rattle.reader.specs.Asked.{still, askedWith, askedOf}
-use Rattle.reader.specs.TextLine.{reads, loaded, takes, takenOf}
-use Rattle.reader.specs.laws.TextLine.{read-means}
+use Rattle.textline.specs.declared.ReadLine.{ReadLine}
+use Rattle.textline.specs.TextLine.{reads, loaded, takes, takenOf}
+use Rattle.textline.specs.laws.TextLine.{read-means}
+use Rattle.history.specs.Contracts.{ReadsLine}
 use Rattle.demands.specs.Asked.{Questions, AsAsked, AllYes}
-use Rattle.demands.specs.Questions.{NoLetterTwice, MotionRight, OnPulse, OnPulses, MotionAndFeedKnown, CentreStands, wordQuestions, lineBlock, isBlock, ifBlock, textQuestions, lineQuestions}
-use Rattle.demands.specs.Answers.{readReply, ReadsLine}
+use Rattle.demands.specs.Questions.{NoLetterTwice, MotionRight, OnPulse, OnPulses, MotionAndFeedKnown, CentreStands}
+use Rattle.demands.specs.Questions.{nextStart, wordQuestions, lineBlock, isBlock, ifBlock, textQuestions, lineQuestions}
+use Rattle.demands.specs.Answers.{readReply}
 use Rattle.demands.specs.Calls.{LineTaken}
 use Rattle.demands.specs.laws.Asked.{Verdict, asked, none-asked, orElse, then-asked, passed, Says, judged}
-use Rattle.demands.specs.laws.Sound.{in-range, sound-is}
-use Rattle.demands.specs.laws.Answers.{nothing-is, block-verdict, load-is}
+use Rattle.demands.specs.laws.Bench.{in-range}
+use Rattle.demands.specs.laws.Block.{block-verdict}
+use Rattle.demands.specs.laws.Sound.{sound-is}
+use Rattle.demands.specs.laws.Answers.{fewer-is, load-is}
 
 -- ---- tests
 
@@ -176,18 +179,18 @@ text-verdict room is k s start bytes l means =
 
 -- ---- the answer
 
-module _ (k k′ : Reader) (m : Bench) (ws : Words) where
+module _ (k k′ : Reader) (m : Machine) (ws : Words) where
   abbrev b : Block
-  b = blockOf (m .settings .scale) k′ ws (m .at)
+  b = blockOf (m .bench .settings .scale) k′ ws (nextStart m)
 
   abbrev loadNumber : ℕ
-  loadNumber = loadNo (capacityOf (m .settings)) (m .settings .travel) (isNothing (m .work)) (m .at) b
+  loadNumber = loadNo (capacityOf (m .bench .settings)) (m .bench .settings .travel) (ltb (m .queue .len) 16) (nextStart m) b
 
   -- the line by its numbers: that of its words, and that of its block
   abbrev lineBy : (number : ℕ) (moves stays : Bool) (n : ℕ) → ReadLine
   lineBy (suc number) moves stays n = reads (Read.Refused (suc number)) k m
   lineBy zero true true n = reads Read.Nothing k′ m
-  lineBy zero true false n = loaded k k′ m (loadWith m b n .bench) (loadWith m b n .answer)
+  lineBy zero true false n = loaded k k′ m (loadWith m b n .machine) (loadWith m b n .answer)
   lineBy zero false stays n = reads Read.Nothing k′ m
 
   line-says : (number : ℕ) (moves stays : Bool) (n : ℕ)
@@ -199,7 +202,7 @@ module _ (k k′ : Reader) (m : Bench) (ws : Words) where
   line-says zero false stays n = refl
 
   line-kept : (number : ℕ) (moves stays : Bool) (n : ℕ) → (orElse number (blockNumber moves stays n) ≡ 0 → ⊥)
-      → (let r = lineBy number moves stays n in (r .reader ≡ k) × (r .bench ≡ m))
+      → (let r = lineBy number moves stays n in (r .reader ≡ k) × (r .machine ≡ m))
   line-kept (suc number) moves stays n some = (refl, refl)
   line-kept zero true true n some = absurd (some refl)
   line-kept zero true false zero some = absurd (some refl)
@@ -207,11 +210,11 @@ module _ (k k′ : Reader) (m : Bench) (ws : Words) where
   line-kept zero false stays n some = absurd (some refl)
 
   line-is : soundOf m ≡ true → (number : ℕ)
-      → takenOf k m (askedWith (m .settings .scale) k k′ (m .at) ws number)
-      ≡ lineBy number (moving ws) (still (b .end) (m .at) (b .path)) loadNumber
+      → takenOf k m (askedWith (m .bench .settings .scale) k k′ (nextStart m) ws number)
+      ≡ lineBy number (moving ws) (still (b .end) (nextStart m) (b .path)) loadNumber
   unfolding loadOf
   line-is sound (suc number) = refl
-  line-is sound zero = by (moving ws) (still (b .end) (m .at) (b .path))
+  line-is sound zero = by (moving ws) (still (b .end) (nextStart m) (b .path))
     where
       by : (moves stays : Bool)
           → takes k k′ m (cond moves (cond stays ToLoad.Nothing (ToLoad.Block b)) ToLoad.Nothing) ≡ lineBy zero moves stays loadNumber
@@ -219,14 +222,14 @@ module _ (k k′ : Reader) (m : Bench) (ws : Words) where
       by true false = rw sound
       by false stays = refl
 
-pub line-answers : (κs : Lfts 1) (k : Reader) (m : Bench) (bytes : RefT (List ℕ)) (r : ReadLine) → ReadsLine κs k m bytes r → (l : Line)
+pub line-answers : (κs : Lfts 1) (k : Reader) (m : Machine) (bytes : RefT (List ℕ)) (r : ReadLine) → ReadsLine κs k m bytes r → (l : Line)
     → Means (now bytes) l
-    → AsAsked (lineQuestions k m (now bytes) l) (readReply (r .answer)) ((r .reader ≡ k) × (r .bench ≡ m))
+    → AsAsked (lineQuestions k m (now bytes) l) (readReply (r .answer)) ((r .reader ≡ k) × (r .machine ≡ m))
 unfolding askedOf
 line-answers κs k m bytes r h l means =
     rw (h ∙ read-means k m (now bytes) l means)
     (by (soundOf m) refl
-    (asked (soundOf m) 8 (sound-is m) (λ _. text-verdict _ (nothing-is (m .work)) k (m .settings) (m .at) (now bytes) l means)))
+    (asked (soundOf m) 8 (sound-is m) (λ _. text-verdict _ (fewer-is m) k (m .bench .settings) (nextStart m) (now bytes) l means)))
   where
     ws : Words
     ws = l .words
@@ -238,17 +241,18 @@ line-answers κs k m bytes r h l means =
     moves = moving ws
 
     stays : Bool
-    stays = still (b k k′ m ws .end) (m .at) (b k k′ m ws .path)
+    stays = still (b k k′ m ws .end) (nextStart m) (b k k′ m ws .path)
 
     number : ℕ
-    number = lineNo (m .settings .scale) k′ (length (now bytes)) l
+    number = lineNo (m .bench .settings .scale) k′ (length (now bytes)) l
 
     inner : ℕ
     inner = orElse number (blockNumber moves stays (loadNumber k k′ m ws))
 
     by : (sound : Bool) → soundOf m ≡ sound → Verdict (lineQuestions k m (now bytes) l) (ask sound inner 9)
-        → (let r = cond sound (takenOf k m (askedWith (m .settings .scale) k k′ (m .at) ws number)) (reads (Read.Refused 9) k m) in
-        AsAsked (lineQuestions k m (now bytes) l) (readReply (r .answer)) ((r .reader ≡ k) × (r .bench ≡ m)))
+        → (let r =
+        cond sound (takenOf k m (askedWith (m .bench .settings .scale) k k′ (nextStart m) ws number)) (reads (Read.Refused 9) k m) in
+        AsAsked (lineQuestions k m (now bytes) l) (readReply (r .answer)) ((r .reader ≡ k) × (r .machine ≡ m)))
     by true e v =
         rw (line-is k k′ m ws e number)
         (judged inner v (line-says k k′ m ws number moves stays _) (line-kept k k′ m ws number moves stays _))
@@ -256,7 +260,7 @@ line-answers κs k m bytes r h l means =
 
 -- ---- a line that no question refuses
 
-module _ (k k′ : Reader) (m : Bench) (ws : Words) where
+module _ (k k′ : Reader) (m : Machine) (ws : Words) where
   -- by its numbers: without a block, and with one
   by-nothing : (number : ℕ) (moves stays : Bool) (n : ℕ) → orElse number (blockNumber moves stays n) ≡ 0
       → isBlock moves stays ≡ false
@@ -269,14 +273,14 @@ module _ (k k′ : Reader) (m : Bench) (ws : Words) where
   by-block : (number : ℕ) (moves stays : Bool) (n : ℕ) → orElse number (blockNumber moves stays n) ≡ 0
       → isBlock moves stays ≡ true
       → (n ≡ 0) ×
-      (lineBy k k′ m ws number moves stays n ≡ loaded k k′ m (loadWith m (b k k′ m ws) 0 .bench) (loadWith m (b k k′ m ws) 0 .answer))
+      (lineBy k k′ m ws number moves stays n ≡ loaded k k′ m (loadWith m (b k k′ m ws) 0 .machine) (loadWith m (b k k′ m ws) 0 .answer))
   by-block (suc number) moves stays n z e = absurd (omega arith)
   by-block zero true true n z e = absurd (false≢true e)
   by-block zero true false zero z e = (refl, refl)
   by-block zero true false (suc n) z e = absurd (omega arith)
   by-block zero false stays n z e = absurd (false≢true e)
 
-pub line-taken : (κs : Lfts 1) (k : Reader) (m : Bench) (bytes : RefT (List ℕ)) (r : ReadLine) → ReadsLine κs k m bytes r → (l : Line)
+pub line-taken : (κs : Lfts 1) (k : Reader) (m : Machine) (bytes : RefT (List ℕ)) (r : ReadLine) → ReadsLine κs k m bytes r → (l : Line)
     → Means (now bytes) l → AllYes (lineQuestions k m (now bytes) l) → LineTaken k m l r
 unfolding askedOf
 line-taken κs k m bytes r h l means all =
@@ -300,10 +304,10 @@ line-taken κs k m bytes r h l means all =
     moves = moving ws
 
     stays : Bool
-    stays = still (b k k′ m ws .end) (m .at) (b k k′ m ws .path)
+    stays = still (b k k′ m ws .end) (nextStart m) (b k k′ m ws .path)
 
     number : ℕ
-    number = lineNo (m .settings .scale) k′ (length (now bytes)) l
+    number = lineNo (m .bench .settings .scale) k′ (length (now bytes)) l
 
     load : ℕ
     load = loadNumber k k′ m ws
@@ -312,10 +316,11 @@ line-taken κs k m bytes r h l means all =
     sound = sound-is m .1 (all .0)
 
     none : orElse number (blockNumber moves stays load) ≡ 0
-    none = passed (text-verdict _ (nothing-is (m .work)) k (m .settings) (m .at) (now bytes) l means) .1 (all .1)
+    none = passed (text-verdict _ (fewer-is m) k (m .bench .settings) (nextStart m) (now bytes) l means) .1 (all .1)
 
     is : r ≡ lineBy k k′ m ws number moves stays load
     is =
         h ∙ read-means k m (now bytes) l means
-        ∙ ap (λ (s : Bool). cond s (takenOf k m (askedWith (m .settings .scale) k k′ (m .at) ws number)) (reads (Read.Refused 9) k m)) sound
+        ∙ ap (λ (s : Bool). cond s (takenOf k m (askedWith (m .bench .settings .scale) k k′ (nextStart m) ws number))
+        (reads (Read.Refused 9) k m)) sound
         ∙ line-is k k′ m ws sound number

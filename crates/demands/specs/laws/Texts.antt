@@ -35,11 +35,12 @@ use Rattle.job.specs.Check.{stageOver, isOver, restAt, restOf}
 use Rattle.job.specs.laws.Asks.{asks-means}
 use Rattle.job.specs.laws.Listing.{listing-is}
 use Rattle.demands.specs.Asked.{Questions, none, question, andThen, FirstNo, AllYes}
-use Rattle.demands.specs.Questions.{pathQuestions, blockQuestions, wordQuestions, lineBlock, isBlock, makesBlock, ifBlock, textQuestions}
+use Rattle.demands.specs.Block.{pathQuestions, blockQuestions}
+use Rattle.demands.specs.Questions.{wordQuestions, lineBlock, isBlock, makesBlock, ifBlock, textQuestions}
 use Rattle.demands.specs.Texts.{LinesMean, TextMeans, EveryCounted, RowsOut, EveryText}
 use Rattle.demands.specs.laws.Asked.{Verdict, orElse, first-once, not-both}
-use Rattle.demands.specs.laws.Sound.{settings-pass}
-use Rattle.demands.specs.laws.Answers.{centre-is}
+use Rattle.demands.specs.laws.Bench.{settings-pass}
+use Rattle.demands.specs.laws.Block.{centre-is}
 use Rattle.demands.specs.laws.TextLine.{blockNumber, text-verdict}
 
 -- ---- one line
@@ -180,7 +181,7 @@ block-yes none true bs e all = all
 block-yes none false bs e all = absurd (false≢true e)
 block-yes (question number holds qs) block bs e all = block-yes qs block bs e (all .1)
 
-path-counted : (s : Settings) (start : Point) (b : Block) (p : Path) → AllYes (pathQuestions s start b p) → CountedAlong start b p
+pub path-counted : (s : Settings) (start : Point) (b : Block) (p : Path) → AllYes (pathQuestions s start b p) → CountedAlong start b p
 unfolding arcOf
 path-counted s start b Path.Line all = tt
 path-counted s start b (Path.Arc turn centre) all =

@@ -21,6 +21,9 @@ use Rattle.bench.specs.declared.Ran.{Ran}
 use Rattle.bench.specs.Bench.{movedOf, freshOf}
 use Rattle.bench.specs.Calls.{loadOf}
 use Rattle.bench.specs.Run.{Run, runOf}
+use Rattle.machine.specs.Machine.{machineOf}
+use Rattle.machine.specs.Calls.{answers}
+use Rattle.machine.specs.laws.Alone.{alone, alone-sound, next-alone, load-alone}
 use Rattle.run.specs.laws.Strip.{end-tick}
 use Rattle.finish.specs.Finish.{lastTickOf}
 use Rattle.finish.specs.declared.Finished.{Finished}
@@ -42,21 +45,24 @@ use Rattle.tape.specs.laws.Pieces.{runs, still-idle, nothing-left}
 use Rattle.tape.specs.laws.Told.{tape-tells, bytes-told}
 use Rattle.demands.specs.Runs.{TicksTo}
 use Rattle.demands.specs.TickBytes.{BlocksTick, JobBytes, BytesOut, EveryTickByte}
-use Rattle.demands.specs.laws.Sound.{settings-pass}
+use Rattle.demands.specs.laws.Bench.{settings-pass}
 use Rattle.demands.specs.laws.Runs.{strip-counts, strip-ticks}
 
 -- ---- a run to the block's end, tick by tick
 
+-- at a machine in which none waits
 record ToEnd (m : Bench) (x : Run) : Type 0 where
-  ticks : TicksTo m (x .bytes) (x .ran .bench)
+  ticks : TicksTo (alone m) (x .bytes) (alone (x .ran .bench))
   many : length (x .bytes) ≡ lastTickOf m
 
 run-to-end : (m : Bench) → AtWork m → ToEnd m (runOf m enough enough)
+unfolding machineOf
 run-to-end m a =
     let c = strip-counts enough (lastTickOf m) (at-work a) (end-tick (at-work a)) in
     let finished = ap (λ (f : Finished). f .ticks) (finishes m a) in
+    let ticks = strip-ticks enough (alone m) (alone-sound m ∙ a .sound) a in
     subst (ToEnd m) (sym (runs m a enough enough))
-    (record { ticks = strip-ticks enough m a; many = omega (arith, c .ticks, ticks-most m, finished) })
+    (record { ticks = subst (TicksTo (alone m) _) (next-alone _) ticks; many = omega (arith, c .ticks, ticks-most m, finished) })
 
 -- ---- the blocks of a job
 
@@ -66,22 +72,26 @@ module _ (m : Bench) (n : ℕ) (b : Block) (i : AtRest m) (ok : Accepted m b) (r
   unfolding begunOf
   width-told = ap (λ (a : Answered). a .answer) (load-accepted m (i .sound) (i .idle) b ok)
 
-  block-ticks : {later : List Made} → BlocksTick (endedOf m b .bench) later (rest (endedOf m b .bench))
-      → BlocksTick m (record { textLine = n; start = m .at; block = b } ∷ later) (runThen (loadOf m b .bench) rest)
-  unfolding movedOf endTick lastTick
+  block-ticks : {later : List Made} → BlocksTick (alone (endedOf m b .bench)) later (rest (endedOf m b .bench))
+      → BlocksTick (alone m) (record { textLine = n; start = m .at; block = b } ∷ later) (runThen (loadOf m b .bench) rest)
+  unfolding machineOf movedOf endTick lastTick
   block-ticks later =
-      let x = runOf (loadOf m b .bench) enough enough in
+      let loaded = loadOf m b in
+      let x = runOf (loaded .bench) enough enough in
       let left : x .ran .bench ≡ endedOf m b .bench = ap (λ (r : Ran). r .bench) (ended-run m i b ok) in
-      let e = run-to-end (loadOf m b .bench) (loaded-at-work m i b (rw (i .idle) ok)) in
-      let ticks = subst (TicksTo (loadOf m b .bench) (x .bytes)) left (e .ticks) in
+      let e = run-to-end (loaded .bench) (loaded-at-work m i b (rw (i .idle) ok)) in
+      let ticks = subst (λ (k : Bench). TicksTo (alone (loaded .bench)) (x .bytes) (alone k)) left (e .ticks) in
       rw left
-      (BlocksTick.block (record { textLine = n; start = m .at; block = b }) (loadOf m b) refl refl width-told ticks (e .many) refl later)
+      (BlocksTick.block (record { textLine = n; start = m .at; block = b }) (answers (loaded .answer) (alone (loaded .bench))) refl
+      (sym (load-alone m b (i .idle))) width-told ticks (e .many) refl later)
 
 abbrev Ticked : List (List ℕ) → Type 0
-Ticked ls = (n : ℕ) (m : Bench) (k : Reader) → AtRest m → BlocksTick m (jobFrom (m .settings) n (m .at) k ls .blocks) (bytesFrom m k ls)
+Ticked ls =
+    (n : ℕ) (m : Bench) (k : Reader) → AtRest m
+    → BlocksTick (alone m) (jobFrom (m .settings) n (m .at) k ls .blocks) (bytesFrom m k ls)
 
 by-line : (m : Bench) (n : ℕ) (k : Reader) (ls : List (List ℕ)) → AtRest m → Ticked ls → {a : Asks} {r : ReadLine} → Read-as m k a r
-    → BlocksTick m (onward n (m .at) a (λ at k′. jobFrom (m .settings) (n + 1) at k′ ls) .blocks)
+    → BlocksTick (alone m) (onward n (m .at) a (λ at k′. jobFrom (m .settings) (n + 1) at k′ ls) .blocks)
     (unless (isRefused (r .answer)) (runThen (r .bench) (λ m′. bytesFrom m′ (r .reader) ls)))
 unfolding movedOf
 by-line m n k ls i rest (Read-as.nothing known) =
@@ -95,12 +105,13 @@ unfolding bytesFrom jobFrom
 lines-tick [] n m k i = BlocksTick.none
 lines-tick (l ∷ ls) n m k i = by-line m n k ls i (lines-tick ls) (line-asks m k (i .sound) (i .idle) l)
 
-text-ticks : (s : Settings) → settingsNo s ≡ 0 → (text : List ℕ) → BlocksTick (freshOf s) (jobOf s text .blocks) (tickBytesOf s text)
+text-ticks : (s : Settings) → settingsNo s ≡ 0 → (text : List ℕ)
+    → BlocksTick (alone (freshOf s)) (jobOf s text .blocks) (tickBytesOf s text)
 unfolding tickBytesOf jobOf freshOf
 text-ticks s passed text = by (leb (length text) 65536)
   where
     by : (short : Bool)
-        → BlocksTick (freshOf s)
+        → BlocksTick (alone (freshOf s))
         (cond short (jobFrom s 1 (record { x = pos 0; y = pos 0 }) unknown (linesOf text))
         (record { blocks = []; end = End.refused 1 30 }) .blocks)
         (cond short (bytesFrom (freshOf s) unknown (linesOf (drop 0 text))) [])

@@ -6,8 +6,7 @@ use mir.Syntax.{w64}
 use mir.Val.{SFits}
 use mir.Facts.{toZ-ofZ}
 use Rattle.block.specs.declared.Block.{Block}
-use Rattle.export.specs.Calls.{Call}
-use Rattle.export.specs.Calls.{toldOf}
+use Rattle.calls.specs.Calls.{Call, toldOf}
 use Rattle.export.proofs.vz_load_cw.Statement.{statement}
 use Rattle.export.proofs.vz_load_cw.Tie as tie
 

@@ -1,40 +1,25 @@
--- `vz_make` is right because it makes the machine of these settings and lays its words.
+-- `vz_make` is right because it is the make on these words.
 use borrow.Author.Needs.{needs}
 use mir.Syntax.{w64}
 use mir.Val.{SFits}
 use mir.Facts.{toZ-ofZ}
-use Rattle.export.specs.Calls.{madeOf}
 use Rattle.export.proofs.vz_make.Statement.{statement}
 use Rattle.export.proofs.vz_make.Tie as tie
-
-settings-requires : tie.Need-settings-requires
-settings-requires c κs = search needs
 
 make-requires : tie.Need-make-requires
 make-requires c κs = search needs
 
-encode-requires : tie.Need-encode-requires
-encode-requires c κs = search needs
-
-answer-number-requires : tie.Need-answer-number-requires
-answer-number-requires c κs = search needs
-
 returns : tie.Need-returns
-unfolding madeOf
 returns c =
-    let s = c .before .before .before .before .before in
-    let r : SFits w64 (c .answer-number .result) = search needs in
-    let p = s .fits .p in
-    let w = s .fits .w in
-    let xlo = s .fits .xlo in
-    let xhi = s .fits .xhi in
-    let ylo = s .fits .ylo in
-    let yhi = s .fits .yhi in
-    let a = c .before .before .before in
-    let given = simp toZ-ofZ at (a .before .settings .ensures) in
-    simp toZ-ofZ (simp (c .answer-number .ensures, c .before .encode .ensures, a .make .ensures, given))
+    let r : SFits w64 (c .make .result) = search needs in
+    let f = c .before .before .fits in
+    let p = f .p in
+    let w = f .w in
+    let xlo = f .xlo in
+    let xhi = f .xhi in
+    let ylo = f .ylo in
+    let yhi = f .yhi in
+    simp toZ-ofZ (simp toZ-ofZ at (c .make .ensures))
 
 pub vz-make-spec : {M : Type 1} → statement M
-vz-make-spec =
-    tie.close
-    (tie.spec settings-requires make-requires encode-requires answer-number-requires returns)
+vz-make-spec = tie.close (tie.spec make-requires returns)

@@ -1,64 +1,110 @@
--- A line and a fill by whether the words are such.
-use mathlib.Core.Path.{_≡_, refl, sym, subst, _∙_}
-use mathlib.Core.Bool.{true, false, true≢false}
+-- A line by whether the words are such, and by what it asks.
+use mathlib.Core.Path.{_≡_, refl, sym, ap, _∙_}
+use mathlib.Core.Bool.{Bool, true, false, cond}
 use mathlib.Core.List.{List}
-use Prim.Native.Nat.{ℕ}
+use Prim.Native.Nat.{ℕ, zero, suc, _≤_}
+use native.Mathlib.Omega.{arith}
+use lib.Dec.{ltb}
 use lib.IntN.{ℤ, negsuc}
-use Rattle.reader.specs.declared.«text_line».ReadLine.{ReadLine}
-use Rattle.reader.specs.TextLine.{readLineOf}
-use Rattle.layout.specs.Words.{machineIn}
+use lib.ListN.{length}
+use Rattle.plane.specs.declared.point.Point.{Point}
+use Rattle.block.specs.declared.Block.{Block}
+use Rattle.block.specs.Questions.{loadNo}
+use Rattle.words.specs.laws.Scan.{lineOf}
+use Rattle.settings.specs.Settings.{capacityOf}
+use Rattle.settings.specs.laws.Right.{settings-right}
+use Rattle.bench.specs.declared.Bench.{Bench}
+use Rattle.bench.specs.declared.Answer.{Answer}
+use Rattle.machine.specs.declared.Machine.{Machine}
+use Rattle.machine.specs.Machine.{soundOf, startOf}
+use Rattle.machine.specs.Calls.{loadWith, loadOf}
+use Rattle.reader.specs.declared.Reader.{Reader}
+use Rattle.reader.specs.declared.asked.ToLoad.{ToLoad}
+use Rattle.reader.specs.declared.asked.Asked.{Asked}
+use Rattle.reader.specs.declared.«text_line».Read.{Read}
+use Rattle.reader.specs.Asked.{askedOf}
+use Rattle.textline.specs.declared.ReadLine.{ReadLine}
+use Rattle.textline.specs.TextLine.{loaded, takenOf, readLineOf}
+use Rattle.record.specs.Words.{encodeOf, over, machineIn, soundWords}
+use Rattle.record.specs.laws.Write.{told-sound}
+use Rattle.calls.specs.Asked.{Asking}
+use Rattle.calls.specs.laws.Load.{own-words, settings-pass}
 use Rattle.progress.specs.declared.known.DecodedKnown.{DecodedKnown}
-use Rattle.progress.specs.declared.progress.DecodedProgress.{DecodedProgress}
-use Rattle.progress.specs.Known.{decodeKnown}
-use Rattle.store.specs.Words.{soundWords}
-use Rattle.export.specs.Texts.{tellsLine, lineTold, toldLineOf, checkTold, isCheck, Refuses, Hands, TellsFill}
+use Rattle.progress.specs.Known.{encodeKnown, decodeKnown}
+use Rattle.export.specs.declared.text.Heard.{Heard}
+use Rattle.export.specs.Texts.{readNumber, heardOf, loadsOf, tellsLine, toldLineOf}
 
--- ---- a line
+-- a refused load hands the record back as it was
+pub load-same : (m : Machine) (b : Block) {number : ℕ} → loadOf m b .answer ≡ Answer.Refused number → loadOf m b .machine ≡ m
+unfolding loadOf
+load-same m b = by (soundOf m) (let s = m .bench .settings in
+    loadNo (capacityOf s) (s .travel) (ltb (m .queue .len) 16) (startOf (m .bench) (m .queue)) b)
+  where
+    by : (sound : Bool) (asked : ℕ) {number : ℕ}
+        → cond sound (loadWith m b asked) (record { answer = Answer.Refused 9; machine = m }) .answer ≡ Answer.Refused number
+        → cond sound (loadWith m b asked) (record { answer = Answer.Refused 9; machine = m }) .machine ≡ m
+    by true zero e = let none : _≡_ {A = ℕ} 0 1 = cc in absurd (omega (arith, none))
+    by true (suc n) e = refl
+    by false asked e = refl
+
+-- ---- what the words become, by what the line asks
+
+module _ (ws : List ℤ) (before : Reader) where
+  abbrev m : Machine
+  m = machineIn ws
+
+  -- what a line was read as, and the words after it
+  abbrev Hears : ReadLine → Heard → (after : List ℤ) → Type 0
+  Hears r h after = (h ≡ heardOf r) × (after ≡ over (encodeOf (r .machine)) ws)
+
+  pub line-loads : (after : Reader) (b : Block) {answer : Answer} {now : List ℤ} → answer ≡ loadOf m b .answer
+      → now ≡ over (encodeOf (loadOf m b .machine)) ws → {a : Answer} → answer ≡ a
+      → Hears (loadsOf before after m b) (heardOf (loaded before after m m a)) now
+  line-loads after b {answer} {now} is stored {a} e = by a (sym is ∙ e)
+    where
+      by : (a : Answer) → loadOf m b .answer ≡ a → Hears (loadsOf before after m b) (heardOf (loaded before after m m a)) now
+      by Answer.Done e = rw e (refl, stored)
+      by (Answer.Width bits) e = rw e (refl, stored)
+      by (Answer.Refused number) e = rw e (refl, stored ∙ ap (λ (n : Machine). over (encodeOf n) ws) (load-same m b e))
+
+  -- a line that asks for no block leaves them
+  module _ (t : soundWords ws ≡ true) (a : Asked) where
+    pub line-nothing : a .asks ≡ ToLoad.Nothing → Hears (takenOf before m a) (record { read = Read.Nothing; reader = a .reader }) ws
+    line-nothing e = rw e (refl, sym (own-words ws t))
+
+    pub line-refused : {number : ℕ} → a .asks ≡ ToLoad.Refused number
+        → Hears (takenOf before m a) (record { read = Read.Refused number; reader = before }) ws
+    line-refused e = rw e (refl, sym (own-words ws t))
+
+-- few enough for the reader
+pub scale-fits : {ws : List ℤ} {k : Bench} {start : Point} → Asking ws k start → k .settings .scale ≤ 1000
+scale-fits {k = k} g = settings-right (k .settings) (settings-pass g) .scale-most
+
+-- ---- what is told
 
 module _ (ws ks : List ℤ) (line : List ℕ) where
   pub line-no-record : soundWords ws ≡ false → tellsLine (negsuc 8) ws ks ≡ toldLineOf ws ks line
   unfolding toldLineOf
   line-no-record bad = rw bad
 
-  module _ {k : DecodedKnown} (f : k ≡ decodeKnown ks) (ok : soundWords ws ≡ true) where
-    pub line-not-known : k .ok ≡ false → tellsLine (negsuc 8) ws ks ≡ toldLineOf ws ks line
+  module _ {d : DecodedKnown} (f : d ≡ decodeKnown ks) (t : soundWords ws ≡ true) where
+    pub line-not-known : d .ok ≡ false → tellsLine (negsuc 8) ws ks ≡ toldLineOf ws ks line
     unfolding toldLineOf
-    line-not-known bad = rw (← f, ok, bad)
+    line-not-known bad = rw (← f, t, bad)
 
-    pub line-told : k .ok ≡ true → lineTold (readLineOf (k .reader) (machineIn ws) line) ≡ toldLineOf ws ks line
-    unfolding toldLineOf
-    line-told known = rw (← f, ok, known)
+    module _ {k : Bench} {start : Point} (g : Asking ws k start) where
+      -- what the line asks there
+      abbrev asks : (scale : ℕ) → Point → Asked
+      asks scale place = askedOf scale (d .reader) place (length line) (lineOf line)
 
--- ---- a fill
+      asks-own : asks (k .settings .scale) start
+          ≡ (let m = machineIn ws in asks (m .bench .settings .scale) (startOf (m .bench) (m .queue)))
+      unfolding machineIn
+      asks-own = rw (g .start-is, g .bench-is) refl
 
--- nothing changed
-refuses : {ws ps : List ℤ} {old : List ℕ} → Refuses ws ps old (negsuc 8) 0 ws ps old
-refuses = record { nine = refl; none = refl; record-kept = refl; progress-kept = refl; buffer-kept = refl }
-
-module _ (ws ps : List ℤ) where
-  pub fill-no-record : {text old : List ℕ} → soundWords ws ≡ false → TellsFill ws ps text old (negsuc 8) 0 ws ps old
-  unfolding isCheck
-  fill-no-record bad = let no : isCheck ws ps ≡ false = rw bad in TellsFill.no-check no refuses
-
-  module _ {p : DecodedProgress} (f : p ≡ checkTold ws ps) (ok : soundWords ws ≡ true) where
-    is : isCheck ws ps ≡ p .ok
-    unfolding isCheck
-    is = rw (ok, f)
-
-    pub fill-no-progress : {text old : List ℕ} → p .ok ≡ false → TellsFill ws ps text old (negsuc 8) 0 ws ps old
-    fill-no-progress bad = TellsFill.no-check (is ∙ bad) refuses
-
-    pub fill-rows : p .ok ≡ true → {text old : List ℕ} {answer : ℤ} {len : ℕ} {ws′ ps′ : List ℤ} {new : List ℕ}
-        → Hands (p .check) text old answer len ws′ ps′ new → TellsFill ws ps text old answer len ws′ ps′ new
-    fill-rows progress {text} {old} {answer} {len} {ws′} {ps′} {new} rows =
-        TellsFill.check (is ∙ progress) (subst (λ (g : DecodedProgress). Hands (g .check) text old answer len ws′ ps′ new) f rows)
-
-module _ {ws ps : List ℤ} {text old : List ℕ} {answer : ℤ} {len : ℕ} {ws′ ps′ : List ℤ} {new : List ℕ} where
-  pub rows-told : isCheck ws ps ≡ true → TellsFill ws ps text old answer len ws′ ps′ new
-      → Hands (checkTold ws ps .check) text old answer len ws′ ps′ new
-  rows-told ok (TellsFill.check _ rows) = rows
-  rows-told ok (TellsFill.no-check bad _) = absurd (true≢false (sym ok ∙ bad))
-
-  pub refused-told : isCheck ws ps ≡ false → TellsFill ws ps text old answer len ws′ ps′ new → Refuses ws ps old answer len ws′ ps′ new
-  refused-told bad (TellsFill.check ok _) = absurd (true≢false (sym ok ∙ bad))
-  refused-told bad (TellsFill.no-check _ refused) = refused
+      pub line-told : d .ok ≡ true → {a : Asked} → a ≡ asks (k .settings .scale) start → {h : Heard} {after : List ℤ}
+          → h ≡ heardOf (takenOf (d .reader) (machineIn ws) a)
+          → after ≡ over (encodeOf (takenOf (d .reader) (machineIn ws) a .machine)) ws
+          → tellsLine (readNumber (h .read)) after (encodeKnown (h .reader)) ≡ toldLineOf ws ks line
+      unfolding toldLineOf readLineOf
+      line-told known a-is h-is after-is = rw (h-is, after-is, a-is ∙ asks-own, ← f, t, known, told-sound ws t) refl

@@ -1,6 +1,7 @@
 -- The register width of an accepted block has a few bits itself, so that its word is not negative.
 use mathlib.Core.Path.{_≡_, refl, subst}
 use mathlib.Core.Bool.{true}
+use lib.Dec.{ltb}
 use lib.IntN.{natAbs}
 use Prim.Native.Nat.{ℕ, _^_, zero, suc, _≤_, _<_, max}
 use native.Mathlib.Omega.{arith}
@@ -19,14 +20,14 @@ use Rattle.block.specs.declared.Path.{Path}
 use Rattle.block.specs.Block.{arcOf, widthAlong, blockWidth}
 use Rattle.block.specs.laws.Begin.{offset-right, square-some, square-most}
 use Rattle.block.specs.Questions.{loadNo}
-use Rattle.work.specs.Work.{Loadable, isNothing, begunOf}
+use Rattle.work.specs.Work.{Loadable, begunOf}
+use Rattle.work.specs.laws.Left.{accepted-loadable}
 use Rattle.settings.specs.Settings.{capacityOf}
-use Rattle.settings.specs.laws.Right.{settings-right}
-use Rattle.bench.specs.declared.Bench.{Bench}
 use Rattle.bench.specs.declared.Answer.{Answer}
-use Rattle.bench.specs.Bench.{soundOf}
-use Rattle.bench.specs.Calls.{loadWith, loadOf}
-use Rattle.bench.specs.laws.Sound.{sound, loadable}
+use Rattle.machine.specs.declared.Machine.{Machine}
+use Rattle.machine.specs.Machine.{soundOf, startOf}
+use Rattle.machine.specs.Calls.{loadWith, loadOf}
+use Rattle.machine.specs.laws.Load.{taken-accepted}
 
 few : (n : ℕ) → n < 2097152 → widthOf n < 2 ^ 63
 few n h = omega (arith, width-least n 21 h)
@@ -50,15 +51,21 @@ width-few start b (Path.Arc turn o) h =
     few _ (root-few _ (square-some o r) (square-most o r))
 
 -- a load of a sound record that answers a width
-pub width-word : (m : Bench) → soundOf m ≡ true → (b : Block) {n : ℕ} → loadOf m b .answer ≡ Answer.Width n → n < 2 ^ 63
+pub width-word : (m : Machine) → soundOf m ≡ true → (b : Block) {n : ℕ} → loadOf m b .answer ≡ Answer.Width n → n < 2 ^ 63
 unfolding loadOf begunOf blockWidth
-width-word m e b = rw e (by (loadNo (capacityOf (m .settings)) (m .settings .travel) (isNothing (m .work)) (m .at) b) refl)
+width-word m e b = rw e (by (asked-of m) refl)
   where
-    by : (number : ℕ) → loadNo (capacityOf (m .settings)) (m .settings .travel) (isNothing (m .work)) (m .at) b ≡ number → {n : ℕ}
-        → loadWith m b number .answer ≡ Answer.Width n → n < 2 ^ 63
+    start : Point
+    start = startOf (m .bench) (m .queue)
+
+    asked-of : Machine → ℕ
+    asked-of m =
+        let s = m .bench .settings in
+        loadNo (capacityOf s) (s .travel) (ltb (m .queue .len) 16) (startOf (m .bench) (m .queue)) b
+
+    by : (number : ℕ) → asked-of m ≡ number → {n : ℕ} → loadWith m b number .answer ≡ Answer.Width n → n < 2 ^ 63
     by zero asked {n} is =
-        let s = sound e in
-        let h = loadable (m .at) (settings-right (m .settings) (s .settings) .wide) (s .in-travel) b _ _ asked in
-        let w : widthAlong (m .at) b (b .path) ≡ n = cc in
-        subst (λ (k : ℕ). k < 2 ^ 63) w (width-few (m .at) b (b .path) h)
+        let h = accepted-loadable (taken-accepted {m = m} {start = start} (record { sound = e; start-is = refl; asked = asked })) in
+        let w : widthAlong start b (b .path) ≡ n = cc in
+        subst (λ (k : ℕ). k < 2 ^ 63) w (width-few start b (b .path) h)
     by (suc number) asked {n} is = let none : _≡_ {A = ℕ} 0 1 = cc in omega (arith, none)

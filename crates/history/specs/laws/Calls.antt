@@ -1,73 +1,144 @@
 -- Each call on the record that a book tells gives the book's reply and leads to the record that the book then tells.
-use mathlib.Core.Path.{_≡_, refl}
-use mathlib.Core.Bool.{true}
-use mathlib.Core.List.{List}
-use lib.ListN.{length, take}
+use mathlib.Core.Path.{_≡_, refl, sym, ap, ap₂, _∙_}
+use mathlib.Core.Bool.{Bool, true}
+use mathlib.Core.List.{List, [], _∷_, _++_}
 use Prim.Native.Nat.{ℕ, zero, suc}
+use lib.Dec.{ltb}
+use lib.ListN.{length, take}
+use borrow.Author.Tests.{ltb-true}
+use Rattle.plane.specs.declared.point.Point.{Point}
 use Rattle.block.specs.declared.Block.{Block}
-use Rattle.block.specs.declared.Path.{Path}
 use Rattle.block.specs.Questions.{loadNo}
-use Rattle.work.specs.Work.{isNothing, begunOf, workAlong as begunAlong}
-use Rattle.settings.specs.declared.Settings.{Settings}
-use Rattle.bench.specs.declared.Answered.{Answered}
-use Rattle.settings.specs.Settings.{capacityOf, settingsNo}
-use Rattle.bench.specs.Bench.{soundOf, movedOf}
+use Rattle.block.specs.Chain.{chainEnd}
+use Rattle.queue.specs.declared.Queue.{Queue}
+use Rattle.queue.specs.Queue.{queueOf}
+use Rattle.queue.specs.laws.Waiting.{queue-waiting, push-queue, empty-queue}
+use Rattle.work.specs.declared.Work.{Work}
+use Rattle.work.specs.Work.{isNothing, begunOf}
 use Rattle.run.specs.Run.{written}
-use Rattle.bench.specs.Run.{runOf}
+use Rattle.settings.specs.declared.Settings.{Settings}
+use Rattle.settings.specs.Settings.{capacityOf, settingsNo}
+use Rattle.bench.specs.declared.Bench.{Bench}
+use Rattle.bench.specs.Bench.{movedOf}
+use Rattle.bench.specs.Run.{runOf as benchRun}
 use Rattle.bench.specs.laws.Run.{ticks-are}
-use Rattle.bench.specs.Calls.{loadWith, loadOf, tickOf, holdOf, releaseOf, stopOf}
-use Rattle.book.specs.Book.{InWork, Book, Call, entry, loaded, loadEntry, isNothing as idle}
-use Rattle.book.specs.laws.Sound.{Sound}
-use Rattle.history.specs.Agree.{workAlong, workOf, machineOf}
+use Rattle.machine.specs.declared.Answered.{Answered}
+use Rattle.machine.specs.Machine.{soundOf, machineOf, startOf}
+use Rattle.machine.specs.Calls.{beginning, nextOf, takes, loadWith, loadOf, tickOf, holdOf, releaseOf, stopOf}
+use Rattle.machine.specs.Run.{runOf}
+use Rattle.book.specs.Bench.{InWork, benchTick, workEnd, benchRun as bookRun, isNothing as idle, Bench as BookBench}
+use Rattle.book.specs.Book.{Book, Call, hasRoom, settled, entry, loaded, loadEntry, startOf as bookStart}
+use Rattle.book.specs.laws.Load.{room-asked}
+use Rattle.book.specs.laws.Sound.{Sound, benchOf}
+use Rattle.book.specs.laws.Ticking.{tick-does, run-does, end-stays}
+use Rattle.history.specs.Agree.{workOf, benchTold, recordOf}
 use Rattle.history.specs.Reply.{answerReply, tickReply, runReply}
-use Rattle.history.specs.laws.Record.{Follows, always-working, record-sound}
+use Rattle.history.specs.laws.Record.{Follows, always-working, same-end, told-sound}
+use Rattle.history.specs.laws.Next.{begun-is, next-is}
 use Rattle.history.specs.laws.Tick.{tick-is}
 use Rattle.history.specs.laws.Run.{first-bytes, run-is}
 
-same-idle : (w : InWork) → isNothing (workOf w) ≡ idle w
-same-idle InWork.nothing = refl
-same-idle (InWork.working j) = always-working j (j .block .path)
+-- ---- a block that no question refuses comes into work, or it waits
+
+module _ (s : Settings) (k : Block) where
+  abbrev Taken : BookBench → List Block → Type 0
+  Taken b l =
+      let w : Book = record { bench = b; waiting = l } in
+      takes (recordOf s w) k (isNothing (workOf (b .work))) (begunOf (bookStart w) k) ≡ recordOf s (settled b (l ++ (k ∷ [])))
+
+  taken-parts : (at : Point) (mark : Bool) (r : ℕ) (w : InWork) (l : List Block) → ltb (length l) 16 ≡ true → (idle w ≡ true → l ≡ [])
+      → startOf (benchTold s (benchOf at mark r w)) (queueOf (workEnd (benchOf at mark r w)) l)
+      ≡ bookStart (record { bench = benchOf at mark r w; waiting = l })
+      → Taken (benchOf at mark r w) l
+  unfolding settled machineOf chainEnd movedOf
+  taken-parts at mark r InWork.nothing l room none start =
+      rw (none refl)
+      (ap₂ (λ (w : Work) (q : Queue). machineOf (beginning (benchTold s (benchOf at mark r InWork.nothing)) w) q)
+      (begun-is at k) (sym (empty-queue at) ∙ empty-queue (k .end)))
+  taken-parts at mark r (InWork.working j) l room none start =
+      rw (always-working j (j .block .path), start)
+      (ap (machineOf (benchTold s (benchOf at mark r (InWork.working j)))) (push-queue (j .block .end) l k (ltb-true (length l) 16 room)))
 
 module _ (s : Settings) (passed : settingsNo s ≡ 0) (b : Book) (i : Sound (capacityOf s) (s .travel) b) where
   abbrev answersAs : Call → Answered → Type 0
-  answersAs c r = Follows s (entry (capacityOf s) (s .travel) b c) (answerReply (r .answer)) (r .bench)
+  answersAs c r = Follows s (entry (capacityOf s) (s .travel) b c) (answerReply (r .answer)) (r .machine)
 
-  sound : soundOf (machineOf s b) ≡ true
-  sound = record-sound s passed b i
+  sound : soundOf (recordOf s b) ≡ true
+  sound = told-sound s passed b i
 
-  -- a block newly in work is the same for both
-  begun : (k : Block) (p : Path) → begunAlong (b .at) k p ≡ workAlong (record { block = k; start = b .at; done = 0 }) p
-  begun k Path.Line = refl
-  begun k (Path.Arc turn centre) = refl
+  -- the block starts from the same place
+  start-is : startOf (benchTold s (b .bench)) (queueOf (workEnd (b .bench)) (b .waiting)) ≡ bookStart b
+  start-is = rw (queue-waiting (workEnd (b .bench)) (b .waiting), same-end (b .bench .at) (b .bench .work))
 
-  load-by : (k : Block) (n : ℕ) → (let r = loadWith (machineOf s b) k n in Follows s (loaded (capacityOf s) (s .travel) b k n) (answerReply (r .answer)) (r .bench))
-  unfolding begunOf movedOf
-  load-by k zero = record { says = refl; leads = rw (begun k (k .path)) }
-  load-by k (suc n) = record { says = refl; leads = refl }
+  load-by : (k : Block) (n : ℕ) → loadNo (capacityOf s) (s .travel) (hasRoom b) (bookStart b) k ≡ n
+      → (let r = loadWith (recordOf s b) k n in Follows s (loaded b k n) (answerReply (r .answer)) (r .machine))
+  unfolding begunOf machineOf
+  load-by k zero asked =
+      let room = room-asked (capacityOf s) (s .travel) (hasRoom b) (bookStart b) k asked .0 in
+      rw start-is
+      (record {
+        says = refl;
+        leads = taken-parts s k (b .bench .at) (b .bench .mark) (b .bench .remainder) (b .bench .work) (b .waiting) room (i .none) start-is;
+      })
+  load-by k (suc n) asked = record { says = refl; leads = refl }
 
-  pub load-follows : (k : Block) → answersAs (Call.load k) (loadOf (machineOf s b) k)
-  unfolding loadOf loadEntry
-  load-follows k = rw (sound, same-idle (b .work)) (load-by k (loadNo (capacityOf s) (s .travel) (idle (b .work)) (b .at) k))
+  pub load-follows : (k : Block) → answersAs (Call.load k) (loadOf (recordOf s b) k)
+  unfolding loadOf loadEntry queueOf machineOf
+  load-follows k = rw (sound, start-is) (load-by k (loadNo (capacityOf s) (s .travel) (hasRoom b) (bookStart b) k) refl)
 
-  pub tick-follows : (let r = tickOf (machineOf s b) in Follows s (entry (capacityOf s) (s .travel) b Call.tick) (tickReply (r .tick)) (r .bench))
-  tick-follows = rw (tick-is s passed b i) (record { says = refl; leads = refl })
+  -- ---- tick and run: the bench's, and then the next block
 
-  pub hold-follows : answersAs Call.hold (holdOf (machineOf s b))
-  unfolding holdOf
-  hold-follows = rw sound (record { says = refl; leads = refl })
+  abbrev place : Point
+  place = workEnd (b .bench)
 
-  pub release-follows : answersAs Call.release (releaseOf (machineOf s b))
-  unfolding releaseOf
-  release-follows = rw sound (record { says = refl; leads = refl })
+  -- the end of the block in work, behind which the others wait, stays where it is
+  next-follows : {k : Bench} (after : BookBench) → k ≡ benchTold s after → workEnd after ≡ place
+      → nextOf k (queueOf place (b .waiting)) ≡ recordOf s (settled after (b .waiting))
+  next-follows after is same =
+      ap₂ (λ (k : Bench) (p : Point). nextOf k (queueOf p (b .waiting))) is (sym same) ∙ next-is s after (b .waiting) (i .few)
 
-  pub stop-follows : answersAs Call.stop (stopOf (machineOf s b))
-  unfolding stopOf movedOf
-  stop-follows = rw sound (record { says = refl; leads = refl })
+  pub tick-follows :
+      (let r = tickOf (recordOf s b) in Follows s (entry (capacityOf s) (s .travel) b Call.tick) (tickReply (r .tick)) (r .machine))
+  unfolding tickOf machineOf
+  tick-follows =
+      let does = tick-does (capacityOf s) (s .travel) b (i .bench) in
+      rw (sound, tick-is s passed (b .bench) (i .bench))
+      (record {
+        says = refl;
+        leads = next-follows (benchTick (capacityOf s) (b .bench) .after) refl (end-stays (capacityOf s) (s .travel) does refl);
+      })
 
   pub run-follows : (budget : ℕ) (out : List ℕ)
-      → (let k = runOf (machineOf s b) budget (length out) in
-      Follows s (entry (capacityOf s) (s .travel) b (Call.run budget (length out))) (runReply (k .ran .report) (k .ran .ticks) (take (k .ran .ticks) (written (k .bytes) out))) (k .ran .bench))
+      → (let r = runOf (recordOf s b) budget (length out) in
+      Follows s (entry (capacityOf s) (s .travel) b (Call.run budget (length out)))
+      (runReply (r .ran .report) (r .ran .ticks) (take (r .ran .ticks) (written (r .bytes) out))) (r .ran .machine))
+  unfolding runOf machineOf
   run-follows budget out =
-      let k = runOf (machineOf s b) budget (length out) in
-      let bytes : take (k .ran .ticks) (written (k .bytes) out) ≡ k .bytes = rw (ticks-are (machineOf s b) budget (length out)) (first-bytes (k .bytes) out) in
-      rw bytes (run-is s passed b budget (length out) i)
+      let k = benchTold s (b .bench) in
+      let r = benchRun k budget (length out) in
+      let bytes : take (r .ran .ticks) (written (r .bytes) out) ≡ r .bytes =
+      rw (ticks-are k budget (length out)) (first-bytes (r .bytes) out) in
+      let told = run-is s passed budget (length out) (b .bench) (i .bench) in
+      let does = run-does (capacityOf s) (s .travel) b budget (length out) (i .bench) in
+      rw (sound, bytes)
+      (record {
+        says = told .says;
+        leads = next-follows (bookRun (capacityOf s) (b .bench) budget (length out) .after) (told .leaves)
+            (end-stays (capacityOf s) (s .travel) does refl);
+      })
+
+  -- ---- hold, release, stop
+
+  pub hold-follows : answersAs Call.hold (holdOf (recordOf s b))
+  unfolding holdOf machineOf
+  hold-follows = rw sound (record { says = refl; leads = refl })
+
+  pub release-follows : answersAs Call.release (releaseOf (recordOf s b))
+  unfolding releaseOf machineOf
+  release-follows = rw sound (record { says = refl; leads = refl })
+
+  pub stop-follows : answersAs Call.stop (stopOf (recordOf s b))
+  unfolding stopOf machineOf movedOf
+  stop-follows =
+      let k = benchOf (b .bench .at) (b .bench .mark) 0 InWork.nothing in
+      rw sound (record { says = refl; leads = ap (machineOf (benchTold s k)) (empty-queue (b .bench .at)) })

@@ -6,27 +6,27 @@ use lib.ListN.{length, replicate, length-replicate, take}
 use denote.Ref.{RefT, at-last}
 use contract.Lifetimes.{Lfts}
 use Rattle.run.specs.Run.{written}
-use Rattle.bench.specs.declared.Bench.{Bench}
-use Rattle.bench.specs.Calls.{loadOf, tickOf, holdOf, releaseOf, stopOf}
-use Rattle.bench.specs.Run.{runOf}
+use Rattle.machine.specs.declared.Machine.{Machine}
+use Rattle.machine.specs.Calls.{loadOf, tickOf, holdOf, releaseOf, stopOf}
+use Rattle.machine.specs.Run.{runOf}
 use Rattle.book.specs.Book.{Call}
 use Rattle.history.specs.Reply.{runReply}
 use Rattle.history.specs.History.{History, HasHistory}
 
 -- at any lifetime, and with any buffer's pointer
-some-history : Lfts 1 → RefT (List ℕ) → (cs : List Call) (m : Bench) → HasHistory m cs
+some-history : Lfts 1 → RefT (List ℕ) → (cs : List Call) (m : Machine) → HasHistory m cs
 some-history κs p [] m = record { replies = []; last = m; history = History.ends }
 some-history κs p (Call.load b ∷ cs) m =
-    let s = some-history κs p cs (loadOf m b .bench) in
+    let s = some-history κs p cs (loadOf m b .machine) in
     record { replies = _; last = s .last; history = History.loads b (loadOf m b) refl (s .history) }
 some-history κs p (Call.tick ∷ cs) m =
-    let s = some-history κs p cs (tickOf m .bench) in
+    let s = some-history κs p cs (tickOf m .machine) in
     record { replies = _; last = s .last; history = History.ticks (tickOf m) refl (s .history) }
 some-history κs p (Call.run budget buffer ∷ cs) m =
     let old : List ℕ = replicate buffer 0 in
     let k = runOf m budget (length old) in
     let new = written (k .bytes) old in
-    let s = some-history κs p cs (k .ran .bench) in
+    let s = some-history κs p cs (k .ran .machine) in
     let rs = runReply (k .ran .report) (k .ran .ticks) (take (k .ran .ticks) new) ∷ s .replies in
     record {
       replies = rs;
@@ -35,14 +35,14 @@ some-history κs p (Call.run budget buffer ∷ cs) m =
           (History.runs κs budget (at-last p old) (at-last p new) (k .ran) (refl, refl) (s .history));
     }
 some-history κs p (Call.hold ∷ cs) m =
-    let s = some-history κs p cs (holdOf m .bench) in
+    let s = some-history κs p cs (holdOf m .machine) in
     record { replies = _; last = s .last; history = History.holds (holdOf m) refl (s .history) }
 some-history κs p (Call.release ∷ cs) m =
-    let s = some-history κs p cs (releaseOf m .bench) in
+    let s = some-history κs p cs (releaseOf m .machine) in
     record { replies = _; last = s .last; history = History.releases (releaseOf m) refl (s .history) }
 some-history κs p (Call.stop ∷ cs) m =
-    let s = some-history κs p cs (stopOf m .bench) in
+    let s = some-history κs p cs (stopOf m .machine) in
     record { replies = _; last = s .last; history = History.stops (stopOf m) refl (s .history) }
 
-pub every-list : (m : Bench) (cs : List Call) → HasHistory m cs
-every-list m cs = some-history ([], tt) (record { ptr = (0, 0); name = 0; now = [] }) cs m
+pub any-history : (m : Machine) (cs : List Call) → HasHistory m cs
+any-history m cs = some-history ([], tt) (record { ptr = (0, 0); name = 0; now = [] }) cs m

@@ -4,38 +4,26 @@ use mathlib.Core.Bool.{true}
 use mathlib.Core.List.{List, _++_}
 use Prim.Native.Nat.{ℕ, zero, suc, _≤_}
 use lib.IntN.{_+ℤ_, +ℤ-idl, +ℤ-idr}
-use lib.ListN.{length}
-use denote.Ref.{now}
 use Rattle.plane.specs.Pulse.{pulseOf}
 use Rattle.plane.specs.Byte.{codeX, codeY}
-use Rattle.bench.specs.declared.Bench.{Bench}
 use Rattle.bench.specs.declared.Tick.{Tick}
-use Rattle.bench.specs.Bench.{soundOf}
-use Rattle.keeps.specs.laws.Make.{make-keeps}
-use Rattle.keeps.specs.laws.Calls.{load-keeps, tick-keeps, run-keeps, hold-keeps, release-keeps, stop-keeps}
+use Rattle.machine.specs.declared.Machine.{Machine}
+use Rattle.machine.specs.Machine.{soundOf}
+use Rattle.machine.specs.laws.Keeps.{make-keeps}
 use Rattle.book.specs.Book.{Call, Reply}
 use Rattle.book.specs.Sums.{tickBytes, pulsesIn, pulsesSent}
-use Rattle.ahead.specs.declared.Ahead.{Ahead}
-use Rattle.ahead.specs.Ahead.{Ticking, inFront, tickingOf, looked, mostTicks}
-use Rattle.ahead.specs.laws.Ahead.{looks, unchanged, sums-are, ahead-adds, sums-add}
+use Rattle.look.specs.declared.Ahead.{Ahead}
+use Rattle.ahead.specs.Ahead.{inFront}
+use Rattle.look.specs.Look.{Ticking, tickingOf, looked, mostTicks}
+use Rattle.look.specs.laws.Ahead.{looks, unchanged, sums-are, ahead-adds, sums-add}
 use Rattle.history.specs.Reply.{tickReply}
 use Rattle.history.specs.History.{History}
 use Rattle.history.specs.Contracts.{Looks}
 use Rattle.history.specs.Look.{onlyTicks, Foretold, EveryLook, EveryLookSum, EveryLookOn}
-use Rattle.history.specs.laws.Claim.{claim}
-
--- every record of a history is sound
-stays-sound : {m m′ : Bench} {cs : List Call} {rs : List Reply} → History m cs rs m′ → soundOf m ≡ true → soundOf m′ ≡ true
-stays-sound History.ends e = e
-stays-sound {m} (History.loads b r h t) e = stays-sound t (rw h (load-keeps m e b))
-stays-sound {m} (History.ticks r h t) e = stays-sound t (rw h (tick-keeps m e))
-stays-sound {m} (History.runs κs budget out out′ r h t) e = stays-sound t (rw (h .0) (run-keeps m e budget (length (now out))))
-stays-sound {m} (History.holds r h t) e = stays-sound t (rw h (hold-keeps m e))
-stays-sound {m} (History.releases r h t) e = stays-sound t (rw h (release-keeps m e))
-stays-sound {m} (History.stops r h t) e = stays-sound t (rw h (stop-keeps m e))
+use Rattle.history.specs.laws.Claim.{every-history, stays-sound}
 
 -- a history and then another are one
-joined : {m k m′ : Bench} {cs ds : List Call} {rs ss : List Reply} → History m cs rs k → History k ds ss m′
+joined : {m k m′ : Machine} {cs ds : List Call} {rs ss : List Reply} → History m cs rs k → History k ds ss m′
     → History m (cs ++ ds) (rs ++ ss) m′
 joined History.ends u = u
 joined (History.loads b r h t) u = History.loads b r h (joined t u)
@@ -46,8 +34,8 @@ joined (History.releases r h t) u = History.releases r h (joined t u)
 joined (History.stops r h t) u = History.stops r h (joined t u)
 
 -- the ticks of a history are ticks one after the other
-record OneByOne (t : Ticking) (rs : List Reply) (m′ : Bench) : Type 0 where
-  leads : t .bench ≡ m′
+record OneByOne (t : Ticking) (rs : List Reply) (m′ : Machine) : Type 0 where
+  leads : t .machine ≡ m′
   x : pulsesIn codeX (t .bytes) ≡ pulsesSent codeX rs
   y : pulsesIn codeY (t .bytes) ≡ pulsesSent codeY rs
 
@@ -56,16 +44,16 @@ sent : (code : ℕ → ℕ) (k : Tick) (bytes : List ℕ) (rs : List Reply) → 
 sent code (Tick.Byte b) bytes rs e = rw (e, +ℤ-idr (pulseOf (code b)))
 sent code (Tick.Refused n) bytes rs e = e ∙ sym (+ℤ-idl (pulsesSent code rs))
 
-one-by-one : (n : ℕ) {m m′ : Bench} {rs : List Reply} → History m (onlyTicks n) rs m′ → OneByOne (tickingOf n m) rs m′
+one-by-one : (n : ℕ) {m m′ : Machine} {rs : List Reply} → History m (onlyTicks n) rs m′ → OneByOne (tickingOf n m) rs m′
 unfolding tickingOf pulsesSent
 one-by-one zero History.ends = record { leads = refl; x = refl; y = refl }
 one-by-one (suc n) {m} {m′} (History.ticks {rs = rs} r h t) =
-    let s : OneByOne (tickingOf n (r .bench)) rs m′ = one-by-one n t in
-    let bytes = tickingOf n (r .bench) .bytes in
+    let s : OneByOne (tickingOf n (r .machine)) rs m′ = one-by-one n t in
+    let bytes = tickingOf n (r .machine) .bytes in
     rw (← h) (record { leads = s .leads; x = sent codeX (r .tick) bytes rs (s .x); y = sent codeY (r .tick) bytes rs (s .y) })
 
-foretold : (m : Bench) → soundOf m ≡ true → (n : ℕ) → n ≤ mostTicks → (r : Ahead) → Looks m n r
-    → (rs : List Reply) (m′ : Bench) → History m (onlyTicks n) rs m′ → Foretold m r rs m′
+foretold : (m : Machine) → soundOf m ≡ true → (n : ℕ) → n ≤ mostTicks → (r : Ahead) → Looks m n r
+    → (rs : List Reply) (m′ : Machine) → History m (onlyTicks n) rs m′ → Foretold m r rs m′
 foretold m sound n most r look rs m′ more =
     let e : r ≡ looked m (tickingOf n m) = look ∙ looks m n sound most in
     let s = one-by-one n more in
@@ -74,7 +62,7 @@ foretold m sound n most r look rs m′ more =
       then = ap (λ (a : Ahead). a .then) e ∙ s .leads;
       pulses-x = ap (λ (a : Ahead). a .sums .x) e ∙ s .x;
       pulses-y = ap (λ (a : Ahead). a .sums .y) e ∙ s .y;
-      unchanged = ap (λ (a : Ahead). a .bench) e;
+      unchanged = ap (λ (a : Ahead). a .machine) e;
     }
 
 pub every-look : EveryLook
@@ -83,7 +71,7 @@ every-look =
       ticks = foretold;
       history = λ asked made h cs before m t n most r look rs m′ more.
           let f = foretold m (stays-sound t (rw h (make-keeps asked))) n most r look rs m′ more in
-          (f, rw (f .then) (claim asked made h (cs ++ onlyTicks n) (before ++ rs) m′ (joined t more)));
+          (f, rw (f .then) (every-history asked made h (cs ++ onlyTicks n) (before ++ rs) m′ (joined t more)));
     }
 
 -- ---- of any record

@@ -9,7 +9,7 @@ use Rattle.block.specs.declared.Block.{Block}
 use Rattle.block.specs.Block.{blockCycles}
 use Rattle.block.specs.Charge.{blockCharges}
 use Rattle.block.specs.Questions.{loadNo}
-use Rattle.book.specs.Book.{addedBy}
+use Rattle.book.specs.Bench.{addedBy}
 use Rattle.book.specs.Ledger.{blockTicks}
 use Rattle.book.specs.Sums.{cyclesMarked}
 use Rattle.book.specs.laws.Begins.{Begun, accepted-begins}

@@ -18,7 +18,7 @@ use Rattle.run.specs.Run.{Strip, stripOf}
 use Rattle.bench.specs.declared.Bench.{Bench}
 use Rattle.settings.specs.Settings.{capacityOf}
 use Rattle.bench.specs.Bench.{soundOf, movedOf}
-use Rattle.bench.specs.Calls.{loadWith, loadOf, ticks, working, tickOf, holdOf, releaseOf, stopOf}
+use Rattle.bench.specs.Calls.{loadWith, loadOf, ticks, working, tickOf}
 use Rattle.bench.specs.Run.{ranOver, noTick, runOf}
 use Rattle.bench.specs.declared.Report.{Report}
 use Rattle.bench.specs.declared.Tick.{Tick}
@@ -47,17 +47,10 @@ module _ (m : Bench) (e : soundOf m ≡ true) where
   unfolding movedOf
   moved s = sound-test (record { settings = parts .settings; in-travel = inside-test (s .inside); below = s .below; work = s .sound })
 
-  pub hold-keeps : soundOf (holdOf m .bench) ≡ true
-  unfolding holdOf
-  hold-keeps = rw e e
-
-  pub release-keeps : soundOf (releaseOf m .bench) ≡ true
-  unfolding releaseOf
-  release-keeps = rw e e
-
-  pub stop-keeps : soundOf (stopOf m .bench) ≡ true
-  unfolding stopOf workSound
-  stop-keeps = rw e (moved (record { inside = inside (parts .in-travel); below = omega (arith, right .clock-some); sound = refl }))
+  -- with nothing in work and no remainder, as after a stop
+  pub stopped-sound : soundOf (movedOf m (m .at) 0 Work.Nothing) ≡ true
+  unfolding workSound
+  stopped-sound = moved (record { inside = inside (parts .in-travel); below = omega (arith, right .clock-some); sound = refl })
 
   pub load-keeps : (b : Block) → soundOf (loadOf m b .bench) ≡ true
   unfolding loadOf loadNo begunOf

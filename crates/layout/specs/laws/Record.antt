@@ -6,6 +6,7 @@ use Prim.Native.Nat.{ℕ, _^_, _≤_, _<_}
 use native.Mathlib.Omega.{arith}
 use lib.Dec.{eqb}
 use lib.IntN.{ℤ, pos}
+use Rattle.whole.specs.laws.Test.{both}
 use Rattle.plane.specs.declared.point.Point.{Point}
 use Rattle.plane.specs.declared.travel.Travel.{Travel}
 use Rattle.circle.specs.declared.plane.Turn.{Turn}
@@ -21,6 +22,7 @@ use Rattle.bench.specs.Bench.{soundOf}
 use Rattle.settings.specs.laws.Right.{settings-right}
 use Rattle.bench.specs.laws.Sound.{sound}
 use Rattle.layout.specs.Words.{wordOf, countOf, markWord, turnWord, workWords, workWordsOf, workOf, encodeOf, machineIn, isRecord}
+use Rattle.layout.specs.Words.{soundWords}
 use Rattle.layout.specs.laws.Number.{word-small}
 use Rattle.layout.specs.laws.Same.{same-true, same-self}
 
@@ -96,3 +98,20 @@ machine-back m e =
 pub record-of : (m : Bench) → soundOf m ≡ true → isRecord (encodeOf m) ≡ true
 unfolding isRecord
 record-of m e = rw (machine-back m e, same-self (encodeOf m))
+
+-- ---- words of a sound record
+
+module _ (ws : List ℤ) (t : soundWords ws ≡ true) where
+  -- they are those of the machine that they tell, which is sound
+  pub words-are : ws ≡ encodeOf (machineIn ws)
+  unfolding soundWords
+  words-are = sym (record-words ws (both {a = isRecord ws} t .0))
+
+  pub told-sound : soundOf (machineIn ws) ≡ true
+  unfolding soundWords
+  told-sound = both {a = isRecord ws} t .1
+
+-- the words of a sound machine
+pub sound-words : (m : Bench) → soundOf m ≡ true → soundWords (encodeOf m) ≡ true
+unfolding soundWords
+sound-words m e = rw (record-of m e, machine-back m e, e)

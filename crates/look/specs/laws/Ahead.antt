@@ -8,8 +8,11 @@ use lib.IntN.{ℤ, pos, _+ℤ_, _-ℤ_}
 use borrow.Author.Tests.{leb-true, le-leb, lt-leb}
 use Rattle.whole.specs.laws.Difference.{ring, var, num, _⊕_, _⊖_}
 use Rattle.plane.specs.declared.point.Point.{Point}
+use Rattle.plane.specs.laws.Travel.{inside}
 use Rattle.arc.specs.Centre.{Near}
-use Rattle.ahead.specs.laws.Ahead.{sound-near as bench-near}
+use Rattle.arc.specs.laws.Work.{travel-near}
+use Rattle.settings.specs.laws.Right.{settings-right}
+use Rattle.bench.specs.laws.Sound.{sound as bench-parts}
 use Rattle.machine.specs.declared.Machine.{Machine}
 use Rattle.machine.specs.Machine.{soundOf}
 use Rattle.machine.specs.laws.Right.{sound}
@@ -21,7 +24,8 @@ use Rattle.look.specs.laws.Ticks.{ticking-sound, ticking-adds}
 
 -- a sound record's point is in travel
 pub sound-near : (m : Machine) → soundOf m ≡ true → Near 1000000 (m .bench .at)
-sound-near m e = bench-near (m .bench) (sound m e .bench)
+sound-near m e =
+    let s = bench-parts (sound m e .bench) in travel-near (settings-right (m .bench .settings) (s .settings) .wide) (inside (s .in-travel))
 
 module _ (m : Machine) (n : ℕ) where
   pub looks : soundOf m ≡ true → n ≤ mostTicks → aheadOf m n ≡ looked m (tickingOf n m)

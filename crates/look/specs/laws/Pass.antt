@@ -32,7 +32,8 @@ use Rattle.machine.specs.laws.Next.{coming}
 use Rattle.machine.specs.laws.Keeps.{next-sound, tick-keeps}
 use Rattle.look.specs.declared.Passed.{Passed}
 use Rattle.look.specs.Look.{tickingOf, passOf}
-use Rattle.look.specs.laws.Ticks.{tick-goes-on, next-own}
+use Rattle.machine.specs.laws.Rest.{next-own}
+use Rattle.look.specs.laws.Ticks.{tick-goes-on}
 
 -- ---- the ticks of one block: the bench after them
 
@@ -79,25 +80,25 @@ module _ (m : Machine) (e : soundOf m ≡ true) (a : AtWork (m .bench)) where
   abbrev k : Bench
   k = m .bench
 
-  abbrev next : Advance
+  abbrev pub next : Advance
   next = advanceOf (capacityOf (k .settings)) (k .at) (k .remainder) (k .work)
 
-  abbrev moved : Bench
+  abbrev pub moved : Bench
   moved = movedOf k (next .at) (next .remainder) (next .work)
 
-  tick : tickOf m .machine ≡ nextOf moved (m .queue)
+  pub tick : tickOf m .machine ≡ nextOf moved (m .queue)
   tick = tick-goes-on m e (sym (ap (λ (t : Ticked). t .bench) (tick-works k (a .sound) (a .free) (a .busy) refl)))
 
   -- the block goes on
   module _ (busy : isNothing (next .work) ≡ false) where
-    same : nextOf moved (m .queue) ≡ machineOf moved (m .queue)
+    pub same : nextOf moved (m .queue) ≡ machineOf moved (m .queue)
     unfolding nextOf movedOf
     same = rw busy refl
 
-    kept : soundOf (machineOf moved (m .queue)) ≡ true
+    pub kept : soundOf (machineOf moved (m .queue)) ≡ true
     kept = subst (λ (m′ : Machine). soundOf m′ ≡ true) (tick ∙ same) (tick-keeps m e)
 
-    working-on : AtWork moved
+    pub working-on : AtWork moved
     unfolding machineOf movedOf
     working-on = record { sound = sound (machineOf moved (m .queue)) kept .bench; free = a .free; busy = busy }
 

@@ -1,18 +1,18 @@
 -- The record after ticks, and that it stays as it was where they are no working ones.
 use mathlib.Core.Path.{_≡_, refl, ap, _∙_}
-use mathlib.Core.Bool.{Bool, true, false, cond}
+use mathlib.Core.Bool.{true, false}
 use Prim.Native.Nat.{ℕ, zero, suc, _+_}
 use native.Mathlib.Omega.{arith}
-use Rattle.work.specs.Work.{isNothing}
 use Rattle.bench.specs.declared.Bench.{Bench}
 use Rattle.bench.specs.Calls.{tickOf as benchTick}
 use Rattle.finish.specs.Finish.{worksOf}
 use Rattle.ahead.specs.Ahead.{tickingOf as benchTicking}
 use Rattle.ahead.specs.laws.Ticks.{ticking-rests as bench-rests}
 use Rattle.machine.specs.declared.Machine.{Machine}
-use Rattle.machine.specs.Machine.{soundOf, machineOf}
-use Rattle.machine.specs.Calls.{firstIn, nextOf, tickOf}
-use Rattle.machine.specs.laws.Right.{Sound, sound, own-record}
+use Rattle.machine.specs.Machine.{soundOf}
+use Rattle.machine.specs.Calls.{nextOf, tickOf}
+use Rattle.machine.specs.laws.Right.{sound}
+use Rattle.machine.specs.laws.Rest.{next-own}
 use Rattle.machine.specs.laws.Keeps.{tick-keeps}
 use Rattle.look.specs.Look.{tickingOf}
 
@@ -41,20 +41,6 @@ pub tick-goes-on : (m : Machine) → soundOf m ≡ true → {k : Bench} → benc
     → tickOf m .machine ≡ nextOf k (m .queue)
 unfolding tickOf
 tick-goes-on m e is = rw (e, is) refl
-
--- nothing comes into work where no block has ended
-pub next-own : (m : Machine) → Sound m → nextOf (m .bench) (m .queue) ≡ m
-unfolding nextOf
-next-own m i = by (isNothing (m .bench .work)) refl
-  where
-    first : (n : ℕ) → n ≡ 0 → firstIn (m .bench) (m .queue) n ≡ m
-    first zero e = own-record m i
-    first (suc n) e = absurd (omega arith)
-
-    by : (idle : Bool) → isNothing (m .bench .work) ≡ idle
-        → cond idle (firstIn (m .bench) (m .queue) (m .queue .len)) (machineOf (m .bench) (m .queue)) ≡ m
-    by true idle = first (m .queue .len) (i .right .none idle)
-    by false busy = own-record m i
 
 -- ---- idle or held
 

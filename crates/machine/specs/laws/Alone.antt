@@ -47,7 +47,7 @@ module _ (k : Bench) where
       by false e = refl
 
 -- after ticks none comes into work
-next-alone : (k : Bench) → nextOf k emptyQueue ≡ alone k
+pub next-alone : (k : Bench) → nextOf k emptyQueue ≡ alone k
 unfolding nextOf emptyQueue
 next-alone k = by (isNothing (k .work))
   where

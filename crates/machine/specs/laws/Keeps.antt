@@ -22,9 +22,9 @@ use Rattle.settings.specs.Settings.{capacityOf, settingsNo, standardSettings}
 use Rattle.settings.specs.laws.Right.{standard-passes}
 use Rattle.bench.specs.declared.Bench.{Bench}
 use Rattle.bench.specs.Bench.{soundOf as benchSound, freshOf as freshBench, movedOf}
-use Rattle.bench.specs.Calls.{loadOf as benchLoad, stopOf as benchStop}
+use Rattle.bench.specs.Calls.{loadOf as benchLoad}
 use Rattle.keeps.specs.laws.Make.{fresh-sound as fresh-bench}
-use Rattle.keeps.specs.laws.Calls.{load-keeps as bench-load-keeps, stop-keeps as bench-stop-keeps}
+use Rattle.keeps.specs.laws.Calls.{load-keeps as bench-load-keeps, stopped-sound}
 use Rattle.machine.specs.declared.Machine.{Machine}
 use Rattle.machine.specs.Machine.{soundOf, machineOf, freshOf, startOf}
 use Rattle.machine.specs.Calls.{makeWith, makeOf, beginning, firstIn, nextOf, takes, loadWith}
@@ -110,10 +110,8 @@ module _ (m : Machine) (e : soundOf m ≡ true) where
   release-keeps = rw e (subst (λ (n : Machine). soundOf n ≡ true) (marked-record m false parts) e)
 
   pub stop-keeps : soundOf (stopOf m .machine) ≡ true
-  unfolding stopOf benchStop emptyQueue
-  stop-keeps =
-      let stopped = bench-stop-keeps (m .bench) (parts .bench) in
-      rw e (record-sound _ _ (rw (parts .bench) at stopped) (λ idle. refl) (empty-sound _ _ _))
+  unfolding stopOf emptyQueue
+  stop-keeps = rw e (record-sound _ _ (stopped-sound (m .bench) (parts .bench)) (λ idle. refl) (empty-sound _ _ _))
 
   module _ (b : Block) where
     abbrev q0 : ℕ

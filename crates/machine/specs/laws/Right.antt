@@ -27,7 +27,7 @@ use Rattle.machine.specs.declared.Machine.{Machine}
 use Rattle.machine.specs.Machine.{toDo, waitingRight, soundOf, machineOf}
 use Rattle.bench.specs.Calls.{markedOf}
 use Rattle.machine.specs.Calls.{markOf}
-use Rattle.machine.specs.Asked.{workOff}
+use Rattle.machine.specs.Asked.{lessOf, workOff}
 
 pub record WaitingRight (q0 : ℕ) (t : Travel) (at : Point) (w : Work) (root left : ℕ) (q : Queue) : Type 0 where
   pub root-is : root ≡ rootIn w
@@ -124,6 +124,11 @@ module _ (at : Point) (w : Work) (root count : ℕ) where
   off-left : workOff at w root count .right ≡ true → workOff at w root count .left ≡ count - cyclesLeft at w
   unfolding workOff
   off-left e = rw (sym off-right ∙ e) refl
+
+  -- by the root
+  pub off-rooted : eqb root (rootIn w) ≡ true → lessOf (cyclesLeft at w) count ≡ workOff at w root count
+  unfolding workOff
+  off-rooted own = rw own refl
 
   -- another root, too many cycles, and one that is taken off
   pub off-unrooted : {r : Bool} → r ≡ eqb root (rootIn w) → r ≡ false → wrong ≡ workOff at w root count

@@ -26,7 +26,7 @@ use Rattle.bench.specs.Run.{ranOver, noTick, runOf}
 use Rattle.machine.specs.declared.Machine.{Machine}
 use Rattle.machine.specs.Asked.{cyclesTold}
 use Rattle.machine.specs.laws.Right.{Sound, sound}
-use Rattle.machine.specs.laws.Onward.{tick-onward, tick-left, run-onward}
+use Rattle.machine.specs.laws.Onward.{Onward, tick-onward, tick-left, run-onward}
 use Rattle.machine.specs.laws.Next.{coming, left-less, left-onward}
 use Rattle.record.specs.Words.{machineIn, soundWords}
 use Rattle.record.specs.Write.{Follows, Later}
@@ -145,6 +145,25 @@ module _ (ws : List ℤ) (t : soundWords ws ≡ true) where
         same = a .same;
         follows = a .follows;
         coming = coming (right .right) o refl (e ∙ left-less (right .right) o (tick-left (m .bench) (right .bench) is) .1);
+      }
+
+  -- ticks of the block in work alone
+  pub strip-later : (n : ℕ) {k′ : Bench} → (let k = m .bench in
+      let s = stripOf (capacityOf (k .settings)) n (k .at) (k .remainder) (k .work) in k′ ≡ movedOf k (s .at) (s .remainder) (s .work))
+      → Onward (m .bench) k′ → {left : ℕ}
+      → left ≡ m .left - cyclesLeft (m .bench .at) (m .bench .work) + cyclesLeft (k′ .at) (k′ .work)
+      → Later ws k′ left
+  unfolding machineIn
+  strip-later n {k′} is o {left} e =
+      let k = m .bench in
+      let s = stripOf (capacityOf (k .settings)) n (k .at) (k .remainder) (k .work) in
+      let a = subst (Ahead k) (sym is)
+      (moved k (s .at) (s .remainder) (s .work) (strip-follows (capacityOf (k .settings)) n (k .at) (k .remainder) (k .work))) in
+      record {
+        sound = t;
+        same = a .same;
+        follows = a .follows;
+        coming = coming (right .right) o refl (e ∙ sym (left-onward (right .right) o));
       }
 
   pub run-later : (budget buffer : ℕ) {r : Ran} → r ≡ runOf (m .bench) budget buffer .ran → {left : ℕ}

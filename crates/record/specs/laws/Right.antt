@@ -23,11 +23,11 @@ use Rattle.queue.specs.Test.{fits, takenOff, holds}
 use Rattle.queue.specs.laws.Test.{soundWith, too-long, tested, off-right, off-left}
 use Rattle.layout.specs.declared.encode.Head.{Head}
 use Rattle.layout.specs.declared.encode.WorkWords.{WorkWords}
-use Rattle.layout.specs.Words.{at, wordOf, countOf, headOf, headIn, workWordsOf, workWordsIn, workOf}
+use Rattle.layout.specs.Words.{abi, at, wordOf, countOf, headOf, headIn, workWordsOf, workWordsIn, workOf}
 use Rattle.layout.specs.laws.Same.{same-true, same-words}
 use Rattle.layout.specs.laws.Right.{count-again, count-right, zero-right, head-again, head-right, WorkFits, work-again, work-right, wordsAt}
 use Rattle.record.specs.declared.read.BlockWords.{BlockWords}
-use Rattle.record.specs.Words.{abi, figuresOf, frontOf, blockWords, blockWordsAlong, blockWordsOf, sevenOf, queueWords, encodeOf}
+use Rattle.record.specs.Words.{figuresOf, frontOf, blockWords, blockWordsAlong, blockWordsOf, sevenOf, queueWords, encodeOf}
 use Rattle.record.specs.Words.{over}
 use Rattle.record.specs.Words.{waitingOf, pathOf, blockWordsIn, waitingIn, placesIn, queueIn, figuresIn, lenIn, benchIn, machineIn}
 use Rattle.record.specs.Words.{isRecord}

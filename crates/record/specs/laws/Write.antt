@@ -28,10 +28,10 @@ use Rattle.machine.specs.Machine.{soundOf, machineOf, toDo}
 use Rattle.machine.specs.Calls.{markOf, beginning, nextOf}
 use Rattle.machine.specs.laws.Right.{sound, marked-record}
 use Rattle.machine.specs.laws.Next.{next-busy, next-none, first-accepted, next-first}
-use Rattle.layout.specs.Words.{wordOf, markWord, headOf, workWordsOf}
-use Rattle.record.specs.Words.{abi, figuresOf, frontOf, queueWords, encodeOf, over, waitingIn, placesIn, queueIn, lenIn, benchIn}
+use Rattle.layout.specs.Words.{abi, wordOf, markWord, headOf, workWordsOf}
+use Rattle.record.specs.Words.{figuresOf, frontOf, queueWords, encodeOf, over, waitingIn, placesIn, queueIn, lenIn, benchIn}
 use Rattle.record.specs.Words.{machineIn, isRecord, soundWords}
-use Rattle.record.specs.Write.{Bringing, Follows, Later, setPlace, setWork, shifted, stopped, broughtOf, ticked, idleOf}
+use Rattle.record.specs.Write.{Bringing, Follows, Later, setPlace, setWork, shifted, emptied, broughtOf, ticked, idleOf}
 use Rattle.layout.specs.laws.Record.{count-word}
 use Rattle.record.specs.laws.Places.{queue-length}
 use Rattle.record.specs.laws.Record.{record-words}
@@ -61,9 +61,19 @@ module _ (ws : List ℤ) (t : soundWords ws ≡ true) where
       ap (λ (l : List ℤ). set l 9 (markWord held)) words-are
       ∙ ap (λ (n : Machine). over (encodeOf n) ws) (marked-record m held (sound m told-sound))
 
-  pub stops : stopped ws ≡ over (encodeOf (idleOf m)) ws
+  none-left : lenIn (emptied ws) ≡ 0
+  none-left = ap (λ (l : List ℤ). lenIn (emptied l)) words-are
+
+  -- nothing comes into work where none waits
+  pub stop-brings : (p : Point) → Bringing (emptied ws) p
+  stop-brings p = record { most = omega (arith, none-left); begins = λ some. absurd (omega (arith, none-left)) }
+
+  pub stops : (p : Point) → broughtOf (emptied ws) p (lenIn (emptied ws)) ≡ over (encodeOf (idleOf m)) ws
   unfolding encodeOf machineIn machineOf movedOf emptyQueue toDo chainCycles queueWords wordOf
-  stops = ap stopped words-are ∙ ap (whole (movedOf (benchIn ws) (benchIn ws .at) 0 Work.Nothing) 0 0 0) (sym (ap (drop 22) words-are))
+  stops p =
+      ap (broughtOf (emptied ws) p) none-left
+      ∙ ap (λ (l : List ℤ). broughtOf (emptied l) p 0) words-are
+      ∙ ap (whole (movedOf (benchIn ws) (benchIn ws .at) 0 Work.Nothing) 0 0 0) (sym (ap (drop 22) words-are))
 
 -- ---- after ticks
 

@@ -9,11 +9,11 @@ use mir.Val.{SFits}
 use mir.Facts.{toZ-ofZ}
 use Rattle.whole.specs.Equal.{equalZ}
 use Rattle.layout.specs.declared.encode.Head.{Head}
-use Rattle.layout.specs.Words.{at, headIn, workWordsIn}
+use Rattle.layout.specs.Words.{abi, at, headIn, workWordsIn}
 use Rattle.layout.specs.Right.{headRight, workRight}
 use Rattle.layout.specs.laws.Right.{WorkFits}
 use Rattle.record.specs.declared.read.Figures.{Figures}
-use Rattle.record.specs.Words.{abi, figuresIn}
+use Rattle.record.specs.Words.{figuresIn}
 use Rattle.record.specs.Right.{figuresRight, isFront, frontRight}
 use Rattle.record.specs.laws.Right.{front-same}
 use Rattle.record.proofs.sound.is_front.Statement.{statement}

@@ -1,0 +1,51 @@
+-- What the check of a job text tells a caller in C, for any words whatever.
+use mathlib.Core.Path.{_≡_}
+use mathlib.Core.Bool.{Bool, true, false, _&&_}
+use mathlib.Core.List.{List}
+use Prim.Native.Nat.{ℕ}
+use lib.IntN.{ℤ, negsuc}
+use Rattle.settings.specs.declared.Settings.{Settings}
+use Rattle.bench.specs.Calls.{makeOf}
+use Rattle.job.specs.declared.Check.{Check}
+use Rattle.job.specs.Check.{startOf, isOver, Fills}
+use Rattle.layout.specs.Words.{markWord, encodeOf, machineIn, soundWords}
+use Rattle.progress.specs.declared.progress.DecodedProgress.{DecodedProgress}
+use Rattle.progress.specs.Progress.{encodeProgress, decodeProgress}
+use Rattle.calls.specs.Calls.{answerNumber, Told, tells}
+
+-- settings are answered as by a make, and the words are those of its fresh bench
+abbrev pub benchMade : Settings → Told
+benchMade s = tells (answerNumber (makeOf s .answer)) (encodeOf (makeOf s .bench))
+
+-- the progress of a check that begins there
+abbrev pub startProgress : Settings → List ℤ
+startProgress s = encodeProgress (startOf (makeOf s .bench))
+
+-- the check that the words of a bench and of its progress tell, if they are a sound bench's and one's
+abbrev pub checkTold : (ws ps : List ℤ) → DecodedProgress
+checkTold ws ps = decodeProgress (machineIn ws) ps
+
+unfoldable pub isCheck : (ws ps : List ℤ) → Bool
+isCheck ws ps = soundWords ws && checkTold ws ps .ok
+
+-- words that are no check: 9, and nothing changed
+pub record Refuses (ws ps : List ℤ) (old : List ℕ) (answer : ℤ) (len : ℕ) (ws′ ps′ : List ℤ) (new : List ℕ) : Type 0 where
+  pub nine : answer ≡ negsuc 8
+  pub none : len ≡ 0
+  pub record-kept : ws′ ≡ ws
+  pub progress-kept : ps′ ≡ ps
+  pub buffer-kept : new ≡ old
+
+-- those of the check c: the next of its rows, and the words of the check after them; 1 once all is handed out
+pub record Hands (c : Check) (text old : List ℕ) (answer : ℤ) (len : ℕ) (ws′ ps′ : List ℤ) (new : List ℕ) : Type 0 where
+  pub next : Check
+  pub fills : Fills c text old (record { len = len; check = next }) new
+  pub words : ws′ ≡ encodeOf (next .tally .bench)
+  pub progress : ps′ ≡ encodeProgress next
+  pub over : answer ≡ markWord (isOver next)
+
+-- what a fill tells, whatever the words
+pub data TellsFill (ws ps : List ℤ) (text old : List ℕ) (answer : ℤ) (len : ℕ) (ws′ ps′ : List ℤ) (new : List ℕ) : Type 0 where
+  check : isCheck ws ps ≡ true → Hands (checkTold ws ps .check) text old answer len ws′ ps′ new
+      → TellsFill ws ps text old answer len ws′ ps′ new
+  no-check : isCheck ws ps ≡ false → Refuses ws ps old answer len ws′ ps′ new → TellsFill ws ps text old answer len ws′ ps′ new

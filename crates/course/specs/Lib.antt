@@ -1,7 +1,0 @@
--- To be believed: Agree, Reply, Contracts, History, Demand. Proved of them: laws.
-pub mod Agree
-pub mod Reply
-pub mod Contracts
-pub mod History
-pub mod Demand
-pub mod laws

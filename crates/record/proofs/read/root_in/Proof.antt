@@ -1,0 +1,25 @@
+-- `root_in` is right because it reads its word as a count.
+use borrow.Author.Needs.{needs}
+use mathlib.Core.Path.{ap, _∙_}
+use mir.Syntax.{w64}
+use mir.Val.{SFits}
+use mir.Facts.{toZ-ofZ}
+use Rattle.layout.specs.Words.{countOf}
+use Rattle.record.specs.declared.read.Figures.{Figures}
+use Rattle.record.proofs.read.root_in.Statement.{statement}
+use Rattle.record.proofs.read.root_in.Tie as tie
+
+figures-in-requires : tie.Need-figures-in-requires
+figures-in-requires c κs = search needs
+
+count-requires : tie.Need-count-requires
+count-requires c κs = search needs
+
+returns : tie.Need-returns
+returns c =
+    let g = c .before .before .figures-in in
+    let f : SFits w64 (g .result .root) = search needs in
+    (simp toZ-ofZ at (c .count .ensures)) ∙ ap (λ (f : Figures). countOf (f .root)) (g .ensures)
+
+pub root-in-spec : {M : Type 1} → statement M
+root-in-spec = tie.close (tie.spec figures-in-requires count-requires returns)
