@@ -1,19 +1,20 @@
 /* The pulse core of a two-axis cutting table for C.
  *
  * The core turns lines and arcs into step pulses for X and Y, one clock tick at a time, so that the path keeps to the block
- * and the speed to the feed. It holds no memory of its own: all that it knows stands in a record of 19 words that the
+ * and the speed to the feed. It holds no memory of its own: all that it knows stands in a record of 134 words that the
  * caller owns. Nothing is allocated, nothing is static, and two records never touch one another.
  *
  * The code behind each call is proved to answer as said here for every content of the words and every argument; the
  * compiler and this text are not part of the proof. What the caller owes: pointers that are not null and point to as much as
  * the type says, that don't overlap, and one call at a time on one record.
  *
- * Use: vz_make once; then for each block a vz_load_.. and vz_tick (from the clock's interrupt) or vz_run until the block ends.
- * vz_ahead tells where so many more ticks will leave it. A board that is given a job text reads it line by line with vz_read_line;
- * vz_check_start and vz_check_fill list it beforehand.
+ * Use: vz_make once; then a vz_load_.. for each block as it comes, while fewer than 16 wait behind the one in work, and meanwhile vz_tick
+ * (from the clock's interrupt) or vz_run. While a block waits, the knife does not halt where one ends, however late the sender is. vz_ahead
+ * tells where so many more ticks will leave it. A board that is given a job text reads it line by line with vz_read_line; vz_check_start
+ * and vz_check_fill list it beforehand.
  *
  * Needed: C11 or C++11, and an x86-64 machine: tools/archive writes target/libverdaizka.a for it.
- * From outside the archive needs memset alone.
+ * From outside the archive needs memmove and memset alone.
  *     cc -std=c11 -Iinclude program.c target/libverdaizka.a
  * examples/c has whole programs: square_and_circle.c, look_ahead.c, run_a_job.c, check_a_job.c.
  *
@@ -21,18 +22,23 @@
  * every one. What a refusal writes: vz_run sets *ticks and vz_check_fill *written to 0; vz_ahead copies the record to *then and sets
  * both sums to 0; vz_make and vz_check_start make their words anew. All else stays as it was, every word and every byte.
  *
- * Work: every call does a bounded number of steps but for what it writes or reads. At most, beside sums, products and tests:
- *     vz_make, vz_hold, vz_release, vz_stop, vz_tick   no loop, no root, no division
- *     vz_load_cw, vz_load_ccw                          the same
- *     vz_load_line                                     one root: one division of doubles and, where its guess fails, 32 halvings
- *     vz_run                                           on a line five divisions, on an arc four and two such roots; a turn a cycle, and the
- *                                                      bytes of its ticks cleared once
- *     vz_ahead                                         whatever the ticks: on a line four divisions, on an arc three and five such roots,
- *                                                      and one of each for each place that it tries: two as measured, 38 at most
- *     vz_read_line                                     a turn for each byte of the line, then a load
- *     vz_check_start                                   as vz_make
- *     vz_check_fill                                    for each text line it lists: vz_read_line, of an arc two such roots, a division, the
- *                                                      row's digits
+ * Work: every call does a bounded number of steps but for what it writes or reads. Each but vz_make and the check's two first tests the
+ * whole record: 22 words and, in a loop, seven for each block that waits, by sums, products and comparisons alone, without a root or a
+ * division. Beside that test, and beside sums, products and comparisons, at most:
+ *     vz_make                       no root, no division; the 22 words that it writes
+ *     vz_hold, vz_release, vz_stop  no loop, no root, no division
+ *     vz_tick                       the same; but where a block ends and another waits: a root if that is a line, and the words of those
+ *                                   behind it move up, 105 at most
+ *     vz_load_line, _cw, _ccw       one root: one division of doubles and, where its guess fails, 32 halvings
+ *     vz_run                        on a line five divisions, on an arc four and two such roots; a turn a cycle, and the bytes of its
+ *                                   ticks cleared once; and as vz_tick where the block ends
+ *     vz_ahead                      134 words copied; whatever the ticks, for each block on the way, 17 at most, on a line four divisions,
+ *                                   on an arc three and five such roots, and as vz_tick where it ends; on an arc that does not end, one
+ *                                   of each for each place that it tries: two as measured, 38 at most
+ *     vz_read_line                  a turn for each byte of the line, then a load
+ *     vz_check_start                as vz_make
+ *     vz_check_fill                 its 19 and 8 words tested; for each text line it lists: a turn for each byte, a load, of an arc two
+ *                                   such roots, a division, the row's digits; no block waits there
  * Whole numbers confirm the guess, so no setting of the floating-point unit makes an answer another; a program that has unmasked its
  * exceptions masks them again before it calls.
  *
@@ -43,8 +49,9 @@
  *            to the remainder; where that reaches the charge of the next cycle times 60 * w, this comes off and the cycle is done. A
  *            diagonal step of an arc is charged 1,414, every other cycle 1,000. A tick does at most one, so 60 * w is the fastest.
  *            So a line keeps the feed, and an arc where it runs along an axis or at 45 degrees; between these it is up to 8 percent
- *            slower. A block whose cycles are charged C together and that is loaded at remainder r ends on its working tick
- *            (C * 60 * w - r) / (1,000 * feed), rounded up; an arc of k cycles and n pulses is charged 586 * k + 414 * n.
+ *            slower. A block whose cycles are charged C together and that comes into work at remainder r ends on the working tick
+ *            (C * 60 * w - r) / (1,000 * feed), rounded up, counted from there; an arc of k cycles and n pulses is charged
+ *            586 * k + 414 * n.
  *   cycle    the step from one point of the path to the next: one pulse or none on each axis. A line of a by b pulses takes
  *            the root of a * a + b * b, rounded up, of them; an arc one for each point that it visits.
  */
@@ -71,19 +78,28 @@ extern "C" {
 /* ---- the record */
 
 /* The number of this layout of words, and of what they mean. Every record has it in its first word, so one that was saved under
- * another layout gets 9 and is not misread. Under 1 the remainder was a thousandth of what it is now: a record of layout 1 is one
- * of layout 2 once its first word is 2 and its remainder is multiplied by 1,000. A program can ask at its start whether archive and
- * header belong together: after a vz_make that word is VZ_ABI. */
-#define VZ_ABI 2
+ * another layout gets 9 and is not misread. A program can ask at its start whether archive and header belong together: after a vz_make
+ * that word is VZ_ABI.
+ *
+ * A record of layout 2 had words 0 to 18 alone, with the same meaning. One with nothing in work is a record of this layout once its first
+ * word is 3 and three words of 0 stand behind it. One with a block in work: let the block end, or vz_stop it, under the old archive; or
+ * write the three words: the root (see VZ_WORD_ROOT), the cycles still to do (of a line word 17 less word 18; of an arc the bytes with
+ * VZ_CYCLE that ticks on a copy give to its end), and 0. Wrong ones get 9. Under 1 the remainder was a thousandth of what it is in 2. */
+#define VZ_ABI 3
 
-#define VZ_RECORD_WORDS 19
+#define VZ_QUEUE_BLOCKS 16 /* as many may wait behind the block in work */
+#define VZ_BLOCK_WORDS 7   /* of each one that waits */
+#define VZ_RECORD_WORDS 134
 
-/* Written by the calls alone. It may be read, copied, saved and brought back; a copy is a machine of its own. */
+/* Written by the calls alone. It may be read, copied, saved and brought back; a copy is a machine of its own. The record's words are
+ * the first 22 and seven for each block that waits. Those behind them are no part of it: no answer depends on them, and no call writes
+ * behind the record that it leaves; vz_ahead copies them. So vz_make leaves all from word 22 on as they are, and of a record that is saved
+ * VZ_WAITING_WORD(word[VZ_WORD_WAITING], 0) words are enough. */
 typedef struct vz_record {
     int64_t word[VZ_RECORD_WORDS];
 } vz_record;
 
-VZ_ASSERT(sizeof(vz_record) == 8 * VZ_RECORD_WORDS, "a record is 19 words of 64 bits");
+VZ_ASSERT(sizeof(vz_record) == 8 * VZ_RECORD_WORDS, "a record is 134 words of 64 bits");
 
 /* Which word is what. */
 enum vz_word {
@@ -100,9 +116,30 @@ enum vz_word {
     VZ_WORD_REMAINDER = 10, /* what the feed has left over, below 1,414 * 60 * w: a tick adds 1,000 times the feed, and a cycle
                                takes its charge times 60 * w off. It goes on to the next block. */
     VZ_WORD_WORK = 11,      /* what is in work: 0 nothing, 1 a line, 2 an arc clockwise, 3 an arc counterclockwise */
-    VZ_WORD_NUMBERS = 12    /* seven words. Line: start x, start y, end x, end y, feed, cycles, cycles done.
+    VZ_WORD_NUMBERS = 12,   /* seven words. Line: start x, start y, end x, end y, feed, cycles, cycles done.
                                Arc: centre x, centre y, square of the radius, end x, end y, feed, 0. Nothing: all 0. */
+    VZ_WORD_ROOT = 19,      /* of a line in work its cycles; of an arc the cycles of a quarter turn, which are the root of twice the
+                               square of the radius, rounded to the nearest; of nothing 0. So the test of a record takes no root. */
+    VZ_WORD_LEFT = 20,      /* the cycles still to do over the block in work and all that wait */
+    VZ_WORD_WAITING = 21,   /* how many wait, 0 to VZ_QUEUE_BLOCKS; 0 where nothing is in work */
+    VZ_WORD_QUEUE = 22      /* VZ_BLOCK_WORDS words for each block that waits, the first to be cut first */
 };
+
+/* Of a block that waits, which word is what: the block as its load was given it, and its root. */
+enum vz_block_word {
+    VZ_BLOCK_KIND = 0, /* 1 a line, 2 an arc clockwise, 3 an arc counterclockwise */
+    VZ_BLOCK_X = 1,    /* its end, in pulses */
+    VZ_BLOCK_Y = 2,
+    VZ_BLOCK_FEED = 3,
+    VZ_BLOCK_I = 4,    /* its centre seen from its start, in pulses; of a line 0 */
+    VZ_BLOCK_J = 5,
+    VZ_BLOCK_ROOT = 6  /* as VZ_WORD_ROOT */
+};
+
+/* Where such a word stands: of the n-th block that waits, counted from 0. */
+#define VZ_WAITING_WORD(n, block_word) (VZ_WORD_QUEUE + VZ_BLOCK_WORDS * (n) + (block_word))
+
+VZ_ASSERT(VZ_RECORD_WORDS == VZ_WAITING_WORD(VZ_QUEUE_BLOCKS, 0), "a record has room for 16 blocks that wait");
 
 /* ---- refusals: what each number says, and its usual cure */
 
@@ -113,10 +150,10 @@ enum vz_refusal {
     VZ_REFUSED_RECORD = 9,  /* the words are no sound record: never made, saved under another layout, or written by something
                                else than these calls. Call vz_make, find the table's zero again, and look for what wrote there.
                                Of the calls on a job text also: the known G and F, or the progress, are none. */
-    VZ_REFUSED_BUSY = 10,   /* a block is in work. Tick to its end, or vz_stop. */
+    VZ_REFUSED_FULL = 10,   /* 16 blocks wait already. Tick until the block in work has ended, then give the same one again. */
     VZ_REFUSED_FEED = 11,   /* the feed is not in 1..60 * w. Slow down, or make with a faster clock. */
     VZ_REFUSED_END = 12,    /* the end is outside the travel. */
-    VZ_REFUSED_STILL = 13,  /* a line to where the machine stands. Leave the block out. */
+    VZ_REFUSED_STILL = 13,  /* a line to where it would start. Leave the block out. */
     VZ_REFUSED_CENTRE = 14, /* i or j is beyond 1,000,000 either way, or both are 0. They are the centre seen from the start. */
     VZ_REFUSED_CIRCLE = 15, /* the end is not on the circle. Seen from the centre, keep its shorter coordinate and round the
                                longer one to the pulse nearest to the circle. A full turn ends where it starts. */
@@ -146,9 +183,13 @@ enum vz_text_refusal {
  * Answers 0; or -1, -2 or -3, the first question that says no, and then the machine is one of p 50, w 5,000 and the widest travel. */
 VZ_ANSWERS int64_t vz_make(vz_record *record, int64_t p, int64_t w, int64_t x_lower, int64_t x_upper, int64_t y_lower, int64_t y_upper);
 
-/* ---- load: a block comes into work. It begins where the machine stands; x and y are its end, counted from (0, 0).
+/* ---- load: a block comes into work or, where one is in work, waits behind those that wait already, VZ_QUEUE_BLOCKS at most: first come,
+ * first cut. It starts where the last block that waits ends, else where the one in work ends, else where the machine stands; x and y are
+ * its end, counted from (0, 0). Held or not does not matter.
  * Answers the register width, positive: the fewest bits for the longer axis of a line, or for the radius of an arc.
- * Or minus the first refusal: -9, -10 to -12, then -13 for a line, -14 to -16 for an arc. A load moves nothing. */
+ * Or minus the first refusal: -9, -10 to -12, then -13 for a line, -14 to -16 for an arc. A load moves nothing. A block that was taken is
+ * not refused later.
+ * Where an interrupt ticks the record, it is masked while a load, or a vz_read_line, is at work: one call at a time on one record. */
 
 VZ_ANSWERS int64_t vz_load_line(vz_record *record, int64_t x, int64_t y, int64_t feed);
 
@@ -157,7 +198,9 @@ VZ_ANSWERS int64_t vz_load_cw(vz_record *record, int64_t x, int64_t y, int64_t f
 VZ_ANSWERS int64_t vz_load_ccw(vz_record *record, int64_t x, int64_t y, int64_t feed, int64_t i, int64_t j);
 
 /* ---- tick: one tick of the clock.
- * Answers the tick byte, 0 to 63, or -9. While idle or held the byte is 0 and nothing changes. */
+ * Answers the tick byte, 0 to 63, or -9. While idle or held the byte is 0 and nothing changes. The tick that ends a block brings the first
+ * that waits into work, with the remainder then, and does no more for it: the next tick is its first. So while blocks wait no tick between
+ * two of them is without work. */
 
 VZ_ANSWERS int64_t vz_tick(vz_record *record);
 
@@ -169,7 +212,8 @@ enum vz_code { VZ_NONE = 0, VZ_PLUS = 1, VZ_MINUS = 2 };
 #define VZ_CYCLE 16
 #define VZ_END 32
 
-/* ---- run: ticks at once, until the budget or the buffer is used up or the block ends.
+/* ---- run: ticks at once, until the budget or the buffer is used up or the block in work ends. It stops there even if another one waits,
+ * which is in work then: the next run does that one.
  * The tick bytes go to the front of out, its other bytes stay. *ticks is always written: how many ticks were done.
  * Answers the report, or -9 with 0 ticks. length is that of out, which is not null even where length is 0. */
 
@@ -177,28 +221,29 @@ VZ_ANSWERS int64_t vz_run(vz_record *record, uint64_t budget, uint8_t *out, size
 
 enum vz_report {
     VZ_IDLE = 0,  /* nothing was in work: 0 ticks */
-    VZ_HELD = 1,  /* the machine was held: 0 ticks */
-    VZ_ENDED = 2, /* the block ended with the last tick */
+    VZ_HELD = 1,  /* a block was in work, and the machine held: 0 ticks */
+    VZ_ENDED = 2, /* the block ended with the last tick, whether or not another one waited */
     VZ_SPENT = 3, /* the budget is used up */
-    VZ_FULL = 4   /* the buffer is full */
+    VZ_FULL = 4   /* the buffer is full, and the budget not used up */
 };
 
 /* ---- hold, release, stop: 0, or -9 */
 
-/* While held, ticks send nothing and the block waits. The core knows no acceleration: the pulses stop with the next tick. */
+/* While held, ticks send nothing and the block in work stays. The core knows no acceleration: the pulses stop with the next tick. */
 VZ_ANSWERS int64_t vz_hold(vz_record *record);
 VZ_ANSWERS int64_t vz_release(vz_record *record);
 
-/* Drops the block in work and sets the remainder to 0. The machine stands where it is; a hold stays. */
+/* Drops the block in work and all that wait, and sets the remainder to 0. The machine stands where it is; a hold stays. */
 VZ_ANSWERS int64_t vz_stop(vz_record *record);
 
 /* ---- ahead: where will it be? The record, and the sum of the pulses on each axis, plus ones less minus ones, that so many vz_tick
- * would give on a copy, if no other call comes between them. The sums are the X and Y of the record ahead less the record's own. No tick
- * is done, so a look of VZ_AHEAD_TICKS takes about as long as one of 1. Ticks while held or idle change nothing, and so do those after the
- * block's end.
+ * would give on a copy, if no other call comes between them: through the blocks that wait too, each of which comes into work where the one
+ * before it ends. The sums are the X and Y of the record ahead less the record's own. No tick is done: a look takes longer for more blocks
+ * on the way, 17 at most, and not for more ticks. Ticks while held or idle change nothing, and so do those after the last block's end.
  * Answers 0; or minus the first refusal, -9, then -38 for more than VZ_AHEAD_TICKS: *then is the record as it stands, and both sums are 0.
- * *then and *sums are always written, record never is; the three don't overlap, so then is not the record itself. Of a sound record *then
- * is one too: to look further than VZ_AHEAD_TICKS, look so far and from there on again.
+ * *then and *sums are always written, record never is; the three don't overlap, so then is not the record itself. All 134 words of *then
+ * are those that so many vz_tick would leave in a copy, those behind its record too. Of a sound record *then is one too: to look further
+ * than VZ_AHEAD_TICKS, look so far and from there on again.
  * Where an interrupt ticks the record, copy it with that interrupt masked and look from the copy: words that change while they are read
  * are those of no machine, and may get -9. */
 
@@ -231,10 +276,11 @@ enum vz_known_word {
 
 #define VZ_NOTHING_KNOWN { { 0, -1 } }
 
-/* line is one line without its LF, length bytes; not null even where length is 0. Call it once the block before has ended.
- * Answers the register width of the block that the line loaded, positive; 0 where the line asks for none (no X, Y, I or J, or
- * a straight line to where the machine stands); or minus the first refusal: -9, -31 to -37, then those of a load. A refused line
- * leaves record and known as they were. */
+/* line is one line without its LF, length bytes; not null even where length is 0. What it leaves out of X and Y is that of the place where
+ * its block would start, as in a load, so lines are read ahead of the knife as blocks are loaded.
+ * Answers the register width of the block that the line loaded, positive; 0 where the line asks for none (no X, Y, I or J, or a straight
+ * line to the place where it would start, even while 16 wait); or minus the first refusal: -9, -31 to -37, then those of a load. A refused
+ * line leaves record and known as they were: one that gets -10 is read again, as it is, once the block in work has ended. */
 VZ_ANSWERS int64_t vz_read_line(vz_record *record, vz_known *known, const uint8_t *line, size_t length);
 
 /* ---- check: the listing of a job text, before a tool moves. It is handed out piece by piece into a buffer of any size; nothing
@@ -246,13 +292,22 @@ VZ_ANSWERS int64_t vz_read_line(vz_record *record, vz_known *known, const uint8_
  *     total 2 4737 284220                  the last line: blocks, cycles and ticks
  *     line 3 refused 15                    or, in its place, the text line that is refused and the number
  *
- * All that a check knows stands in a record of its own, the machine that the job would run on, where its last block ended, and in
- * 8 words of progress beside it. The text is not among them: the caller keeps it, whole and unchanged, from the first call to
- * the last. */
+ * All that a check knows stands in a bench, the machine that the job would run on, where its last block ended, and in 8 words of progress
+ * beside it. The text is not among them: the caller keeps it, whole and unchanged, from the first call to the last. */
+
+#define VZ_BENCH_WORDS 19
+
+/* A machine in which none waits, for the check alone: words 0 to 18 of a record, VZ_ABI in the first. Each block of a listing is loaded
+ * once the one before it has ended. Written by the calls alone; it may be copied and saved with its progress. */
+typedef struct vz_bench {
+    int64_t word[VZ_BENCH_WORDS];
+} vz_bench;
+
+VZ_ASSERT(sizeof(vz_bench) == 8 * VZ_BENCH_WORDS, "a bench is 19 words of 64 bits");
 
 #define VZ_PROGRESS_WORDS 8
 
-/* Written by the calls alone; it may be copied and saved with its record. */
+/* Written by the calls alone; it may be copied and saved with its bench. */
 typedef struct vz_progress {
     int64_t word[VZ_PROGRESS_WORDS];
 } vz_progress;
@@ -272,20 +327,20 @@ enum vz_progress_word {
 
 /* Begins the check of a job on a fresh machine with these settings, which it takes and answers as vz_make does: 0; or -1, -2 or -3,
  * and then the check is one of p 50, w 5,000 and the widest travel. Whatever the words were before. */
-VZ_ANSWERS int64_t vz_check_start(vz_record *record, vz_progress *progress, int64_t p, int64_t w, int64_t x_lower, int64_t x_upper,
+VZ_ANSWERS int64_t vz_check_start(vz_bench *bench, vz_progress *progress, int64_t p, int64_t w, int64_t x_lower, int64_t x_upper,
                                   int64_t y_lower, int64_t y_upper);
 
 /* A row has at most so many bytes. */
 #define VZ_ROW_BYTES 160
 
 /* Hands out the next rows, as many whole ones as surely fit, to the front of out; its other bytes stay. *written is always set:
- * how many bytes. Answers 0 while there is more, 1 once all is handed out; or -9 where the words are no sound record and progress
+ * how many bytes. Answers 0 while there is more, 1 once all is handed out; or -9 where the words are no sound bench and progress
  * of a check, with 0 bytes and nothing else changed. The pieces, one after the other, are the listing of the text.
  *
  * Less room than VZ_ROW_BYTES writes nothing and answers 0 again, so that a loop until 1 needs at least that in each call. text is
  * the whole text, text_length bytes, the same at each call; neither it nor out is null, even where a length is 0. A text of more
  * than VZ_TEXT_BYTES is refused by question 30, whatever stands in it: one byte more than that is enough to hand over. */
-VZ_ANSWERS int64_t vz_check_fill(vz_record *record, vz_progress *progress, const uint8_t *text, size_t text_length, uint8_t *out,
+VZ_ANSWERS int64_t vz_check_fill(vz_bench *bench, vz_progress *progress, const uint8_t *text, size_t text_length, uint8_t *out,
                                  size_t out_length, uint64_t *written);
 
 #undef VZ_ASSERT

@@ -18,7 +18,7 @@ static int failed(const char *what)
 int main(int count, char **arguments)
 {
     FILE *job = count > 1 ? fopen(arguments[1], "rb") : stdin;
-    vz_record record;
+    vz_bench bench;
     vz_progress progress;
     char out[8 * VZ_ROW_BYTES + 1];
     int64_t told;
@@ -28,11 +28,11 @@ int main(int count, char **arguments)
     size_t length = fread(text, 1, sizeof text, job);
     if (ferror(job))
         return failed("check_a_job: cannot read the job");
-    if (vz_check_start(&record, &progress, 50, 5000, -1000000, 1000000, -1000000, 1000000) != 0)
+    if (vz_check_start(&bench, &progress, 50, 5000, -1000000, 1000000, -1000000, 1000000) != 0)
         return 2;
     do {
         uint64_t written;
-        told = vz_check_fill(&record, &progress, text, length, (uint8_t *)out, sizeof out - 1, &written);
+        told = vz_check_fill(&bench, &progress, text, length, (uint8_t *)out, sizeof out - 1, &written);
         /* Of all rows only that of a refused line has this word, and a row is never cut. */
         out[written] = '\0';
         refused |= strstr(out, "refused") != NULL;

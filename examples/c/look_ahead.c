@@ -1,7 +1,7 @@
-/* Where will the knife be? A circle of 10 mm radius is in work; for each second until it is done this writes where the knife will be,
- * in millimetres, and the pulses of that second on each axis. The machine itself does not move: each look goes on from the record that
- * the last one gave. It ends with 1 where a call is refused or the pulses don't add up to the way, and with 2 where this can't be
- * written. */
+/* Where will the knife be? A circle of 10 mm radius is in work, and a line and a half circle wait. For each second until all are done this
+ * writes where the knife will be, in millimetres, the pulses of that second on each axis, and the cycles and blocks still to do then. The
+ * machine itself does not move: each look goes on from the record that the last one gave. It ends with 1 where a call is refused or the
+ * pulses don't add up to the way, and with 2 where this can't be written. */
 #include <inttypes.h>
 #include <stdio.h>
 
@@ -12,6 +12,12 @@ enum { P = 50, W = 5000, RADIUS = 10 * P, FEED = 200 * P };
 static double millimetres(int64_t pulses)
 {
     return (double)pulses / P;
+}
+
+/* The block in work and those that wait. */
+static int64_t blocks(const vz_record *m)
+{
+    return (m->word[VZ_WORD_WORK] != 0) + m->word[VZ_WORD_WAITING];
 }
 
 /* A second from here on: writes a row and answers 1, or 0 where the look is refused or its pulses are not the way. */
@@ -25,8 +31,8 @@ static int second_on(int n, vz_record *here)
         printf("look    refused %" PRId64 "\n", -no);
         return 0;
     }
-    printf("%2d s  at %6.2f %6.2f mm  pulses %4" PRId64 " %4" PRId64 "%s\n", n, millimetres(x), millimetres(y), sums.x, sums.y,
-           here->word[VZ_WORD_WORK] == 0 ? "  done" : "");
+    printf("%2d s  at %6.2f %6.2f mm  pulses %4" PRId64 " %4" PRId64, n, millimetres(x), millimetres(y), sums.x, sums.y);
+    printf("  cycles left %4" PRId64 "  blocks left %" PRId64 "\n", here->word[VZ_WORD_LEFT], blocks(here));
     return sums.x == x - from.word[VZ_WORD_X] && sums.y == y - from.word[VZ_WORD_Y];
 }
 
@@ -46,8 +52,12 @@ int main(void)
     int64_t no = vz_make(&m, P, W, -RADIUS, 3 * RADIUS, -2 * RADIUS, 2 * RADIUS);
     if (no == 0)
         no = vz_load_ccw(&m, 0, 0, FEED, RADIUS, 0);
+    if (no > 0)
+        no = vz_load_line(&m, 2 * RADIUS, 0, FEED);
+    if (no > 0)
+        no = vz_load_ccw(&m, 0, 0, FEED, -RADIUS, 0);
     if (no < 0)
-        printf("circle  refused %" PRId64 "\n", -no);
+        printf("block   refused %" PRId64 "\n", -no);
     int good = no >= 0 && every_second(&m);
     if (fflush(stdout) != 0 || ferror(stdout)) {
         perror("look_ahead");

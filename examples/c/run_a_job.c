@@ -1,8 +1,8 @@
-/* Runs a job text as a board would: each line is read at the record, and the block that it loads is run to its end before the next
- * line is read. The tick bytes go to standard output, one byte a tick; at p 50, w 5,000 and the widest travel. The text comes from
- * the file that the argument names, or from standard input. Ends with 0 where the text is run to its end, with 1 where a line of it
- * is refused, which it says on standard error, and with 2 where the text can't be read, the bytes can't be written or a call is refused
- * for another cause than the line. */
+/* Runs a job text as a board would: lines are read at the record ahead of the knife, as long as it takes them; where 16 blocks wait, the
+ * block in work is run to its end and the same line is read again. The tick bytes go to standard output, one byte a tick; at p 50, w 5,000
+ * and the widest travel. The text comes from the file that the argument names, or from standard input. Ends with 0 where the text is run to
+ * its end; with 1 where a line of it is refused, which it says on standard error, and the blocks before that line are run; and with 2 where
+ * the text can't be read, the bytes can't be written or a call is refused for another cause than the line. */
 #include <inttypes.h>
 #include <stdio.h>
 #include <string.h>
@@ -15,7 +15,7 @@ static int failed(const char *what)
     return 2;
 }
 
-/* The block in work to its end: 0, or 2. */
+/* The block in work to its end, where the next one comes into work: 0, or 2. */
 static int run(vz_record *m)
 {
     static uint8_t out[4096];
@@ -45,8 +45,8 @@ static int refused(size_t line, int64_t number)
     return number == VZ_REFUSED_RECORD ? 2 : 1;
 }
 
-/* All lines of the text, up to the first that is refused. */
-static int run_lines(vz_record *m, const char *text, size_t length)
+/* Reads all lines of the text, up to the first that is refused, and runs blocks where no more are taken. */
+static int read_lines(vz_record *m, const char *text, size_t length)
 {
     vz_known known = VZ_NOTHING_KNOWN;
     size_t next;
@@ -54,13 +54,23 @@ static int run_lines(vz_record *m, const char *text, size_t length)
         return refused(1, VZ_REFUSED_LONG_TEXT);
     for (size_t at = 0, number = 1; at < length; at += next, number++) {
         size_t line = line_of(text + at, length - at, &next);
-        int64_t told = vz_read_line(m, &known, (const uint8_t *)text + at, line);
+        int64_t told;
+        while ((told = vz_read_line(m, &known, (const uint8_t *)text + at, line)) == -VZ_REFUSED_FULL)
+            if (run(m) != 0)
+                return 2;
         if (told < 0)
             return refused(number, -told);
-        if (told > 0 && run(m) != 0)
-            return 2;
     }
     return 0;
+}
+
+/* Runs what is in work and what waits: 0, or 2. */
+static int run_all(vz_record *m)
+{
+    int status = 0;
+    while (status == 0 && m->word[VZ_WORD_WORK] != 0)
+        status = run(m);
+    return status;
 }
 
 int main(int count, char **arguments)
@@ -75,6 +85,8 @@ int main(int count, char **arguments)
         return failed("run_a_job: cannot read the job");
     if (vz_make(&m, 50, 5000, -1000000, 1000000, -1000000, 1000000) != 0)
         return 2;
-    int status = run_lines(&m, text, length);
+    int status = read_lines(&m, text, length);
+    if (status != 2 && run_all(&m) != 0)
+        status = 2;
     return fflush(stdout) == 0 ? status : failed("run_a_job: cannot write the ticks");
 }

@@ -1,49 +1,36 @@
 /* The check of a job by its words: how a start answers, what a fill does with a small buffer, and that words which are no check
  * stay as they are, with everything else that a fill could write. Ends with 1 where an answer is another. */
-#include <inttypes.h>
-#include <stdio.h>
-#include <string.h>
+#include "told.h"
 
-#include "verdaizka.h"
-
-/* A check: the words of its record, and of its progress. */
+/* A check: the words of its bench, and of its progress. */
 struct check {
-    vz_record record;
+    vz_bench bench;
     vz_progress progress;
 };
-
-static int wrong = 0;
-
-static void is(const char *what, int64_t got, int64_t expected)
-{
-    if (got != expected) {
-        printf("%s: %" PRId64 " in place of %" PRId64 "\n", what, got, expected);
-        wrong = 1;
-    }
-}
 
 static const char job[] = "G1 X10 F300\nX0\n";
 
 static int64_t fill(struct check *c, void *out, size_t length, uint64_t *written)
 {
-    return vz_check_fill(&c->record, &c->progress, (const uint8_t *)job, strlen(job), out, length, written);
+    return vz_check_fill(&c->bench, &c->progress, (const uint8_t *)job, strlen(job), out, length, written);
 }
 
 static struct check started(void)
 {
     struct check c;
-    is("start", vz_check_start(&c.record, &c.progress, 50, 5000, -1000, 1000, -1000, 1000), 0);
+    is("start", vz_check_start(&c.bench, &c.progress, 50, 5000, -1000, 1000, -1000, 1000), 0);
     return c;
 }
 
 static void start(void)
 {
     struct check c;
-    is("p", vz_check_start(&c.record, &c.progress, 0, 5000, 0, 0, 0, 0), -VZ_REFUSED_P);
-    is("w", vz_check_start(&c.record, &c.progress, 50, 20001, 0, 0, 0, 0), -VZ_REFUSED_W);
-    is("travel", vz_check_start(&c.record, &c.progress, 50, 5000, 0, 0, 1, 1), -VZ_REFUSED_TRAVEL);
-    is("p of a refused start", c.record.word[VZ_WORD_P], 50);
-    is("travel of a refused start", c.record.word[VZ_WORD_Y_LOWER], -1000000);
+    is("p", vz_check_start(&c.bench, &c.progress, 0, 5000, 0, 0, 0, 0), -VZ_REFUSED_P);
+    is("w", vz_check_start(&c.bench, &c.progress, 50, 20001, 0, 0, 0, 0), -VZ_REFUSED_W);
+    is("travel", vz_check_start(&c.bench, &c.progress, 50, 5000, 0, 0, 1, 1), -VZ_REFUSED_TRAVEL);
+    is("p of a refused start", c.bench.word[VZ_WORD_P], 50);
+    is("travel of a refused start", c.bench.word[VZ_WORD_Y_LOWER], -1000000);
+    is("layout of a start", c.bench.word[VZ_WORD_ABI], VZ_ABI);
     is("feed of a start", c.progress.word[VZ_PROGRESS_FEED], -1);
 }
 
@@ -75,7 +62,7 @@ static void pieces(void)
 }
 
 /* One word of a check changed, or many. */
-static void refused(const char *what, const struct check *bad)
+static void fill_refused(const char *what, const struct check *bad)
 {
     struct check c = *bad;
     uint8_t out[200], before[200];
@@ -88,18 +75,18 @@ static void refused(const char *what, const struct check *bad)
     is("the buffer of a refused fill", memcmp(out, before, sizeof out), 0);
 }
 
-static void record_changed(const char *what, int word, int64_t to)
+static void bench_changed(const char *what, int word, int64_t to)
 {
     struct check c = started();
-    c.record.word[word] = to;
-    refused(what, &c);
+    c.bench.word[word] = to;
+    fill_refused(what, &c);
 }
 
 static void progress_changed(const char *what, int word, int64_t to)
 {
     struct check c = started();
     c.progress.word[word] = to;
-    refused(what, &c);
+    fill_refused(what, &c);
 }
 
 int main(void)
@@ -108,11 +95,12 @@ int main(void)
     uint64_t seed = 1;
     start();
     pieces();
-    record_changed("ABI", VZ_WORD_ABI, VZ_ABI + 1);
-    record_changed("p", VZ_WORD_P, -50);
-    record_changed("x outside", VZ_WORD_X, 1001);
-    record_changed("held 2", VZ_WORD_HELD, 2);
-    record_changed("kind 4", VZ_WORD_WORK, 4);
+    bench_changed("another layout", VZ_WORD_ABI, VZ_ABI + 1);
+    bench_changed("the layout before", VZ_WORD_ABI, VZ_ABI - 1);
+    bench_changed("p", VZ_WORD_P, -50);
+    bench_changed("x outside", VZ_WORD_X, 1001);
+    bench_changed("held 2", VZ_WORD_HELD, 2);
+    bench_changed("kind 4", VZ_WORD_WORK, 4);
     progress_changed("stage 3", VZ_PROGRESS_STAGE, 3);
     progress_changed("at", VZ_PROGRESS_AT, -1);
     progress_changed("motion 4", VZ_PROGRESS_MOTION, 4);
@@ -125,7 +113,7 @@ int main(void)
             seed = seed * 6364136223846793005u + 1442695040888963407u;
             noise.progress.word[i] = (int64_t)seed;
         }
-        refused("noise", &noise);
+        fill_refused("noise", &noise);
     }
     return wrong;
 }

@@ -1,91 +1,11 @@
-/* Every number of include/verdaizka.h once, and that words which are no sound record stay as they are, with everything else that
- * a call could write. Ends with 1 where an answer is another. */
+/* Every number of include/verdaizka.h once but 10, which queue.c has, and that words which are no sound record stay as they are, with
+ * everything else that a call could write. Ends with 1 where an answer is another. */
 #include <fenv.h>
-#include <inttypes.h>
-#include <stdio.h>
-#include <string.h>
 
-#include "verdaizka.h"
+#include "told.h"
 
-static int wrong = 0;
-
-static void is(const char *what, int64_t got, int64_t expected)
-{
-    if (got != expected) {
-        printf("%s: %" PRId64 " in place of %" PRId64 "\n", what, got, expected);
-        wrong = 1;
-    }
-}
-
-static vz_record fresh(void)
-{
-    vz_record m;
-    is("make", vz_make(&m, 50, 5000, -100, 100, -100, 100), 0);
-    return m;
-}
-
-/* What a look writes, with words around it that are not its own. */
-struct ahead {
-    int64_t before;
-    vz_record then;
-    int64_t between;
-    vz_sums sums;
-    int64_t after;
-};
-
-/* A look-ahead, which leaves the record and all words around its own. */
-static struct ahead look(const char *what, const vz_record *m, uint64_t ticks, int64_t answer)
-{
-    vz_record own = *m;
-    struct ahead a, all;
-    memset(&all, 7, sizeof all);
-    a = all;
-    is(what, vz_ahead(&own, ticks, &a.then, &a.sums), answer);
-    is("words after a look", memcmp(&own, m, sizeof own), 0);
-    is("a word before those of a look", a.before, all.before);
-    is("a word between those of a look", a.between, all.between);
-    is("a word after those of a look", a.after, all.after);
-    return a;
-}
-
-/* A refused one gives the record's own words and sums of 0. */
-static void look_refused(const char *what, const vz_record *m, uint64_t ticks, int64_t number)
-{
-    struct ahead a = look(what, m, ticks, -number);
-    is("words of a refused look", memcmp(&a.then, m, sizeof a.then), 0);
-    is("sum of a refused look", a.sums.x, 0);
-    is("sum of a refused look", a.sums.y, 0);
-}
-
-/* Every call on words that are no sound record. */
-static void refused(const char *what, const vz_record *bad)
-{
-    uint8_t out[4] = {7, 7, 7, 7};
-    uint64_t ticks = 5;
-    vz_known known = VZ_NOTHING_KNOWN, before = known;
-    for (int call = 0; call < 9; call++) {
-        vz_record m = *bad;
-        int64_t got = call == 0   ? vz_tick(&m)
-                      : call == 1 ? vz_hold(&m)
-                      : call == 2 ? vz_release(&m)
-                      : call == 3 ? vz_stop(&m)
-                      : call == 4 ? vz_load_line(&m, 1, 1, 1)
-                      : call == 5 ? vz_load_cw(&m, 0, 0, 1, 1, 0)
-                      : call == 6 ? vz_load_ccw(&m, 0, 0, 1, 1, 0)
-                      : call == 7 ? vz_read_line(&m, &known, (const uint8_t *)"G1 F1", 5)
-                                  : vz_run(&m, 4, out, sizeof out, &ticks);
-        is(what, got, -VZ_REFUSED_RECORD);
-        is("words that stay", memcmp(&m, bad, sizeof m), 0);
-    }
-    is("what is known at a refused line", memcmp(&known, &before, sizeof known), 0);
-    is("ticks of a refused run", (int64_t)ticks, 0);
-    is("bytes of a refused run", memcmp(out, "\7\7\7\7", 4), 0);
-    for (uint64_t ahead = 0; ahead < 2; ahead++) {
-        look_refused(what, bad, ahead, VZ_REFUSED_RECORD);
-        look_refused(what, bad, VZ_AHEAD_TICKS + ahead, VZ_REFUSED_RECORD);
-        look_refused(what, bad, UINT64_MAX - ahead, VZ_REFUSED_RECORD);
-    }
-}
+/* The last of what is in work: of a line its cycles done. */
+enum { LAST_NUMBER = VZ_WORD_NUMBERS + 6 };
 
 static void make(void)
 {
@@ -99,16 +19,9 @@ static void make(void)
     is("travel of a refused make", m.word[VZ_WORD_X_LOWER], -1000000);
 }
 
-/* A refused load leaves every word. */
-static void load_refused(const char *what, vz_record *m, int64_t got, int64_t number, const vz_record *before)
-{
-    is(what, got, -number);
-    is("words after a refused load", memcmp(m, before, sizeof *m), 0);
-}
-
 static void load(void)
 {
-    vz_record m = fresh(), idle = m, busy;
+    vz_record m = fresh(), idle = m;
     load_refused("feed", &m, vz_load_line(&m, 1, 1, 300001), VZ_REFUSED_FEED, &idle);
     load_refused("feed", &m, vz_load_line(&m, 1, 1, -1), VZ_REFUSED_FEED, &idle);
     load_refused("end", &m, vz_load_line(&m, 101, 0, 1), VZ_REFUSED_END, &idle);
@@ -116,20 +29,6 @@ static void load(void)
     load_refused("centre", &m, vz_load_cw(&m, 0, 0, 1, 0, 0), VZ_REFUSED_CENTRE, &idle);
     load_refused("circle", &m, vz_load_cw(&m, 3, 0, 1, 5, 0), VZ_REFUSED_CIRCLE, &idle);
     load_refused("way", &m, vz_load_ccw(&m, 0, 0, 1, 60, 0), VZ_REFUSED_WAY, &idle);
-    is("width", vz_load_line(&m, 3, -4, 300000), 3);
-    busy = m;
-    load_refused("busy", &m, vz_load_line(&m, 1, 1, 1), VZ_REFUSED_BUSY, &busy);
-    load_refused("busy", &m, vz_load_cw(&m, 0, 0, 1, 5, 0), VZ_REFUSED_BUSY, &busy);
-}
-
-/* A text line that is refused leaves the record and what is known. */
-static void line_refused(vz_record *m, vz_known *k, const char *line, int64_t number)
-{
-    vz_record record = *m;
-    vz_known known = *k;
-    is(line, vz_read_line(m, k, (const uint8_t *)line, strlen(line)), -number);
-    is("words after a refused line", memcmp(m, &record, sizeof record), 0);
-    is("what is known after a refused line", memcmp(k, &known, sizeof known), 0);
 }
 
 static void lines(void)
@@ -155,7 +54,6 @@ static void lines(void)
     is("an empty line", vz_read_line(&m, &k, (const uint8_t *)"", 0), 0);
     is("X0", vz_read_line(&m, &k, (const uint8_t *)"X0", 2), 0);
     is("X1", vz_read_line(&m, &k, (const uint8_t *)"X1", 2), 6);
-    line_refused(&m, &k, "X0.5", VZ_REFUSED_BUSY);
 }
 
 /* The line (3, -4) at a cycle for each tick: (1, -1), (1, -2), (2, -2), (2, -3), (3, -4). */
@@ -225,7 +123,8 @@ static void ahead_of_line(void)
     is("two ahead", vz_ahead(&m, 2, &then, &sums), 0);
     is("x", then.word[VZ_WORD_X], 1);
     is("y", then.word[VZ_WORD_Y], -2);
-    is("cycles done", then.word[VZ_RECORD_WORDS - 1], 2);
+    is("cycles done", then.word[LAST_NUMBER], 2);
+    is("cycles left", then.word[VZ_WORD_LEFT], 3);
     is("sum", sums.x, 1);
     is("sum", sums.y, -2);
     is("and three", vz_ahead(&then, 3, &m, &sums), 0);
@@ -321,11 +220,11 @@ int main(void)
     changed("remainder of a line", line, VZ_WORD_REMAINDER, INT64_C(1414) * 300000);
     changed("remainder of an arc", arc, VZ_WORD_REMAINDER, INT64_C(1414) * 300000);
     changed("kind 4", idle, VZ_WORD_WORK, 4);
-    changed("a number of nothing", idle, VZ_RECORD_WORDS - 1, 1);
+    changed("a number of nothing", idle, LAST_NUMBER, 1);
     changed("a line's point", line, VZ_WORD_X, 1);
-    changed("cycles done", line, VZ_RECORD_WORDS - 1, 5);
+    changed("cycles done", line, LAST_NUMBER, 5);
     changed("an arc as a line", arc, VZ_WORD_WORK, 1);
-    changed("an arc's last word", arc, VZ_RECORD_WORDS - 1, 1);
+    changed("an arc's last word", arc, LAST_NUMBER, 1);
     for (int turn = 0; turn < 1000; turn++) {
         for (int i = 0; i < VZ_RECORD_WORDS; i++) {
             seed = seed * 6364136223846793005u + 1442695040888963407u;

@@ -1,6 +1,6 @@
 //! The words of a line, one blank between, and the record as a line of a call file has it (`docs/CALL-FILES.md`).
 
-use crate::{word, Block, Machine, Settings, Turn, Work, ABI, WORDS};
+use crate::{word, Block, Machine, Settings, Turn, Work, ABI, BLOCK_WORDS, MOST_WAITING, WORDS};
 use std::str::Split;
 
 /// Read from the left; each reading takes the words that it needs, or tells that they are not there.
@@ -73,6 +73,8 @@ impl<'a> Fields<'a> {
         }
     }
 
+    /// The words of a record, and behind them 0: with the roots of the blocks, which are not in the line. Where it says that more than
+    /// sixteen wait, sixteen stand in it.
     pub fn record(&mut self) -> Option<Machine> {
         let s = self.settings()?;
         let (x, y) = (self.i64()?, self.i64()?);
@@ -83,61 +85,109 @@ impl<'a> Fields<'a> {
         };
         let mut words = [0; WORDS];
         words[..word::WORK].copy_from_slice(&[ABI, s.p, s.w, s.x.0, s.x.1, s.y.0, s.y.1, x, y, held, self.count()?]);
-        words[word::WORK..].copy_from_slice(&self.work()?);
+        let (work, mut place) = self.work((x, y))?;
+        words[word::WORK..=word::ROOT].copy_from_slice(&work);
+        words[word::LEFT] = self.count()?;
+        let places = self.clone().u64()?.min(MOST_WAITING as u64) as usize;
+        words[word::WAITING] = self.count()?;
+        for waiting in words[word::QUEUE..].chunks_exact_mut(BLOCK_WORDS).take(places) {
+            let block = self.block()?;
+            waiting.copy_from_slice(&waiting_words(block, place));
+            place = end_of(block);
+        }
         Some(Machine::from_words(words))
     }
 
-    fn work(&mut self) -> Option<[i64; WORDS - word::WORK]> {
+    /// The words of what is in work, its root behind them, and where it ends, which is the point where nothing is.
+    fn work(&mut self, point: (i64, i64)) -> Option<([i64; word::LEFT - word::WORK], (i64, i64))> {
         match self.word()? {
-            "none" => Some([0; WORDS - word::WORK]),
+            "none" => Some(([0; word::LEFT - word::WORK], point)),
             "line" => {
-                let (sx, sy, ex, ey) = (self.i64()?, self.i64()?, self.i64()?, self.i64()?);
-                Some([word::KIND_LINE, sx, sy, ex, ey, self.count()?, cycles(sx, sy, ex, ey), self.count()?])
+                let (start, end) = ((self.i64()?, self.i64()?), (self.i64()?, self.i64()?));
+                let cycles = line_cycles(start, end);
+                Some(([word::KIND_LINE, start.0, start.1, end.0, end.1, self.count()?, cycles, self.count()?, cycles], end))
             }
             "arc" => {
-                let kind = if self.turn()? == Turn::Clockwise { word::KIND_CW } else { word::KIND_CCW };
-                Some([kind, self.i64()?, self.i64()?, self.count()?, self.i64()?, self.i64()?, self.count()?, 0])
+                let kind = kind_of(self.turn()?);
+                let (x, y, square, end) = (self.i64()?, self.i64()?, self.count()?, (self.i64()?, self.i64()?));
+                Some(([kind, x, y, square, end.0, end.1, self.count()?, 0, quarter_cycles(i128::from(square))], end))
             }
             _ => None,
         }
     }
 }
 
+fn kind_of(turn: Turn) -> i64 {
+    match turn {
+        Turn::Clockwise => word::KIND_CW,
+        Turn::Counterclockwise => word::KIND_CCW,
+    }
+}
+
+fn end_of(block: Block) -> (i64, i64) {
+    match block {
+        Block::Line { x, y, .. } | Block::Arc { x, y, .. } => (x, y),
+    }
+}
+
+/// The words of a block that waits and will start there.
+fn waiting_words(block: Block, start: (i64, i64)) -> [i64; BLOCK_WORDS] {
+    match block {
+        Block::Line { x, y, feed } => [word::KIND_LINE, x, y, feed, 0, 0, line_cycles(start, (x, y))],
+        Block::Arc { turn, x, y, feed, i, j } => {
+            let square = |a: i64| i128::from(a) * i128::from(a);
+            let root = square(i).checked_add(square(j)).map_or(0, quarter_cycles);
+            [kind_of(turn), x, y, feed, i, j, root]
+        }
+    }
+}
+
 /// The line's own q, the least whole number whose square is at least the sum of the squared increments; 0, which is never right, where
 /// it is beyond any line in travel.
-fn cycles(sx: i64, sy: i64, ex: i64, ey: i64) -> i64 {
-    let (a, b) = ((i128::from(ex) - i128::from(sx)).abs(), (i128::from(ey) - i128::from(sy)).abs());
-    if a > 4_000_000 || b > 4_000_000 {
+fn line_cycles(start: (i64, i64), end: (i64, i64)) -> i64 {
+    let (a, b) = (i128::from(end.0) - i128::from(start.0), i128::from(end.1) - i128::from(start.1));
+    if a.abs() > 4_000_000 || b.abs() > 4_000_000 {
         return 0;
     }
     let sum = a * a + b * b;
-    let (mut low, mut high) = (0i128, 8_000_000);
-    while low < high {
-        let middle = (low + high) / 2;
-        if middle * middle >= sum {
-            high = middle;
-        } else {
-            low = middle + 1;
-        }
-    }
-    i64::try_from(low).expect("at most 8,000,000")
+    let root = sum.isqrt();
+    (root + i128::from(root * root < sum)) as i64
 }
 
-/// The whole record as a call file has it. The layout's number, a line's stored cycles and unused words are not in it.
+/// The cycles of a quarter turn, the whole number nearest to the root of 2 N; 0, which is never right, where N is beyond any arc's.
+pub fn quarter_cycles(square: i128) -> i64 {
+    if !(1..=2_000_000_000_000).contains(&square) {
+        return 0;
+    }
+    let root = (2 * square).isqrt();
+    (root + i128::from(root * root + root < 2 * square)) as i64
+}
+
+/// The whole record as a call file has it. The layout's number, a line's stored cycles, roots and unused words are not in it.
 pub fn record_told(machine: &Machine) -> String {
     let first: Vec<String> = machine.words()[word::P..word::WORK].iter().map(i64::to_string).collect();
-    let work = match machine.work() {
+    let blocks: String = machine.queue().map(|block| format!(" {}", block_told(block))).collect();
+    format!("{} {} {} {}{blocks}", first.join(" "), work_told(machine.work()), machine.cycles_left(), machine.waiting())
+}
+
+fn work_told(work: Work) -> String {
+    match work {
         Work::Nothing => "none".to_string(),
         Work::Line { start, end, feed, done, .. } => format!("line {} {} {} {} {feed} {done}", start.0, start.1, end.0, end.1),
         Work::Arc { turn, centre, square, end, feed } => {
-            let kind = if turn == Turn::Clockwise { 2 } else { 3 };
-            format!("arc {kind} {} {} {square} {} {} {feed}", centre.0, centre.1, end.0, end.1)
+            format!("arc {} {} {} {square} {} {} {feed}", kind_of(turn), centre.0, centre.1, end.0, end.1)
         }
-    };
-    format!("{} {work}", first.join(" "))
+    }
 }
 
-/// Whether the record told gives these words, every one, so that what is not in it is right too.
+fn block_told(block: Block) -> String {
+    match block {
+        Block::Line { x, y, feed } => format!("L {x} {y} {feed}"),
+        Block::Arc { turn, x, y, feed, i, j } => format!("A {} {x} {y} {feed} {i} {j}", kind_of(turn)),
+    }
+}
+
+/// Whether the record told gives these words, every one of the record, so that what is not in it is right too.
 pub fn is_of(told: &str, machine: &Machine) -> bool {
     Fields::of(told).record().as_ref() == Some(machine)
 }

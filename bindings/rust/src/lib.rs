@@ -5,8 +5,18 @@ pub mod crc;
 pub mod descriptors;
 pub mod fields;
 
-/// The record as the core has it, in words of 64 bits.
-pub const WORDS: usize = 19;
+/// The record as the core has it, in words of 64 bits: 134, with room for sixteen blocks that wait. Those behind the last one that waits
+/// are no part of it: no answer depends on them, and a call leaves them; a look-ahead copies them.
+pub const WORDS: usize = word::QUEUE + MOST_WAITING * BLOCK_WORDS;
+
+/// How many blocks wait at most, behind the one in work.
+pub const MOST_WAITING: usize = 16;
+
+/// A block that waits, in words of 64 bits.
+pub const BLOCK_WORDS: usize = 7;
+
+/// The record of a check, on which no block ever waits, in words of 64 bits: the first of a machine's.
+pub const BENCH_WORDS: usize = word::ROOT;
 
 /// The G and F that a job text has made known, in words of 64 bits.
 pub const KNOWN_WORDS: usize = 2;
@@ -18,7 +28,7 @@ pub const PROGRESS_WORDS: usize = 8;
 pub const AHEAD_TICKS: u64 = 1_000_000;
 
 /// Word 0 of every record: the layout that this file knows. Words with another number there are no record.
-pub const ABI: i64 = 2;
+pub const ABI: i64 = 3;
 
 /// Which word is what, as `include/verdaizka.h` says it.
 pub mod word {
@@ -37,6 +47,14 @@ pub mod word {
     pub const WORK: usize = 11;
     /// The seven numbers of what is in work.
     pub const NUMBERS: usize = 12;
+    /// The root of the block in work: a line's cycles, an arc's cycles of a quarter turn, 0 of nothing.
+    pub const ROOT: usize = 19;
+    /// The cycles still to do, over the block in work and all that wait.
+    pub const LEFT: usize = 20;
+    /// How many blocks wait.
+    pub const WAITING: usize = 21;
+    /// Seven words for each of these, first come first: kind, end, feed, the centre seen from the start, which is 0 0 of a line, and root.
+    pub const QUEUE: usize = 22;
 
     pub const KIND_LINE: i64 = 1;
     pub const KIND_CW: i64 = 2;
@@ -71,9 +89,9 @@ extern "C" {
     fn vz_stop(record: *mut i64) -> i64;
     fn vz_ahead(record: *const i64, ticks: u64, then: *mut i64, sums: *mut i64) -> i64;
     fn vz_read_line(record: *mut i64, known: *mut i64, line: *const u8, length: usize) -> i64;
-    fn vz_check_start(record: *mut i64, progress: *mut i64, p: i64, w: i64, xlo: i64, xhi: i64, ylo: i64, yhi: i64) -> i64;
+    fn vz_check_start(bench: *mut i64, progress: *mut i64, p: i64, w: i64, xlo: i64, xhi: i64, ylo: i64, yhi: i64) -> i64;
     fn vz_check_fill(
-        record: *mut i64,
+        bench: *mut i64,
         progress: *mut i64,
         text: *const u8,
         text_length: usize,
@@ -105,8 +123,8 @@ pub enum Turn {
     Counterclockwise,
 }
 
-/// A block from where the machine stands: its absolute end in pulses, its feed number in pulses per minute and, for an arc, the centre
-/// seen from the start.
+/// A block from where the last one that was loaded ends, or where the machine stands if it is idle: its absolute end in pulses, its feed
+/// number in pulses per minute and, for an arc, the centre seen from the start.
 #[derive(Clone, Copy, PartialEq, Eq, Debug)]
 pub enum Block {
     Line { x: i64, y: i64, feed: i64 },
@@ -176,11 +194,20 @@ impl Default for Known {
     }
 }
 
-/// A machine. Any words may stand in it: a call on words that are no sound record is refused by 9 and leaves them.
-#[derive(Clone, PartialEq, Eq, Debug)]
+/// A machine. Any words may stand in it: a call on words that are no sound record is refused by 9 and leaves them. Two are equal where
+/// their records are, whatever stands in the words behind those.
+#[derive(Clone, Debug)]
 pub struct Machine {
     words: [i64; WORDS],
 }
+
+impl PartialEq for Machine {
+    fn eq(&self, other: &Machine) -> bool {
+        self.record() == other.record()
+    }
+}
+
+impl Eq for Machine {}
 
 impl Machine {
     /// The machine that a make answers, and the number where it is refused: then it is the fresh one with the usual settings.
@@ -195,11 +222,22 @@ impl Machine {
         Machine { words }
     }
 
+    /// All words, those behind the record too.
     pub fn words(&self) -> &[i64; WORDS] {
         &self.words
     }
 
-    /// The register width, in bits.
+    /// The words of the record alone: so many as there are with those that wait.
+    pub fn record(&self) -> &[i64] {
+        &self.words[..word::QUEUE + self.places() * BLOCK_WORDS]
+    }
+
+    /// How many of the sixteen places are in use, whatever the words say.
+    fn places(&self) -> usize {
+        self.waiting().clamp(0, MOST_WAITING as i64) as usize
+    }
+
+    /// The block comes into work, or waits behind the last one; 10 where sixteen wait. The register width, in bits.
     pub fn load(&mut self, block: Block) -> Result<i64, Refused> {
         let words = self.words.as_mut_ptr();
         // SAFETY: as in make.
@@ -210,8 +248,8 @@ impl Machine {
         })
     }
 
-    /// One line of a job text, without its LF: the register width of the block that it loaded, none where it made no block. A refused
-    /// line leaves the machine and what is known.
+    /// One line of a job text, without its LF: the register width of the block that it loaded, none where it made no block. What the line
+    /// leaves out is taken from where the last block ends. A refused line leaves the machine and what is known.
     pub fn read_line(&mut self, known: &mut Known, line: &[u8]) -> Result<Option<i64>, Refused> {
         // SAFETY: as in make, for the words of what is known too; the line is lent with its own length.
         let told = unsafe { vz_read_line(self.words.as_mut_ptr(), known.words.as_mut_ptr(), line.as_ptr(), line.len()) };
@@ -224,7 +262,8 @@ impl Machine {
         answered(unsafe { vz_tick(self.words.as_mut_ptr()) }).map(|byte| u8::try_from(byte).expect("a tick byte"))
     }
 
-    /// Why the run ended and how many ticks it did; their bytes stand at the front of the buffer.
+    /// Why the run ended and how many ticks it did; their bytes stand at the front of the buffer. It ends with the block that was in work,
+    /// though the first that waited is in work then.
     pub fn run(&mut self, budget: u64, out: &mut [u8]) -> Result<(Why, u64), Refused> {
         let mut ticks = 0;
         // SAFETY: as in make; the buffer is lent with its own length.
@@ -249,14 +288,15 @@ impl Machine {
         answered(unsafe { vz_release(self.words.as_mut_ptr()) }).map(|_| ())
     }
 
+    /// Drops the block in work and all that wait.
     pub fn stop(&mut self) -> Result<(), Refused> {
         // SAFETY: as in make.
         answered(unsafe { vz_stop(self.words.as_mut_ptr()) }).map(|_| ())
     }
 
     /// Where so many ticks would leave the machine, and what they would send; the machine itself stays as it is, and no tick is done. Ticks
-    /// while held or idle change nothing, and so do those after the block's end. More than `AHEAD_TICKS` are refused by 38, after 9: to
-    /// look further, look so far and from the machine ahead again.
+    /// while held or idle change nothing; those after a block's end are of the next one that waits, and change nothing behind the last.
+    /// More than `AHEAD_TICKS` are refused by 38, after 9: to look further, look so far and from the machine ahead again.
     ///
     /// ```
     /// use verdaizka::{Block, Machine, Refused, AHEAD_TICKS, USUAL};
@@ -280,9 +320,9 @@ impl Machine {
     /// The same with what a refusal gives: the machine as it stands, and sums of 0.
     #[must_use]
     pub fn ahead_told(&self, ticks: u64) -> (Ahead, Result<(), Refused>) {
-        // All is written by the core, and none of it has these numbers.
+        // The core writes all of these words; one that it left out would show.
         let (mut then, mut sums) = ([i64::MIN; WORDS], [i64::MIN; 2]);
-        // SAFETY: the core reads the words of the record, writes those of the record ahead and the two sums, and no others.
+        // SAFETY: the core reads the words that it is lent, writes as many ahead and the two sums, and no others.
         let told = unsafe { vz_ahead(self.words.as_ptr(), ticks, then.as_mut_ptr(), sums.as_mut_ptr()) };
         (Ahead { then: Machine { words: then }, sums: (sums[0], sums[1]) }, answered(told).map(|_| ()))
     }
@@ -304,10 +344,44 @@ impl Machine {
         self.words[word::WORK] != 0
     }
 
+    /// The cycles still to do, over the block in work and all that wait.
+    pub fn cycles_left(&self) -> i64 {
+        self.words[word::LEFT]
+    }
+
+    /// How many blocks wait behind the one in work; of a sound record at most `MOST_WAITING`.
+    pub fn waiting(&self) -> i64 {
+        self.words[word::WAITING]
+    }
+
+    /// The blocks that wait, the first to be cut first, as they were loaded: what the words say, sound or not, a line where they name a
+    /// kind that there is none of, and sixteen where they say that more wait.
+    ///
+    /// ```
+    /// use verdaizka::{Block, Machine, USUAL};
+    ///
+    /// let (mut machine, _) = Machine::make(USUAL);
+    /// let (there, back) = (Block::Line { x: 3, y: 4, feed: 300_000 }, Block::Line { x: 0, y: 0, feed: 300_000 });
+    /// machine.load(there).expect("accepted");
+    /// machine.load(back).expect("accepted");
+    /// assert_eq!((machine.waiting(), machine.cycles_left()), (1, 10));
+    /// assert_eq!(machine.queue().collect::<Vec<_>>(), [back]);
+    /// ```
+    pub fn queue(&self) -> impl Iterator<Item = Block> + '_ {
+        self.record()[word::QUEUE..].chunks_exact(BLOCK_WORDS).map(|words| {
+            let (kind, x, y, feed, i, j) = (words[0], words[1], words[2], words[3], words[4], words[5]);
+            match kind {
+                word::KIND_CW => Block::Arc { turn: Turn::Clockwise, x, y, feed, i, j },
+                word::KIND_CCW => Block::Arc { turn: Turn::Counterclockwise, x, y, feed, i, j },
+                _ => Block::Line { x, y, feed },
+            }
+        })
+    }
+
     /// What the words say, sound or not; nothing where they name a kind that there is none of.
     pub fn work(&self) -> Work {
-        let mut numbers = [0; WORDS - word::NUMBERS];
-        numbers.copy_from_slice(&self.words[word::NUMBERS..]);
+        let mut numbers = [0; word::ROOT - word::NUMBERS];
+        numbers.copy_from_slice(&self.words[word::NUMBERS..word::ROOT]);
         let arc = |turn| {
             let [x, y, square, end_x, end_y, feed, _] = numbers;
             Work::Arc { turn, centre: (x, y), square, end: (end_x, end_y), feed }
@@ -324,31 +398,32 @@ impl Machine {
     }
 }
 
-/// The check of a job text, whose listing it hands out piece by piece: the record of the machine that the job would run on, and how far
-/// it has come. Any words may stand in it: a fill of words that are no check is refused by 9 and leaves them.
+/// The check of a job text, whose listing it hands out piece by piece: the record of the bench that the job would run on, where each block
+/// is loaded once the one before has ended, and how far it has come. Any words may stand in it: a fill of words that are no check is
+/// refused by 9 and leaves them.
 #[derive(Clone, PartialEq, Eq, Debug)]
 pub struct Check {
-    machine: [i64; WORDS],
+    bench: [i64; BENCH_WORDS],
     progress: [i64; PROGRESS_WORDS],
 }
 
 impl Check {
     /// The check of a job at a fresh machine with these settings, and the number where they are refused, as a make answers them.
     pub fn start(s: Settings) -> (Check, Result<(), Refused>) {
-        let (mut machine, mut progress) = ([0; WORDS], [0; PROGRESS_WORDS]);
-        let (record, way) = (machine.as_mut_ptr(), progress.as_mut_ptr());
+        let (mut bench, mut progress) = ([0; BENCH_WORDS], [0; PROGRESS_WORDS]);
+        let (record, way) = (bench.as_mut_ptr(), progress.as_mut_ptr());
         // SAFETY: the core writes the words of the record and of the progress that it is lent, and no others.
         let told = unsafe { vz_check_start(record, way, s.p, s.w, s.x.0, s.x.1, s.y.0, s.y.1) };
-        (Check { machine, progress }, answered(told).map(|_| ()))
+        (Check { bench, progress }, answered(told).map(|_| ()))
     }
 
-    pub fn from_words(machine: [i64; WORDS], progress: [i64; PROGRESS_WORDS]) -> Check {
-        Check { machine, progress }
+    pub fn from_words(bench: [i64; BENCH_WORDS], progress: [i64; PROGRESS_WORDS]) -> Check {
+        Check { bench, progress }
     }
 
-    /// The words of its machine's record, where the last block ended.
-    pub fn machine(&self) -> &[i64; WORDS] {
-        &self.machine
+    /// The words of its bench's record, where the last block ended: as the first of a machine's.
+    pub fn bench(&self) -> &[i64; BENCH_WORDS] {
+        &self.bench
     }
 
     /// The words of how far it has come.
@@ -360,7 +435,7 @@ impl Check {
     /// same at each fill; a buffer of less than 160 bytes gets none.
     pub fn fill(&mut self, text: &[u8], out: &mut [u8]) -> Result<(usize, bool), Refused> {
         let mut written = 0;
-        let (record, way) = (self.machine.as_mut_ptr(), self.progress.as_mut_ptr());
+        let (record, way) = (self.bench.as_mut_ptr(), self.progress.as_mut_ptr());
         // SAFETY: as in start; the text and the buffer are lent with their own lengths.
         let told = unsafe { vz_check_fill(record, way, text.as_ptr(), text.len(), out.as_mut_ptr(), out.len(), &mut written) };
         let over = answered(told)? == 1;

@@ -1,5 +1,8 @@
 //! A look-ahead is what so many ticks give on a copy: the record in every word, and the pulses of their bytes. The machine stays as it is.
 
+mod ticking;
+
+use ticking::ticked;
 use verdaizka::{word, Ahead, Block, Machine, Refused, Settings, Turn, Work, AHEAD_TICKS, USUAL};
 
 /// Feed 60,000 pays 1,000 charges a tick, a line's cycle or a straight step of an arc.
@@ -38,17 +41,6 @@ fn accepted(machine: &Machine, ticks: u64) -> Ahead {
     assert_eq!((answer, machine), (Ok(()), &before));
     assert_eq!(machine.ahead(ticks), Ok(ahead.clone()));
     ahead
-}
-
-/// So many ticks, one by one.
-fn ticked(machine: &Machine, ticks: u64) -> Ahead {
-    let (mut then, mut sums) = (machine.clone(), (0, 0));
-    for _ in 0..ticks {
-        let byte = then.tick().expect("sound");
-        let pulse = |code: u8| [0, 1, -1][usize::from(code & 3)];
-        sums = (sums.0 + pulse(byte), sums.1 + pulse(byte >> 2));
-    }
-    Ahead { then, sums }
 }
 
 /// Line (3, 4), here downward: (1, 1), (1, 2), (2, 2), (2, 3), (3, 4), and then it stands.

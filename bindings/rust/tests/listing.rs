@@ -1,6 +1,6 @@
 //! The wrapper checks a job: its listing is the stored one whatever the buffer, and its words tell how far it has come.
 
-use verdaizka::{word, Check, Machine, USUAL};
+use verdaizka::{word, Check, Machine, BENCH_WORDS, USUAL};
 
 const JOB: &[u8] = include_bytes!("../../../examples/gasket.job");
 const LISTING: &[u8] = include_bytes!("../../../examples/gasket.listing");
@@ -17,7 +17,7 @@ fn listing(text: &[u8], room: usize) -> Vec<u8> {
         if over {
             return all;
         }
-        check = Check::from_words(*check.machine(), *check.progress());
+        check = Check::from_words(*check.bench(), *check.progress());
     }
 }
 
@@ -28,16 +28,16 @@ fn the_stored_listing() {
     }
 }
 
-/// Where the machine stands, and how far the check has come, are words of their own.
+/// Where the bench stands, and how far the check has come, are words of their own; those of the bench are the first of a machine's.
 #[test]
 fn record_and_progress() {
     let text = b"G1 X10 F300\nG2 F200\nX0.01";
     let (mut check, _) = Check::start(USUAL);
-    assert_eq!((check.machine(), check.progress()), (Machine::make(USUAL).0.words(), &[0, 0, 0, -1, 0, 0, 0, 0]));
+    assert_eq!((&check.bench()[..], check.progress()), (&Machine::make(USUAL).0.words()[..BENCH_WORDS], &[0, 0, 0, -1, 0, 0, 0, 0]));
     let mut out = [0; 1_000];
     let (written, over) = check.fill(text, &mut out).expect("a check");
     assert_eq!((&out[..written], over), (b"block line kind cycles x y bits\n1 1 L 500 500 0 9\nline 3 refused 35\n".as_slice(), true));
-    assert_eq!(Machine::from_words(*check.machine()).position(), (500, 0));
+    assert_eq!([word::X, word::Y, word::WORK].map(|at| check.bench()[at]), [500, 0, 0]);
     let known = [word::STAGE, word::PROGRESS_G, word::PROGRESS_F, word::BLOCKS, word::CYCLES, word::TICKS].map(|at| check.progress()[at]);
     assert_eq!(known, [2, 2, 200, 1, 500, 10_000]);
 }

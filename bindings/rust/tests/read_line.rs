@@ -1,6 +1,6 @@
-//! Lines of a job text read at a machine: the block that comes into work, what is known, and that a refused line leaves both.
+//! Lines of a job text read at a machine: the block that comes into work or waits, what is known, and that a refused line leaves both.
 
-use verdaizka::{word, Known, Machine, Refused, Settings, Turn, Work, USUAL};
+use verdaizka::{word, Block, Known, Machine, Refused, Settings, Turn, Work, USUAL};
 
 fn fresh() -> (Machine, Known) {
     (Machine::make(USUAL).0, Known::none())
@@ -80,16 +80,35 @@ fn a_refused_line_leaves_machine_and_known() {
     assert_eq!(none, Known::none());
 }
 
-/// At a machine at work a line is refused by 10 where it would load, after its own questions; one that makes no block is not.
+/// At a machine at work a line goes from where the last block will end: to there it makes no block, back to the point it makes one. Each
+/// block has the F of its own line.
 #[test]
 fn a_machine_at_work() {
     let (mut machine, mut known) = fresh();
     assert_eq!(machine.read_line(&mut known, b"G1 F100 X1"), Ok(Some(6)));
-    let before = machine.clone();
+    assert_eq!(machine.read_line(&mut known, b"X1 F5"), Ok(None));
+    assert_eq!((machine.waiting(), machine.cycles_left(), known.words()), (0, 50, &[1, 5]));
+    assert_eq!(machine.read_line(&mut known, b"Y0.02"), Ok(Some(1)));
+    assert_eq!(machine.read_line(&mut known, b"X0 Y0 F7"), Ok(Some(6)));
+    assert_eq!(machine.read_line(&mut known, b"G3 I0.1"), Ok(Some(3)));
+    let lines = [Block::Line { x: 50, y: 1, feed: 250 }, Block::Line { x: 0, y: 0, feed: 350 }];
+    let turn = Block::Arc { turn: Turn::Counterclockwise, x: 0, y: 0, feed: 350, i: 5, j: 0 };
+    assert_eq!(machine.queue().collect::<Vec<_>>(), [lines[0], lines[1], turn]);
+    assert_eq!((machine.position(), machine.cycles_left()), ((0, 0), 50 + 1 + 51 + 28));
+}
+
+/// Where sixteen wait a line is refused by 10 where it would load, after its own questions; one that makes no block is not.
+#[test]
+fn a_full_queue() {
+    let (mut machine, mut known) = fresh();
+    for at in 0..17 {
+        assert_eq!(machine.read_line(&mut known, format!("G1 F100 X{}", at + 1).as_bytes()), Ok(Some(6)));
+    }
+    let before = *machine.words();
     assert_eq!(machine.read_line(&mut known, b"X2"), Err(Refused(10)));
     assert_eq!(machine.read_line(&mut known, b"X2 X2"), Err(Refused(33)));
-    assert_eq!(machine.read_line(&mut known, b"X0 F5"), Ok(None));
-    assert_eq!((machine, known), (before, Known::from_words([1, 5])));
+    assert_eq!(machine.read_line(&mut known, b"X17 F5"), Ok(None));
+    assert_eq!((machine.words(), known), (&before, Known::from_words([1, 5])));
 }
 
 #[test]

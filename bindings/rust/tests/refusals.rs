@@ -1,6 +1,7 @@
 //! A refused call carries its number and leaves every word and every byte.
 
-use verdaizka::{word, Ahead, Block, Check, Known, Machine, Refused, Settings, Turn, ABI, AHEAD_TICKS, PROGRESS_WORDS, USUAL, WORDS};
+use verdaizka::{word, Ahead, Block, Check, Known, Machine, Refused, Settings, Turn, ABI, AHEAD_TICKS, USUAL};
+use verdaizka::{BENCH_WORDS, BLOCK_WORDS, MOST_WAITING, PROGRESS_WORDS, WORDS};
 
 const LINE: Block = Block::Line { x: 300, y: -400, feed: 60_000 };
 /// The greatest remainder of a sound record at 5,000 ticks a second: below a diagonal step's charge times 300,000.
@@ -23,7 +24,8 @@ fn no_record(words: [i64; WORDS]) {
     assert_eq!((machine.hold(), machine.release(), machine.stop()), (Err(nine), Err(nine), Err(nine)));
     assert_eq!(machine.read_line(&mut known, b"X1"), Err(nine));
     for ticks in [1, AHEAD_TICKS + 1] {
-        assert_eq!(machine.ahead_told(ticks), (Ahead { then: Machine::from_words(words), sums: (0, 0) }, Err(nine)));
+        let (Ahead { then, sums }, answer) = machine.ahead_told(ticks);
+        assert_eq!((then.words(), sums, answer), (&words, (0, 0), Err(nine)));
     }
     assert_eq!((machine.words(), out, known.words()), (&words, [7; 20], &[1, 100]));
 }
@@ -36,7 +38,7 @@ fn another_layout_is_no_record() {
     busy.load(LINE).expect("accepted");
     idle.hold().expect("sound");
     for machine in [idle, busy] {
-        for abi in [0, 1, 3, -1, 50, i64::MAX, i64::MIN] {
+        for abi in [0, 1, 2, 4, -1, 50, i64::MAX, i64::MIN] {
             let mut words = *machine.words();
             words[word::ABI] = abi;
             no_record(words);
@@ -51,13 +53,93 @@ fn words_that_are_no_record() {
     let (mut machine, _) = Machine::make(USUAL);
     machine.load(LINE).expect("accepted");
     let sound = *machine.words();
-    // A line's stored cycles are its own alone; a mark is 0 or 1, a kind at most 3; nothing is negative that counts.
+    // A line's stored cycles, its root and the cycles to do are its own alone; a mark is 0 or 1, a kind at most 3; nothing is negative that
+    // counts.
     let cycles = word::NUMBERS + 5;
     let bad = [(cycles, 501), (cycles, 0), (word::HELD, 2), (word::WORK, 4), (word::WORK, -1), (word::P, 0)];
-    for (at, value) in bad.into_iter().chain([-1, MOST + 1, i64::MAX].map(|remainder| (word::REMAINDER, remainder))) {
-        let mut words = sound;
-        words[at] = value;
-        no_record(words);
+    let figures = [word::ROOT, word::LEFT].into_iter().flat_map(|at| [0, 499, 501, -500, i64::MAX].map(|value| (at, value)));
+    for (at, value) in bad.into_iter().chain([-1, MOST + 1, i64::MAX].map(|remainder| (word::REMAINDER, remainder))).chain(figures) {
+        no_record(with(&sound, at, value));
+    }
+    let idle = *Machine::make(USUAL).0.words();
+    for at in [word::ROOT, word::LEFT, word::WAITING] {
+        no_record(with(&idle, at, 1));
+    }
+}
+
+fn with(words: &[i64; WORDS], at: usize, value: i64) -> [i64; WORDS] {
+    let mut words = *words;
+    words[at] = value;
+    words
+}
+
+/// The word of the block that waits in this place, the first being 0.
+fn of_place(place: usize, word: usize) -> usize {
+    word::QUEUE + place * BLOCK_WORDS + word
+}
+
+/// Some words of a block that waits.
+const KIND: usize = 0;
+const END_X: usize = 1;
+const FEED: usize = 3;
+const I: usize = 4;
+const ROOT: usize = 6;
+
+/// A line in work, and behind it a full turn of 28 cycles, 7 in a quarter, and a line of 5.
+#[test]
+fn words_of_blocks_that_wait() {
+    let (mut machine, _) = Machine::make(USUAL);
+    for block in
+        [LINE, Block::Arc { turn: Turn::Clockwise, x: 300, y: -400, feed: 7, i: 0, j: 5 }, Block::Line { x: 303, y: -404, feed: 7 }]
+    {
+        machine.load(block).expect("accepted");
+    }
+    let sound = *machine.words();
+    assert_eq!(machine.cycles_left(), 500 + 28 + 5);
+    let figures = [(word::LEFT, 532), (word::LEFT, 534), (word::LEFT, 500), (word::ROOT, 499), (word::ROOT, 7)];
+    let lengths = [1, 3, 17, -1, 2 + (1 << 32), i64::MAX, i64::MIN].map(|length| (word::WAITING, length));
+    let kinds = [0, 1, 4, -2, i64::MAX].map(|kind| (of_place(0, KIND), kind));
+    let roots = [(0, 6), (0, 8), (0, 28), (1, 4), (1, 6), (1, 0), (1, -5)].map(|(place, root)| (of_place(place, ROOT), root));
+    let feeds = [0, -7, 300_001, i64::MAX].map(|feed| (of_place(1, FEED), feed));
+    // 14 and 15 for the turn; a line has no centre, and ends in travel.
+    let others = [(of_place(0, I), 1_000_001), (of_place(0, END_X), 310), (of_place(1, I), 1), (of_place(1, END_X), 1_000_001)];
+    for (at, value) in figures.into_iter().chain(lengths).chain(kinds).chain(roots).chain(feeds).chain(others) {
+        no_record(with(&sound, at, value));
+    }
+    assert_eq!(Machine::from_words(sound).hold(), Ok(()));
+}
+
+/// What stands behind the last one that waits is no part of the record: whatever it is, no answer depends on it, and it stays.
+#[test]
+fn words_behind_the_record() {
+    for length in [0, 1, MOST_WAITING - 1] {
+        let (mut clean, _) = Machine::make(USUAL);
+        for at in 0..=length as i64 {
+            clean.load(Block::Line { x: at + 1, y: 0, feed: 300_000 }).expect("accepted");
+        }
+        let end = of_place(length, 0);
+        let mut words = *clean.words();
+        words[end..].fill(i64::MIN);
+        let mut other = Machine::from_words(words);
+        assert_eq!((clean.record().len(), &clean), (end, &other));
+        let mut known = [Known::none(), Known::none()];
+        for call in 0..5 {
+            let answers = [&mut clean, &mut other].into_iter().zip(&mut known).map(|(machine, known)| match call {
+                0 => machine.hold().map(|()| 0),
+                1 => machine.release().map(|()| 0),
+                2 => machine.ahead(7).map(|ahead| ahead.sums.0),
+                3 => machine.tick().map(i64::from),
+                _ => machine.read_line(known, b"G1 F6000").map(|bits| bits.unwrap_or(0)),
+            });
+            assert!(answers.collect::<Vec<_>>().windows(2).all(|two| two[0].is_ok() && two[0] == two[1]), "{call}");
+            assert_eq!((&clean, &other.words()[end..]), (&other, &[i64::MIN; WORDS][end..]), "{call}");
+        }
+        // The first that waited is in work, and a load takes the place that came free.
+        assert_eq!(other.waiting(), (length as i64 - 1).max(0));
+        assert_eq!(other.load(Block::Line { x: 0, y: 9, feed: 1 }), clean.load(Block::Line { x: 0, y: 9, feed: 1 }));
+        assert_eq!((&clean, &other.words()[end..]), (&other, &[i64::MIN; WORDS][end..]));
+        other.stop().expect("sound");
+        assert_eq!((other.record().len(), &other.words()[end..]), (word::QUEUE, &[i64::MIN; WORDS][end..]));
     }
 }
 
@@ -93,10 +175,26 @@ fn a_refused_load_leaves_the_record() {
         assert_eq!(machine.load(block), Err(Refused(number)), "{block:?}");
         assert_eq!(machine, fresh);
     }
-    machine.load(LINE).expect("accepted");
-    let busy = machine.clone();
-    assert_eq!(machine.load(LINE), Err(Refused(10)));
-    assert_eq!(machine, busy);
+}
+
+/// Sixteen wait, and one more is refused whatever else is wrong with it; the words are those of the seventeen.
+#[test]
+fn the_eighteenth_block() {
+    let (mut machine, _) = Machine::make(USUAL);
+    for at in 0..=MOST_WAITING as i64 {
+        assert_eq!(machine.waiting(), (at - 1).max(0));
+        machine.load(Block::Line { x: at + 1, y: 0, feed: 60_000 }).expect("accepted");
+    }
+    let full = *machine.words();
+    assert_eq!((machine.record(), machine.waiting(), machine.cycles_left()), (&full[..], 16, 17));
+    let last = Block::Line { x: 17, y: 0, feed: 60_000 };
+    for block in [Block::Line { x: 18, y: 0, feed: 60_000 }, last, Block::Line { x: 1 << 40, y: 0, feed: 0 }, arc(0, 0, 0), arc(17, 5, 0)] {
+        assert_eq!(machine.load(block), Err(Refused(10)));
+        assert_eq!(machine.words(), &full);
+    }
+    let mut known = Known::none();
+    assert_eq!(machine.read_line(&mut known, b"G1 X1 F100"), Err(Refused(10)));
+    assert_eq!((machine.words(), known), (&full, Known::none()));
 }
 
 #[test]
@@ -121,23 +219,24 @@ fn a_refused_make_is_the_usual_machine() {
 #[test]
 fn words_that_are_no_check() {
     let sound = Check::start(USUAL).0;
-    let mut bad = vec![([7; WORDS], [7; PROGRESS_WORDS]), (*sound.machine(), [7; PROGRESS_WORDS]), ([7; WORDS], *sound.progress())];
-    for abi in [0, 1] {
-        let mut machine = *sound.machine();
-        machine[word::ABI] = abi;
-        bad.push((machine, *sound.progress()));
+    let mut bad =
+        vec![([7; BENCH_WORDS], [7; PROGRESS_WORDS]), (*sound.bench(), [7; PROGRESS_WORDS]), ([7; BENCH_WORDS], *sound.progress())];
+    for abi in [0, 1, 2] {
+        let mut bench = *sound.bench();
+        bench[word::ABI] = abi;
+        bad.push((bench, *sound.progress()));
     }
     for (at, value) in
         [(word::STAGE, 3), (word::STAGE, -1), (word::PROGRESS_G, 4), (word::PROGRESS_F, -2), (word::LINES, -1), (word::AT, -1)]
     {
         let mut progress = *sound.progress();
         progress[at] = value;
-        bad.push((*sound.machine(), progress));
+        bad.push((*sound.bench(), progress));
     }
-    for (machine, progress) in bad {
-        let mut check = Check::from_words(machine, progress);
+    for (bench, progress) in bad {
+        let mut check = Check::from_words(bench, progress);
         let mut out = [7; 200];
         assert_eq!(check.fill(b"G1 X10 F300\n", &mut out), Err(Refused(9)), "{progress:?}");
-        assert_eq!((check.machine(), check.progress(), out), (&machine, &progress, [7; 200]));
+        assert_eq!((check.bench(), check.progress(), out), (&bench, &progress, [7; 200]));
     }
 }

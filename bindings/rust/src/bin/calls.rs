@@ -1,24 +1,28 @@
 //! The runner of call files (`docs/CALL-FILES.md`): every line is written anew, each `>` line followed by the core's answer.
 //!
 //! `calls [--records]` reads standard input. With `--records` a line `= RECORD` stands after each answer, and every word of the core's
-//! record is compared with it; of a record ahead every word is compared in any case. Exit status 2, with what was answered so far: a line
-//! that is no call, a run that asks for more memory than there is, and reading or writing that failed; standard error has the line and why.
-//! Also where standard input or output is closed.
+//! record is compared with it; of a record ahead every word is compared in any case, and so are the words that a call is to leave as they
+//! are: all where it is refused, else those behind the record. Exit status 2, with what was answered so far: a line that is no call, a run
+//! that asks for more memory than there is, and reading or writing that failed; standard error has the line and why. Also where standard
+//! input or output is closed.
 
 use std::fmt;
 use std::io::{self, BufRead, BufWriter, Write};
 use std::process::ExitCode;
 use verdaizka::crc::Crc;
 use verdaizka::fields::{is_of, record_told, Fields};
-use verdaizka::{descriptors, word, Ahead, Block, Known, Machine, Refused, Settings, Why, USUAL};
+use verdaizka::{descriptors, word, Ahead, Block, Known, Machine, Refused, Settings, Why, USUAL, WORDS};
 
 /// The longest buffer that a run is lent, in bytes: a system that promises more memory than it has would end the runner unheard.
 const LONGEST_BUFFER: usize = 1 << 30;
 
+/// What stands in the words behind a record when a machine is made or set: no answer depends on it, so that any number will do.
+const UNUSED: i64 = -7_777_777_777;
+
 enum Call<'a> {
     Make(Settings),
     /// With its words as they stand in the line where some are numbers that no word of the core's record holds.
-    Record(Machine, Option<&'a str>),
+    Record(Box<Machine>, Option<&'a str>),
     Load(Block),
     Tick,
     Hold,
@@ -47,7 +51,7 @@ impl<'a> Call<'a> {
             "make" => Call::Make(fields.settings()?),
             "record" => {
                 let machine = fields.record()?;
-                Call::Record(machine, call.strip_prefix("record ").filter(|_| fields.is_beyond()))
+                Call::Record(Box::new(machine), call.strip_prefix("record ").filter(|_| fields.is_beyond()))
             }
             "load" => Call::Load(fields.block()?),
             "tick" => Call::Tick,
@@ -97,11 +101,25 @@ struct Runner {
 
 impl Runner {
     fn of(machine: Machine) -> Runner {
-        Runner { machine, known: Known::none(), made_up: None }
+        let mut words = [UNUSED; WORDS];
+        let record = machine.record();
+        words[..record.len()].copy_from_slice(record);
+        Runner { machine: Machine::from_words(words), known: Known::none(), made_up: None }
     }
 
-    /// The answer or the number of its refusal; or why the call cannot be done here.
+    /// The answer or the number of its refusal; or why the call cannot be done here, or has written where it should not.
     fn call(&mut self, call: Call) -> Result<Result<String, Refused>, Left> {
+        let (makes_anew, looks) = (matches!(call, Call::Make(_) | Call::Record(..) | Call::Jump(_)), matches!(call, Call::Ahead(_)));
+        let before = *self.machine.words();
+        let told = self.done(call)?;
+        let written = if looks || told.is_err() { 0 } else { self.machine.record().len() };
+        if !makes_anew && self.machine.words()[written..] != before[written..] {
+            return Err(Left::Undone("a word that the call should leave was changed".to_string()));
+        }
+        Ok(told)
+    }
+
+    fn done(&mut self, call: Call) -> Result<Result<String, Refused>, Left> {
         let done = |answer: Result<(), Refused>| answer.map(|()| "done".to_string());
         Ok(match call {
             Call::Make(settings) => {
@@ -110,7 +128,7 @@ impl Runner {
                 made.map(|()| "made".to_string())
             }
             Call::Record(machine, made_up) => {
-                *self = Runner { made_up: made_up.map(str::to_string), ..Runner::of(machine) };
+                *self = Runner { made_up: made_up.map(str::to_string), ..Runner::of(*machine) };
                 Ok("set".to_string())
             }
             Call::Load(block) => self.machine.load(block).map(|bits| format!("bits {bits}")),
@@ -182,11 +200,17 @@ fn lent(length: u64, fill: u8) -> Result<Vec<u8>, Left> {
     Ok(out)
 }
 
-/// X Y HELD REM BUSY of a record told, in which the words from P on stand in their order.
+/// X Y HELD REM BUSY WAITING LEFT of a record told, in which the words from P on stand in their order.
 fn state_of(record: &str) -> String {
     let words: Vec<&str> = record.split(' ').collect();
     let (x, work) = (word::X - word::P, word::WORK - word::P);
-    format!("{} {}", words[x..work].join(" "), u8::from(words[work] != "none"))
+    let left = work
+        + match words[work] {
+            "none" => 1,
+            "line" => 7,
+            _ => 8,
+        };
+    format!("{} {} {} {}", words[x..work].join(" "), u8::from(words[work] != "none"), words[left + 1], words[left])
 }
 
 fn bytes_told(bytes: &[u8]) -> String {

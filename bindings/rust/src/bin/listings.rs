@@ -5,7 +5,7 @@
 use std::io::{self, BufWriter, Read, Write};
 use std::process::ExitCode;
 use verdaizka::fields::{is_of, record_told, Fields};
-use verdaizka::{word, Check, Machine, Refused, Settings, USUAL};
+use verdaizka::{word, Check, Machine, Refused, Settings, BENCH_WORDS, USUAL, WORDS};
 
 /// A row has at most this many bytes; less room gets none.
 const LEAST: usize = 160;
@@ -39,7 +39,7 @@ fn wrong(what: &str) -> io::Error {
 /// One piece: how many bytes, and whether it is the last. The check's words are taken out and brought back, as a caller may do.
 fn fill(check: &mut Check, text: &[u8], out: &mut [u8]) -> io::Result<(usize, bool)> {
     out.fill(UNTOUCHED);
-    *check = Check::from_words(*check.machine(), *check.progress());
+    *check = Check::from_words(*check.bench(), *check.progress());
     let (written, over) = check.fill(text, out).map_err(|Refused(number)| wrong(&format!("a fill is refused by {number}")))?;
     match out.get(written..) {
         Some(rest) if rest.iter().all(|&byte| byte == UNTOUCHED) => Ok((written, over)),
@@ -66,9 +66,12 @@ fn list(check: &mut Check, text: &[u8], sizes: &mut impl Iterator<Item = usize>,
     }
 }
 
-/// What the job leaves: `= RECORD known G F done BLOCKS CYCLES TICKS`.
+/// What the job leaves: `= RECORD known G F done BLOCKS CYCLES TICKS`. A check's bench is idle between two rows: nothing waits, and no
+/// cycle is to do.
 fn write_end(check: &Check, out: &mut impl Write) -> io::Result<()> {
-    let machine = Machine::from_words(*check.machine());
+    let mut words = [0; WORDS];
+    words[..BENCH_WORDS].copy_from_slice(check.bench());
+    let machine = Machine::from_words(words);
     let record = record_told(&machine);
     if !is_of(&record, &machine) {
         return Err(wrong(&format!("{:?} are not the words of {record}", machine.words())));
