@@ -34,13 +34,12 @@ mod tests {
     use super::*;
     use crate::arc::Kind;
     use crate::book::Load;
-    use crate::level::Level;
     use crate::settings::{Settings, USUAL};
     use crate::sound::record_of;
 
     /// A machine with q0 60,000 and this block in work.
     fn with(load: Load) -> Book {
-        let mut book = Book::make(Level::Three, Settings { w: 1_000, ..USUAL }).0;
+        let mut book = Book::make(Settings { w: 1_000, ..USUAL }).0;
         book.load(&load).unwrap();
         book
     }
@@ -137,7 +136,7 @@ mod tests {
         let mut held = line(60_000);
         held.tick();
         held.hold();
-        for book in [Book::make(Level::Three, USUAL).0, held] {
+        for book in [Book::make(USUAL).0, held] {
             for ticks in [0, 1, 5, MOST_TICKS] {
                 let (then, sums) = ahead(&book, ticks).unwrap();
                 assert_eq!((record_of(&then), sums), (record_of(&book), ORIGIN));

@@ -5,7 +5,6 @@ use std::collections::VecDeque;
 
 use crate::arc::{self, Circle, Kind, Walker};
 use crate::charge;
-use crate::level::Level;
 use crate::line;
 use crate::point::{Point, ORIGIN};
 use crate::settings::{Settings, USUAL};
@@ -116,7 +115,6 @@ pub enum Why {
 /// done c."
 #[derive(Clone, Debug)]
 pub struct Book {
-    pub level: Level,
     pub settings: Settings,
     pub point: Point,
     pub held: bool,
@@ -130,6 +128,9 @@ pub struct Book {
     walker: Walker,
 }
 
+/// "The machine shall hold up to 16 blocks after the one in work"
+pub const MOST_WAITING: usize = 16;
+
 /// "32 if the block ended"
 const END: u8 = 32;
 
@@ -139,31 +140,31 @@ const GAP_IN_THE_ORDER: u32 = 0;
 
 impl Book {
     /// "A fresh machine stands at (0, 0), idle, not held, remainder 0."
-    fn fresh(level: Level, settings: Settings) -> Book {
-        Book::opened(level, settings, ORIGIN, false, 0, None)
+    fn fresh(settings: Settings) -> Book {
+        Book::opened(settings, ORIGIN, false, 0, None)
     }
 
     /// "A refused make answers the number and the fresh machine with p 50, w 5,000 and the
     /// widest travel."
-    pub fn make(level: Level, settings: Settings) -> (Book, Option<u32>) {
+    pub fn make(settings: Settings) -> (Book, Option<u32>) {
         match settings.refusal() {
-            None => (Book::fresh(level, settings), None),
-            Some(number) => (Book::fresh(level, USUAL), Some(number)),
+            None => (Book::fresh(settings), None),
+            Some(number) => (Book::fresh(USUAL), Some(number)),
         }
     }
 
     /// A book opened in the middle, for a sound made-up record whose waiting blocks are then loaded. The cycles and charges of an arc are
     /// counted from where it stands.
-    pub fn opened(level: Level, settings: Settings, point: Point, held: bool, remainder: u64, block: Option<Block>) -> Book {
+    pub fn opened(settings: Settings, point: Point, held: bool, remainder: u64, block: Option<Block>) -> Book {
         let left = block.map_or(0, |block| block.left());
-        Book { level, settings, point, held, remainder, block, waiting: VecDeque::new(), left, walker: Walker::default() }
+        Book { settings, point, held, remainder, block, waiting: VecDeque::new(), left, walker: Walker::default() }
     }
 
     /// "The other load questions, and what a text line leaves out, start from the end of the last waiting block, else of the block in
-    /// work, else from the point". At level 2 from the point, of a text line at work too.
+    /// work, else from the point"
     pub fn place(&self) -> Point {
         let last = self.waiting.back().or(self.block.as_ref());
-        last.filter(|_| self.level == Level::Three).map_or(self.point, |last| last.end)
+        last.map_or(self.point, |last| last.end)
     }
 
     /// "Load: the first no among 10 to 16, put to the book, is the answer and nothing changes.
@@ -179,8 +180,8 @@ impl Book {
     }
 
     fn asked(&mut self, load: &Load) -> Result<Block, u32> {
-        // "is nothing in work? 10.", and by 02 §3 "are fewer than 16 waiting?"
-        if self.block.is_some() && self.waiting.len() >= self.level.most_waiting() {
+        // 02 §3: "Question 10 becomes: are fewer than 16 waiting?" None waits where nothing is in work.
+        if self.block.is_some() && self.waiting.len() >= MOST_WAITING {
             return Err(10);
         }
         // "Is f in 1..q0? 11."
@@ -348,7 +349,7 @@ mod tests {
     use super::*;
 
     fn usual() -> Book {
-        Book::make(Level::Three, USUAL).0
+        Book::make(USUAL).0
     }
 
     fn line(x: i64, y: i64, f: u64) -> Load {
@@ -375,7 +376,7 @@ mod tests {
         assert_eq!(Settings { w: 20_001, ..USUAL }.refusal(), Some(2));
         assert_eq!(Settings { y_upper: 1_000_001, ..USUAL }.refusal(), Some(3));
         assert_eq!(Settings { y_upper: -1, ..USUAL }.refusal(), Some(3));
-        let (book, number) = Book::make(Level::Three, bad);
+        let (book, number) = Book::make(bad);
         assert_eq!((book.settings, number), (USUAL, Some(1)));
     }
 
@@ -393,21 +394,6 @@ mod tests {
         // "N 2: end (0, 1) has F -1, accepted; (0, 2) has F 2, gives 15", centre (1, 1).
         assert_eq!(book.load(&arc(3, 1, 3, 1, 1, 1)), Err(15));
         assert_eq!(book.clone().load(&arc(3, 1, 2, 1, 1, 1)), Ok(1));
-    }
-
-    /// At level 2 "is nothing in work?", and then 10 whatever else is wrong; the place is the point.
-    #[test]
-    fn none_waits_at_level_2() {
-        let mut book = Book::make(Level::Two, USUAL).0;
-        assert_eq!(book.load(&line(3, 4, 300_000)), Ok(3));
-        book.tick();
-        assert_eq!((book.point, book.place()), (Point::new(1, 1), Point::new(1, 1)));
-        for load in [line(9, 9, 300_000), line(0, 0, 0), line(1, 1, 1), arc(2, 0, 0, 0, 0, 0)] {
-            assert_eq!(book.load(&load), Err(10));
-        }
-        assert_eq!(book.run(9, 9, |_| ()), (Why::Ended, 4));
-        assert_eq!(book.load(&line(3, 4, 300_000)), Err(13));
-        assert_eq!(book.load(&line(0, 0, 300_000)), Ok(3));
     }
 
     /// "are fewer than 16 waiting?": 17 blocks in all, and then 10 whatever else is wrong. A block that ends makes room.
@@ -438,7 +424,7 @@ mod tests {
     /// "The other load questions .. start from the end of the last waiting block, else of the block in work, else from the point".
     #[test]
     fn where_a_waiting_block_starts() {
-        let mut book = Book::make(Level::Three, Settings { x_upper: 13, ..USUAL }).0;
+        let mut book = Book::make(Settings { x_upper: 13, ..USUAL }).0;
         book.load(&line(3, 4, 300_000)).unwrap();
         book.tick();
         assert_eq!((book.point, book.place()), (Point::new(1, 1), Point::new(3, 4)));
@@ -512,11 +498,11 @@ mod tests {
     #[test]
     fn travel_is_tried_at_every_visited_point() {
         let half = arc(3, 0, 10, 300_000, 0, 5);
-        let mut book = Book::make(Level::Three, Settings { x_upper: 5, ..USUAL }).0;
+        let mut book = Book::make(Settings { x_upper: 5, ..USUAL }).0;
         assert_eq!(book.load(&half), Ok(3));
         assert_eq!(bytes(&mut book).into_iter().filter(|byte| byte & 16 != 0).count(), 14);
         assert_eq!(book.point, Point::new(0, 10));
-        assert_eq!(Book::make(Level::Three, Settings { x_upper: 4, ..USUAL }).0.load(&half), Err(16));
+        assert_eq!(Book::make(Settings { x_upper: 4, ..USUAL }).0.load(&half), Err(16));
     }
 
     /// "f equal to q0 accepted; q0 + 1 gives 11."

@@ -7,7 +7,6 @@ use crate::book::{Load, Why};
 use crate::crc::Crc;
 use crate::fields::Fields;
 use crate::job::{Meaning, Reader};
-use crate::level::Level;
 use crate::machine::{Ahead, Machine};
 use crate::settings::{Settings, USUAL};
 use crate::sound::{Record, Work};
@@ -64,9 +63,9 @@ pub enum Told {
 }
 
 /// Writes every line anew, each `>` line followed by its answer. Before the first make the machine is
-/// the fresh one with p 50, w 5,000 and the widest travel. The first line says of which level the file is.
+/// the fresh one with p 50, w 5,000 and the widest travel.
 pub fn answer_file(input: &mut impl BufRead, told: Told, out: &mut impl Write) -> Result<(), Left> {
-    let mut runner = Runner::fresh(Level::Two);
+    let mut runner = Runner::fresh();
     let mut line = Vec::new();
     for number in 1.. {
         let left = |why| Left { line: number, why };
@@ -76,15 +75,12 @@ pub fn answer_file(input: &mut impl BufRead, told: Told, out: &mut impl Write) -
             break;
         }
         let text = line.strip_suffix(b"\n").unwrap_or(&line);
-        if number == 1 {
-            runner = Runner::fresh(Level::of_file(text));
-        }
         match text.first() {
             Some(b'#') => writeln_bytes(text, out).map_err(io)?,
             // What an earlier run told, so that its file can be put to the runner again.
             Some(b'<' | b'=') => (),
             _ => {
-                let call = std::str::from_utf8(text).ok().and_then(|text| Call::of_line(text, runner.level)).ok_or(left(Reason::NoCall))?;
+                let call = std::str::from_utf8(text).ok().and_then(Call::of_line).ok_or(left(Reason::NoCall))?;
                 writeln_bytes(text, out).map_err(io)?;
                 runner.write_answer(&call, told, out).map_err(io)?;
             }
@@ -100,14 +96,13 @@ fn writeln_bytes(line: &[u8], out: &mut impl Write) -> io::Result<()> {
 
 /// The machine of a call file, and the G and F known beside it.
 pub struct Runner {
-    level: Level,
     pub machine: Machine,
     pub known: Reader,
 }
 
 impl Runner {
-    pub fn fresh(level: Level) -> Runner {
-        Runner { level, machine: Machine::make(level, USUAL).0, known: Reader::default() }
+    pub fn fresh() -> Runner {
+        Runner { machine: Machine::make(USUAL).0, known: Reader::default() }
     }
 
     fn write_answer(&mut self, call: &Call, told: Told, out: &mut impl Write) -> io::Result<()> {
@@ -128,12 +123,12 @@ impl Runner {
         let machine = &mut self.machine;
         match *call {
             Call::Make(settings) => {
-                let (made, refusal) = Machine::make(self.level, settings);
-                *self = Runner { level: self.level, machine: made, known: Reader::default() };
+                let (made, refusal) = Machine::make(settings);
+                *self = Runner { machine: made, known: Reader::default() };
                 refusal.map_or(Ok("made".to_string()), Err)
             }
             Call::Record(ref record) => {
-                *self = Runner { level: self.level, machine: Machine::of_record(record), known: Reader::default() };
+                *self = Runner { machine: Machine::of_record(record), known: Reader::default() };
                 Ok("set".to_string())
             }
             Call::Load(load) => machine.load(&load).map(|bits| format!("bits {bits}")),
@@ -164,14 +159,10 @@ impl Runner {
     }
 }
 
-/// X Y HELD REM BUSY, and from level 3 on WAITING LEFT
+/// X Y HELD REM BUSY WAITING LEFT
 fn state(record: &Record) -> String {
-    let Record { level, point, held, remainder, work, waiting, left, .. } = record;
-    let state = format!("{point} {} {remainder} {}", u8::from(*held), u8::from(*work != Work::Nothing));
-    match level {
-        Level::Two => state,
-        Level::Three => format!("{state} {waiting} {left}"),
-    }
+    let Record { point, held, remainder, work, waiting, left, .. } = record;
+    format!("{point} {} {remainder} {} {waiting} {left}", u8::from(*held), u8::from(*work != Work::Nothing))
 }
 
 fn look(ahead: &Ahead) -> String {
@@ -221,21 +212,21 @@ impl Tape {
 }
 
 impl Call {
-    fn of_line(line: &str, level: Level) -> Option<Call> {
+    fn of_line(line: &str) -> Option<Call> {
         let call = line.strip_prefix("> ")?;
         // All that follows the blank is the line, blanks at its end too.
         if let Some(text) = call.strip_prefix("text ") {
             return text.bytes().all(|byte| (32..=126).contains(&byte)).then(|| Call::Text(text.to_string()));
         }
         let mut fields = Fields::of(call);
-        let call = Call::of_fields(&mut fields, level)?;
+        let call = Call::of_fields(&mut fields)?;
         fields.end().map(|()| call)
     }
 
-    fn of_fields(fields: &mut Fields, level: Level) -> Option<Call> {
+    fn of_fields(fields: &mut Fields) -> Option<Call> {
         match fields.word()? {
             "make" => Some(Call::Make(fields.settings()?)),
-            "record" => Some(Call::Record(fields.record(level)?)),
+            "record" => Some(Call::Record(fields.record()?)),
             "load" => Some(Call::Load(fields.load()?)),
             "tick" => Some(Call::Tick),
             "hold" => Some(Call::Hold),
@@ -284,41 +275,34 @@ mod tests {
 
     /// These calls get these answers.
     fn all_answered(pairs: &[(&str, &str)]) {
-        all_answered_after("", pairs);
-    }
-
-    /// The same in a file that begins with these lines.
-    fn all_answered_after(head: &str, pairs: &[(&str, &str)]) {
         let calls: String = pairs.iter().map(|(call, _)| format!("> {call}\n")).collect();
         let expected: String = pairs.iter().map(|(call, answer)| format!("> {call}\n< {answer}\n")).collect();
-        assert_eq!(answers(&format!("{head}{calls}")).unwrap(), format!("{head}{expected}"));
+        assert_eq!(answers(&calls).unwrap(), expected);
     }
-
-    const LEVEL_3: &str = "# level 3\n";
 
     #[test]
     fn a_small_file() {
         all_answered(&[
-            ("make 50 5000 -10 10 -10 10", "made | 0 0 0 0 0"),
-            ("load L 1 1 300000", "bits 1 | 0 0 0 0 1"),
-            ("run 9 9 7", "ended 2 1530 | 1 1 0 0 0"),
-            ("make 0 1 2 3 4 5", "refused 1 | 0 0 0 0 0"),
-            ("load A 3 0 0 300000 0 1", "bits 1 | 0 0 0 0 1"),
+            ("make 50 5000 -10 10 -10 10", "made | 0 0 0 0 0 0 0"),
+            ("load L 1 1 300000", "bits 1 | 0 0 0 0 1 0 2"),
+            ("run 9 9 7", "ended 2 1530 | 1 1 0 0 0 0 0"),
+            ("make 0 1 2 3 4 5", "refused 1 | 0 0 0 0 0 0 0"),
+            ("load A 3 0 0 300000 0 1", "bits 1 | 0 0 0 0 1 0 4"),
             // A diagonal step is charged 1,414: the second tick leaves 586 × 300,000.
-            ("tick", "byte 0 | 0 0 0 300000000 1"),
-            ("tick", "byte 21 | 1 1 0 175800000 1"),
-            ("hold", "done | 1 1 1 175800000 1"),
-            ("run 0 0 255", "held 0 - | 1 1 1 175800000 1"),
-            ("stop", "done | 1 1 1 0 0"),
+            ("tick", "byte 0 | 0 0 0 300000000 1 0 4"),
+            ("tick", "byte 21 | 1 1 0 175800000 1 0 3"),
+            ("hold", "done | 1 1 1 175800000 1 0 3"),
+            ("run 0 0 255", "held 0 - | 1 1 1 175800000 1 0 3"),
+            ("stop", "done | 1 1 1 0 0 0 0"),
         ]);
-        assert_eq!(answers("# a comment\n#\n> tick").unwrap(), "# a comment\n#\n> tick\n< byte 0 | 0 0 0 0 0\n");
+        assert_eq!(answers("# a comment\n#\n> tick").unwrap(), "# a comment\n#\n> tick\n< byte 0 | 0 0 0 0 0 0 0\n");
     }
 
     #[test]
     fn an_unsound_record_answers_9() {
-        let refused = "refused 9 | 11 0 1 7 0";
+        let refused = "refused 9 | 11 0 1 7 0 0 0";
         all_answered(&[
-            ("record 50 5000 -10 10 -10 10 11 0 1 7 none", "set | 11 0 1 7 0"),
+            ("record 50 5000 -10 10 -10 10 11 0 1 7 none 0 0", "set | 11 0 1 7 0 0 0"),
             ("tick", refused),
             ("load L 0 0 0", refused),
             ("run 1 1 1", refused),
@@ -326,7 +310,7 @@ mod tests {
             ("release", refused),
             ("hold", refused),
             ("text ?", refused),
-            ("make 50 5000 0 0 0 0", "made | 0 0 0 0 0"),
+            ("make 50 5000 0 0 0 0", "made | 0 0 0 0 0 0 0"),
         ]);
     }
 
@@ -368,96 +352,62 @@ mod tests {
         }
     }
 
-    /// `# level 3` says it in the first line, and no other line.
+    /// So many blocks as the record says, sixteen where it says more.
     #[test]
-    fn the_level_of_a_file() {
-        let record = "50 5000 -10 10 -10 10 0 0 0 0 none";
-        let (two, three) = (format!("record {record}"), format!("record {record} 0 0"));
-        for head in ["", "# level 0\n", "# level 2\n", "# level 30\n", "# level 3 \n", "#level 3\n", "#\n# level 3\n"] {
-            all_answered_after(
-                head,
-                &[("tick", "byte 0 | 0 0 0 0 0"), (&two, "set | 0 0 0 0 0"), ("make 0 0 0 0 0 0", "refused 1 | 0 0 0 0 0")],
-            );
-            assert_eq!(answers(&format!("{head}> {three}\n")), Err(head.lines().count() + 1));
-        }
-        let refused = ("make 0 0 0 0 0 0", "refused 1 | 0 0 0 0 0 0 0");
-        all_answered_after(LEVEL_3, &[("tick", "byte 0 | 0 0 0 0 0 0 0"), (&three, "set | 0 0 0 0 0 0 0"), refused, refused]);
-        assert_eq!(answers(&format!("{LEVEL_3}> {two}\n")), Err(2));
-    }
-
-    /// Of level 3: so many blocks as the record says, sixteen where it says more.
-    #[test]
-    fn other_records_of_level_3_are_errors() {
+    fn other_records_are_errors() {
         for rest in ["", " 0", " 0 -1", " 0 0 L 1 1 1", " 1 1", " 1 1 A 1 1 1 1 1", " 1 17 L 1 1 1"] {
-            let text = format!("{LEVEL_3}> tick\n> record 50 5000 -10 10 -10 10 0 0 0 0 none{rest}\n");
-            assert_eq!(answers(&text), Err(3), "{rest}");
+            let text = format!("> tick\n> record 50 5000 -10 10 -10 10 0 0 0 0 none{rest}\n");
+            assert_eq!(answers(&text), Err(2), "{rest}");
         }
     }
 
     /// A block that waits: where it starts, that a run stops at each end, and that a look goes on through it.
     #[test]
     fn waiting_blocks() {
-        all_answered_after(
-            LEVEL_3,
-            &[
-                ("record 50 1000 -20 20 -20 20 0 0 0 0 line 0 0 3 4 60000 0 7 2 L 3 5 60000 A 2 4 6 1 1 0", "set | 0 0 0 0 1 2 7"),
-                ("ahead 6", "ahead 3 5 3 5 0 0 1 0 1 | 0 0 0 0 1 2 7"),
-                ("run 99 99 0", "ended 5 1514111435 | 3 4 0 0 1 1 2"),
-                ("load L 3 4 60000", "bits 2 | 3 4 0 0 1 2 5"),
-                ("load L 3 4 60000", "refused 13 | 3 4 0 0 1 2 5"),
-                ("jump 1", "ahead 0 1 3 5 0 0 1 1 4 | 3 5 0 0 1 1 4"),
-                ("stop", "done | 3 5 0 0 0 0 0"),
-                ("make 50 1000 -20 20 -20 20", "made | 0 0 0 0 0 0 0"),
-                ("text G1 X0.1 F100", "bits 3 | 0 0 0 0 1 0 5"),
-                ("text X0.1", "none | 0 0 0 0 1 0 5"),
-                ("text X0", "bits 3 | 0 0 0 0 1 1 10"),
-                ("text G2 X1", "refused 37 | 0 0 0 0 1 1 10"),
-            ],
-        );
-    }
-
-    /// The stored files of level 3 get their stored answers, and these get themselves.
-    #[test]
-    fn stored_files() {
-        let mut found = 0;
-        for file in std::fs::read_dir(concat!(env!("CARGO_MANIFEST_DIR"), "/calls")).unwrap().map(|file| file.unwrap().path()) {
-            assert!(["calls", "answers"].iter().any(|kind| file.extension() == Some(kind.as_ref())), "{file:?}");
-            let text = std::fs::read_to_string(&file).unwrap();
-            let stored = std::fs::read_to_string(file.with_extension("answers")).unwrap();
-            assert!(text.starts_with(LEVEL_3) && answers(&text).unwrap() == stored, "{file:?}");
-            found += 1;
-        }
-        assert_eq!(found, 8);
+        all_answered(&[
+            ("record 50 1000 -20 20 -20 20 0 0 0 0 line 0 0 3 4 60000 0 7 2 L 3 5 60000 A 2 4 6 1 1 0", "set | 0 0 0 0 1 2 7"),
+            ("ahead 6", "ahead 3 5 3 5 0 0 1 0 1 | 0 0 0 0 1 2 7"),
+            ("run 99 99 0", "ended 5 1514111435 | 3 4 0 0 1 1 2"),
+            ("load L 3 4 60000", "bits 2 | 3 4 0 0 1 2 5"),
+            ("load L 3 4 60000", "refused 13 | 3 4 0 0 1 2 5"),
+            ("jump 1", "ahead 0 1 3 5 0 0 1 1 4 | 3 5 0 0 1 1 4"),
+            ("stop", "done | 3 5 0 0 0 0 0"),
+            ("make 50 1000 -20 20 -20 20", "made | 0 0 0 0 0 0 0"),
+            ("text G1 X0.1 F100", "bits 3 | 0 0 0 0 1 0 5"),
+            ("text X0.1", "none | 0 0 0 0 1 0 5"),
+            ("text X0", "bits 3 | 0 0 0 0 1 1 10"),
+            ("text G2 X1", "refused 37 | 0 0 0 0 1 1 10"),
+        ]);
     }
 
     /// A look tells the record ahead and leaves the machine; a jump goes on with that record, whose cycles done the tick after it shows.
     #[test]
     fn looks_and_jumps() {
         all_answered(&[
-            ("make 50 1000 -20 20 -20 20", "made | 0 0 0 0 0"),
-            ("load L 3 4 60000", "bits 3 | 0 0 0 0 1"),
-            ("ahead 2", "ahead 1 2 1 2 0 0 1 | 0 0 0 0 1"),
-            ("ahead 1000001", "refused 38 0 0 0 0 0 0 1 | 0 0 0 0 1"),
-            ("jump 2", "ahead 1 2 1 2 0 0 1 | 1 2 0 0 1"),
-            ("tick", "byte 17 | 2 2 0 0 1"),
-            ("ahead 2", "ahead 1 2 3 4 0 0 0 | 2 2 0 0 1"),
-            ("jump 18446744073709551615", "refused 38 0 0 2 2 0 0 1 | 2 2 0 0 1"),
-            ("hold", "done | 2 2 1 0 1"),
-            ("jump 1000000", "ahead 0 0 2 2 1 0 1 | 2 2 1 0 1"),
-            ("ahead 1000001", "refused 38 0 0 2 2 1 0 1 | 2 2 1 0 1"),
-            ("release", "done | 2 2 0 0 1"),
-            ("jump 1000000", "ahead 1 2 3 4 0 0 0 | 3 4 0 0 0"),
-            ("jump 0", "ahead 0 0 3 4 0 0 0 | 3 4 0 0 0"),
-            ("jump 1000001", "refused 38 0 0 3 4 0 0 0 | 3 4 0 0 0"),
+            ("make 50 1000 -20 20 -20 20", "made | 0 0 0 0 0 0 0"),
+            ("load L 3 4 60000", "bits 3 | 0 0 0 0 1 0 5"),
+            ("ahead 2", "ahead 1 2 1 2 0 0 1 0 3 | 0 0 0 0 1 0 5"),
+            ("ahead 1000001", "refused 38 0 0 0 0 0 0 1 0 5 | 0 0 0 0 1 0 5"),
+            ("jump 2", "ahead 1 2 1 2 0 0 1 0 3 | 1 2 0 0 1 0 3"),
+            ("tick", "byte 17 | 2 2 0 0 1 0 2"),
+            ("ahead 2", "ahead 1 2 3 4 0 0 0 0 0 | 2 2 0 0 1 0 2"),
+            ("jump 18446744073709551615", "refused 38 0 0 2 2 0 0 1 0 2 | 2 2 0 0 1 0 2"),
+            ("hold", "done | 2 2 1 0 1 0 2"),
+            ("jump 1000000", "ahead 0 0 2 2 1 0 1 0 2 | 2 2 1 0 1 0 2"),
+            ("ahead 1000001", "refused 38 0 0 2 2 1 0 1 0 2 | 2 2 1 0 1 0 2"),
+            ("release", "done | 2 2 0 0 1 0 2"),
+            ("jump 1000000", "ahead 1 2 3 4 0 0 0 0 0 | 3 4 0 0 0 0 0"),
+            ("jump 0", "ahead 0 0 3 4 0 0 0 0 0 | 3 4 0 0 0 0 0"),
+            ("jump 1000001", "refused 38 0 0 3 4 0 0 0 0 0 | 3 4 0 0 0 0 0"),
         ]);
     }
 
     /// 9 comes before 38; the record is the machine's own, numbers that no sound one has too.
     #[test]
     fn looks_at_an_unsound_record() {
-        let refused = "refused 9 0 0 11 0 1 18446744073709551615 0 | 11 0 1 18446744073709551615 0";
+        let refused = "refused 9 0 0 11 0 1 18446744073709551615 0 0 0 | 11 0 1 18446744073709551615 0 0 0";
         all_answered(&[
-            ("record 50 5000 -10 10 -10 10 11 0 1 18446744073709551615 none", "set | 11 0 1 18446744073709551615 0"),
+            ("record 50 5000 -10 10 -10 10 11 0 1 18446744073709551615 none 0 0", "set | 11 0 1 18446744073709551615 0 0 0"),
             ("ahead 0", refused),
             ("ahead 1000001", refused),
             ("jump 1", refused),
@@ -470,12 +420,12 @@ mod tests {
     #[test]
     fn what_is_known_after_a_jump() {
         all_answered(&[
-            ("text G1 X0.04 F3000", "bits 2 | 0 0 0 0 1"),
-            ("jump 3", "ahead 1 0 1 0 0 150000000 1 | 1 0 0 150000000 1"),
-            ("jump 1", "ahead 1 0 2 0 0 0 0 | 2 0 0 0 0"),
-            ("ahead 9", "ahead 0 0 2 0 0 0 0 | 2 0 0 0 0"),
-            ("text X0", "bits 2 | 2 0 0 0 1"),
-            ("run 9 9 0", "ended 4 00120032 | 0 0 0 0 0"),
+            ("text G1 X0.04 F3000", "bits 2 | 0 0 0 0 1 0 2"),
+            ("jump 3", "ahead 1 0 1 0 0 150000000 1 0 1 | 1 0 0 150000000 1 0 1"),
+            ("jump 1", "ahead 1 0 2 0 0 0 0 0 0 | 2 0 0 0 0 0 0"),
+            ("ahead 9", "ahead 0 0 2 0 0 0 0 0 0 | 2 0 0 0 0 0 0"),
+            ("text X0", "bits 2 | 2 0 0 0 1 0 2"),
+            ("run 9 9 0", "ended 4 00120032 | 0 0 0 0 0 0 0"),
         ]);
     }
 
@@ -483,23 +433,23 @@ mod tests {
     #[test]
     fn lines_of_a_job_text() {
         all_answered(&[
-            ("make 50 5000 -10 10 -10 10", "made | 0 0 0 0 0"),
-            ("text G1 F100 ", "none | 0 0 0 0 0"),
-            ("text X0.02", "bits 1 | 0 0 0 0 1"),
-            ("text X0.04", "refused 10 | 0 0 0 0 1"),
-            ("text  Y0 ", "none | 0 0 0 0 1"),
-            ("text ?", "refused 32 | 0 0 0 0 1"),
-            ("run 99 99 0", "ended 60 #55cc8932 | 1 0 0 0 0"),
-            ("text Y0.04 G4", "refused 34 | 1 0 0 0 0"),
-            ("text Y0.04 G2", "refused 37 | 1 0 0 0 0"),
-            ("text Y0.04", "bits 2 | 1 0 0 0 1"),
-            ("make 50 5000 -10 10 -10 10", "made | 0 0 0 0 0"),
-            ("text Y0.04", "refused 36 | 0 0 0 0 0"),
-            ("text ", "none | 0 0 0 0 0"),
-            ("text G1 F1", "none | 0 0 0 0 0"),
-            ("record 10 5000 -10 10 -10 10 0 0 0 0 none", "set | 0 0 0 0 0"),
-            ("text X0.1", "refused 36 | 0 0 0 0 0"),
-            ("text G1 X0.1 F30000", "bits 1 | 0 0 0 0 1"),
+            ("make 50 5000 -10 10 -10 10", "made | 0 0 0 0 0 0 0"),
+            ("text G1 F100 ", "none | 0 0 0 0 0 0 0"),
+            ("text X0.02", "bits 1 | 0 0 0 0 1 0 1"),
+            ("text X0.04", "bits 1 | 0 0 0 0 1 1 2"),
+            ("text  Y0 ", "none | 0 0 0 0 1 1 2"),
+            ("text ?", "refused 32 | 0 0 0 0 1 1 2"),
+            ("run 99 99 0", "ended 60 #55cc8932 | 1 0 0 0 1 0 1"),
+            ("text Y0.04 G4", "refused 34 | 1 0 0 0 1 0 1"),
+            ("text Y0.04 G2", "refused 37 | 1 0 0 0 1 0 1"),
+            ("text Y0.04", "bits 2 | 1 0 0 0 1 1 3"),
+            ("make 50 5000 -10 10 -10 10", "made | 0 0 0 0 0 0 0"),
+            ("text Y0.04", "refused 36 | 0 0 0 0 0 0 0"),
+            ("text ", "none | 0 0 0 0 0 0 0"),
+            ("text G1 F1", "none | 0 0 0 0 0 0 0"),
+            ("record 10 5000 -10 10 -10 10 0 0 0 0 none 0 0", "set | 0 0 0 0 0 0 0"),
+            ("text X0.1", "refused 36 | 0 0 0 0 0 0 0"),
+            ("text G1 X0.1 F30000", "bits 1 | 0 0 0 0 1 0 1"),
         ]);
     }
 
@@ -507,41 +457,21 @@ mod tests {
     #[test]
     fn answers_and_records_of_an_input_are_skipped() {
         for index in 0..50 {
-            for (head, level) in [("", Level::Two), (LEVEL_3, Level::Three)] {
-                let calls: String = gen::history(level, 4, index).iter().map(|call| format!("{call}\n")).collect();
-                for kind in [Told::Answers, Told::Records] {
-                    let once = told(&format!("{head}{calls}"), kind).unwrap();
-                    assert_eq!(told(&once, kind).unwrap(), once);
-                }
+            let calls: String = gen::history(4, index).iter().map(|call| format!("{call}\n")).collect();
+            for kind in [Told::Answers, Told::Records] {
+                let once = told(&calls, kind).unwrap();
+                assert_eq!(told(&once, kind).unwrap(), once);
             }
         }
     }
 
-    /// A record is told as `record` takes it, so that setting it changes nothing.
+    /// A record is told as `record` takes it, with what waits, so that setting it changes nothing.
     #[test]
     fn whole_records() {
-        let text =
-            "> load L 3 4 300000\n> tick\n> stop\n> load A 3 1 1 299999 0 5\n> hold\n> record 7 1 2 3 4 5 6 7 1 8 arc 2 9 10 11 12 13 14\n";
-        let expected = [
-            "50 5000 -1000000 1000000 -1000000 1000000 0 0 0 0 line 0 0 3 4 300000 0",
-            "50 5000 -1000000 1000000 -1000000 1000000 1 1 0 0 line 0 0 3 4 300000 1",
-            "50 5000 -1000000 1000000 -1000000 1000000 1 1 0 0 none",
-            "50 5000 -1000000 1000000 -1000000 1000000 1 1 0 0 arc 3 1 6 25 1 1 299999",
-            "50 5000 -1000000 1000000 -1000000 1000000 1 1 1 0 arc 3 1 6 25 1 1 299999",
-            "7 1 2 3 4 5 6 7 1 8 arc 2 9 10 11 12 13 14",
-        ];
-        let all = told(text, Told::Records).unwrap();
-        let found: Vec<&str> = all.lines().filter_map(|line| line.strip_prefix("= ")).collect();
-        assert_eq!(found, expected);
-    }
-
-    /// Of level 3, with what waits.
-    #[test]
-    fn whole_records_with_a_queue() {
         let sixteen = "L 1 2 3 A 3 4 5 6 7 8 ".repeat(8);
         let made_up = format!("7 1 2 3 4 5 6 7 1 8 arc 2 9 10 11 12 13 14 15 17 {}", sixteen.trim_end());
         let text = format!(
-            "{LEVEL_3}> load L 3 4 300000\n> tick\n> stop\n> load A 3 1 1 299999 0 5\n> hold\n> load L -1 2 1\n\
+            "> load L 3 4 300000\n> tick\n> stop\n> load A 3 1 1 299999 0 5\n> hold\n> load L -1 2 1\n\
              > load A 2 -1 4 7 0 1\n> record {made_up}\n"
         );
         let usual = "50 5000 -1000000 1000000 -1000000 1000000";
@@ -564,21 +494,21 @@ mod tests {
     /// More than 48 ticks are told by their CRC-32, 48 in hex.
     #[test]
     fn long_runs() {
-        let text = "> load L 60 0 300000\n> run 48 99 0\n> load L 0 0 0\n> stop\n> load L 97 0 300000\n> run 99 99 0\n";
+        let text = "> load L 60 0 300000\n> run 48 99 0\n> stop\n> load L 97 0 300000\n> run 99 99 0\n";
         let told = answers(text).unwrap();
-        assert!(told.contains(&format!("< spent 48 {} | 48 0 0 0 1\n< refused 10", "11".repeat(48)).replace("\n<", "\n> load L 0 0 0\n<")));
+        assert!(told.contains(&format!("< spent 48 {} | 48 0 0 0 1 0 12\n", "11".repeat(48))));
         let mut crc = Crc::new();
         crc.bytes(&[17; 48]);
         crc.byte(49);
-        assert!(told.ends_with(&format!("< ended 49 #{:08x} | 97 0 0 0 0\n", crc.value())));
+        assert!(told.ends_with(&format!("< ended 49 #{:08x} | 97 0 0 0 0 0 0\n", crc.value())));
     }
 
     /// What the generator writes is read back as the same calls.
     #[test]
     fn written_calls_are_read_back() {
-        for (level, index) in (0..4_000).map(|at| (if at % 2 == 0 { Level::Two } else { Level::Three }, at / 2)) {
-            for call in gen::history(level, 3, index) {
-                assert_eq!(Call::of_line(&call.to_string(), level), Some(call));
+        for index in 0..3_000 {
+            for call in gen::history(3, index) {
+                assert_eq!(Call::of_line(&call.to_string()), Some(call));
             }
         }
     }

@@ -5,11 +5,10 @@ use std::collections::VecDeque;
 
 use crate::ahead::{ahead, MOST_TICKS};
 use crate::arc::Kind;
-use crate::book::{Block, Book, Load, Path};
+use crate::book::{Block, Book, Load, Path, MOST_WAITING};
 use crate::calls::Call;
 use crate::gen;
 use crate::job::{Meaning, Reader};
-use crate::level::Level;
 use crate::point::{Point, ORIGIN};
 use crate::rng::Rng;
 use crate::settings::{Settings, USUAL};
@@ -120,15 +119,14 @@ fn adds_up(book: &Book, sums: &Sums) {
 /// "this figure equals the count made afresh".
 fn queued(book: &Book, sums: &Sums) {
     let waiting: Vec<Load> = book.waiting.iter().map(Block::given).collect();
-    assert!(waiting.len() <= book.level.most_waiting() && sums.blocks.iter().skip(1).eq(&waiting));
+    assert!(waiting.len() <= MOST_WAITING && sums.blocks.iter().skip(1).eq(&waiting));
     let first = sums.blocks.front().map(|load| (load.end(), load.feed()));
     assert_eq!(first, book.block.map(|block| (block.end, block.f)));
     let ways = book.block.iter().chain(&book.waiting);
     assert_eq!(book.left, ways.clone().map(Block::left).sum(), "cycles still to do");
     // Each begins where the one before it ends.
     assert!(ways.clone().zip(&book.waiting).all(|(before, next)| before.end == next.start && next.c == 0));
-    let last = ways.last().filter(|_| book.level == Level::Three);
-    assert_eq!(book.place(), last.map_or(book.point, |last| last.end));
+    assert_eq!(book.place(), ways.last().map_or(book.point, |last| last.end));
 }
 
 /// What has come into work, if anything has: its end tick counts from here.
@@ -197,17 +195,17 @@ fn follow_load(load: &Load, book: &mut Book, sums: &mut Sums) {
         }
         Err(number) => {
             assert!((10..=16).contains(&number));
-            assert_eq!(number == 10, was_busy && before.waiting == book.level.most_waiting() as u64);
+            assert_eq!(number == 10, was_busy && before.waiting == MOST_WAITING as u64);
             assert_eq!(before, record_of(book));
         }
     }
 }
 
-fn follow(level: Level, calls: &[Call]) {
-    let (mut book, mut known, mut sums) = (Book::make(level, USUAL).0, Reader::default(), Sums::none());
+fn follow(calls: &[Call]) {
+    let (mut book, mut known, mut sums) = (Book::make(USUAL).0, Reader::default(), Sums::none());
     for call in calls {
         match *call {
-            Call::Make(settings) => (book, known, sums) = (Book::make(level, settings).0, Reader::default(), Sums::none()),
+            Call::Make(settings) => (book, known, sums) = (Book::make(settings).0, Reader::default(), Sums::none()),
             // A history starts from a make; a made-up record has no place in it.
             Call::Record(_) => return,
             Call::Load(ref load) => follow_load(load, &mut book, &mut sums),
@@ -282,35 +280,31 @@ fn jump(book: &mut Book, sums: &mut Sums, ticks: u64) {
     assert_eq!(record_of(book), record_of(&then));
 }
 
-const LEVELS: [Level; 2] = [Level::Two, Level::Three];
-
 #[test]
 fn demand_3_on_random_histories() {
-    for level in LEVELS {
-        let mut followed = 0;
-        for index in 0..4_000 {
-            let calls = gen::history(level, 1, index);
-            if matches!(calls.first(), Some(Call::Make(_))) {
-                follow(level, &calls);
-                followed += 1;
-            }
+    let mut followed = 0;
+    for index in 0..5_000 {
+        let calls = gen::history(1, index);
+        if matches!(calls.first(), Some(Call::Make(_))) {
+            follow(&calls);
+            followed += 1;
         }
-        assert!(followed > 2_500);
     }
+    assert!(followed > 3_000);
 }
 
 /// Long histories of short blocks, where every block is run to its end.
 #[test]
 fn demand_3_on_long_histories() {
-    for (index, level) in (0..40).flat_map(|index| LEVELS.map(|level| (index, level))) {
+    for index in 0..45 {
         let mut calls = Vec::new();
         for piece in 0..60 {
-            let history = gen::history(level, 900 + index, piece).into_iter();
+            let history = gen::history(900 + index, piece).into_iter();
             calls.extend(history.filter(|call| !matches!(call, Call::Make(_) | Call::Record(_))));
             calls.push(Call::Release);
             calls.push(Call::Run { budget: u64::MAX, length: 100_000, fill: 0 });
         }
-        follow(level, &calls);
+        follow(&calls);
     }
 }
 
@@ -332,7 +326,7 @@ fn ends_as_ticked(mut ticked: Book) -> bool {
 fn the_end_tick_formula() {
     let settings = Settings { w: 1_000, ..USUAL };
     let q0 = settings.q0();
-    let idle = record_of(&Book::make(Level::Three, settings).0);
+    let idle = record_of(&Book::make(settings).0);
     let (mut tried, mut later) = (0, 0);
     for f in [7, 29_999, 30_000, 30_001, 42_420, q0 - 1, q0] {
         let lines = [(1, 0), (0, -2), (2, 2), (-3, 0), (3, 4)].map(|(x, y)| Work::Line { start: ORIGIN, end: Point::new(x, y), f, c: 0 });
@@ -363,7 +357,7 @@ fn the_end_tick_formula() {
 #[test]
 fn made_up_records_end_on_their_tick() {
     let (mut tried, mut later, mut waited) = (0, 0, 0);
-    for record in (0..2_000).flat_map(|index| LEVELS.map(|level| gen::record(&mut Rng::new(2, index), level))) {
+    for record in (0..3_000).map(|index| gen::record(&mut Rng::new(2, index))) {
         let Some(mut book) = book_of(&record).filter(|book| book.block.is_some() && book.ticks_to_the_end() < 50_000) else { continue };
         book.release();
         let mut by_blocks = book.clone();

@@ -4,8 +4,7 @@ use std::fmt;
 use std::str::Split;
 
 use crate::arc::Kind;
-use crate::book::Load;
-use crate::level::Level;
+use crate::book::{Load, MOST_WAITING};
 use crate::point::Point;
 use crate::settings::Settings;
 use crate::sound::{Record, Work};
@@ -69,12 +68,12 @@ impl<'a> Fields<'a> {
         })
     }
 
-    pub fn record(&mut self, level: Level) -> Option<Record> {
+    pub fn record(&mut self) -> Option<Record> {
         let (settings, point, held, remainder, work) = (self.settings()?, self.point()?, self.mark()?, self.u64()?, self.work()?);
-        let (left, waiting) = if level == Level::Three { (self.u64()?, self.u64()?) } else { (0, 0) };
+        let (left, waiting) = (self.u64()?, self.u64()?);
         // One that says more than sixteen has sixteen.
-        let blocks = (0..waiting.min(level.most_waiting() as u64)).map(|_| self.load()).collect::<Option<_>>()?;
-        Some(Record { level, settings, point, held, remainder, work, left, waiting, blocks })
+        let blocks = (0..waiting.min(MOST_WAITING as u64)).map(|_| self.load()).collect::<Option<_>>()?;
+        Some(Record { settings, point, held, remainder, work, left, waiting, blocks })
     }
 
     fn work(&mut self) -> Option<Work> {
@@ -128,12 +127,8 @@ impl fmt::Display for Load {
 
 impl fmt::Display for Record {
     fn fmt(&self, out: &mut fmt::Formatter) -> fmt::Result {
-        let Record { level, settings, point, held, remainder, work, left, waiting, blocks } = self;
-        write!(out, "{settings} {point} {} {remainder} {work}", u8::from(*held))?;
-        if *level == Level::Two {
-            return Ok(());
-        }
-        write!(out, " {left} {waiting}")?;
+        let Record { settings, point, held, remainder, work, left, waiting, blocks } = self;
+        write!(out, "{settings} {point} {} {remainder} {work} {left} {waiting}", u8::from(*held))?;
         blocks.iter().try_for_each(|block| write!(out, " {block}"))
     }
 }

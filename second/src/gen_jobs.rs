@@ -6,7 +6,6 @@ use std::ops::Range;
 use crate::book::Book;
 use crate::gen::{any_in_travel, circle_point, hurt_settings, into_travel, point_at_the_ends_of_f, turned};
 use crate::job::Reader;
-use crate::level::Level;
 use crate::point::{Point, ORIGIN};
 use crate::rng::Rng;
 use crate::settings::{Settings, USUAL};
@@ -214,7 +213,7 @@ fn filled(bytes: usize, first: &[u8]) -> Vec<u8> {
 
 fn made_up(rng: &mut Rng, settings: Settings) -> Vec<u8> {
     let mut text = Vec::new();
-    let (mut reader, mut book) = (Reader::default(), Book::make(Level::Two, settings).0);
+    let (mut reader, mut book) = (Reader::default(), Book::make(settings).0);
     for _ in 0..rng.between(1, 14) {
         let line = line(rng, &reader, &book.settings, book.point);
         reader.line(&mut book, &line);

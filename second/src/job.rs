@@ -127,11 +127,10 @@ fn lengths(words: &[Word], p: u64) -> Option<Lengths> {
 #[cfg(test)]
 mod tests {
     use super::*;
-    use crate::level::Level;
     use crate::settings::USUAL;
 
     fn refusal(lines: &[&str]) -> Option<u32> {
-        let (mut reader, mut book) = (Reader::default(), Book::make(Level::Two, USUAL).0);
+        let (mut reader, mut book) = (Reader::default(), Book::make(USUAL).0);
         for line in lines {
             let before = reader;
             if let Meaning::Refused(number) = reader.line(&mut book, line.as_bytes()) {

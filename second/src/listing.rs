@@ -5,7 +5,6 @@ use std::io::{self, Write};
 
 use crate::book::{Book, Path};
 use crate::job::{Meaning, Reader};
-use crate::level::Level;
 use crate::settings::Settings;
 use crate::sound::record_of;
 
@@ -40,7 +39,7 @@ impl fmt::Display for Check {
 /// The check at a machine with these settings. Where they are refused a first line tells it, and the machine is the one that such
 /// a make answers.
 pub fn check(text: &[u8], settings: &Settings, pace: Pace, out: &mut impl Write) -> io::Result<Check> {
-    let (book, refusal) = Book::make(Level::Two, *settings);
+    let (book, refusal) = Book::make(*settings);
     if let Some(number) = refusal {
         writeln!(out, "settings refused {number}")?;
     }
@@ -92,7 +91,7 @@ pub fn ticks(text: &[u8], settings: &Settings, most: u64, out: &mut impl Write) 
     if text.len() > LONGEST_TEXT {
         return Ok(());
     }
-    let (mut reader, mut book, mut left) = (Reader::default(), Book::make(Level::Two, *settings).0, most);
+    let (mut reader, mut book, mut left) = (Reader::default(), Book::make(*settings).0, most);
     for line in lines(text) {
         if let Meaning::Refused(_) = reader.line(&mut book, line) {
             return Ok(());
@@ -221,9 +220,9 @@ mod tests {
     fn what_a_job_leaves() {
         let end = |text: &[u8]| check(text, &USUAL, Pace::AtOnce, &mut Vec::new()).unwrap().to_string();
         let usual = "50 5000 -1000000 1000000 -1000000 1000000";
-        assert_eq!(end(b""), format!("{usual} 0 0 0 0 none known 0 -1 done 0 0 0"));
-        assert_eq!(end(b"G1X0.02F7\nG2F8\nG3F9X1"), format!("{usual} 1 0 0 300000 none known 2 8 done 1 1 858"));
-        assert_eq!(end(&[b'\n'; 65_537]), format!("{usual} 0 0 0 0 none known 0 -1 done 0 0 0"));
+        assert_eq!(end(b""), format!("{usual} 0 0 0 0 none 0 0 known 0 -1 done 0 0 0"));
+        assert_eq!(end(b"G1X0.02F7\nG2F8\nG3F9X1"), format!("{usual} 1 0 0 300000 none 0 0 known 2 8 done 1 1 858"));
+        assert_eq!(end(&[b'\n'; 65_537]), format!("{usual} 0 0 0 0 none 0 0 known 0 -1 done 0 0 0"));
     }
 
     /// "a separate slow mode": ticks one by one and the tick number agree on generated jobs, at the usual settings and at others.

@@ -3,7 +3,6 @@
 
 use crate::ahead::ahead;
 use crate::book::{Book, Load, Why};
-use crate::level::Level;
 use crate::point::{Point, ORIGIN};
 use crate::settings::Settings;
 use crate::sound::{book_of, record_of, Record};
@@ -24,8 +23,8 @@ pub struct Ahead {
 const UNSOUND: u32 = 9;
 
 impl Machine {
-    pub fn make(level: Level, settings: Settings) -> (Machine, Option<u32>) {
-        let (book, number) = Book::make(level, settings);
+    pub fn make(settings: Settings) -> (Machine, Option<u32>) {
+        let (book, number) = Book::make(settings);
         (Machine::Sound(book), number)
     }
 

@@ -13,7 +13,6 @@ mod fields;
 mod gen;
 mod gen_jobs;
 mod job;
-mod level;
 mod line;
 mod listing;
 mod machine;
@@ -33,7 +32,6 @@ use std::process::ExitCode;
 
 use calls::{Left, Told};
 use fields::Fields;
-use level::Level;
 use listing::Pace;
 use settings::{Settings, USUAL};
 
@@ -44,7 +42,7 @@ second ticks MOST [AT] [FILE]        the tick bytes of a job text, at most so ma
 second where TICKS [AT] [FILE]       where a job stands after so many ticks, as the row of jobwhere
 second checks [FILE]                 a stream of jobs to their `%job` lines, listings and what they leave
 second calls [--records] [FILE]      call file to call file with answers, and with the whole record after each
-second gen calls [--level 3] SEED COUNT  so many histories, of level 2 or 3
+second gen calls SEED COUNT          so many histories
 second gen jobs SEED COUNT [DIR]     so many job texts, as a stream or as files DIR/INDEX.txt
 second gen job SEED INDEX            the one job text of that number
 second gen jobs-at SEED COUNT        as a stream, each with settings of its own
@@ -101,8 +99,7 @@ fn run(arguments: &[&str], out: &mut impl Write) -> Result<(), Failure> {
         ["checks", ref file @ ..] => Ok(stream::check_all(&all_of(file)?, out)?),
         ["calls", "--records", ref file @ ..] => Ok(calls::answer_file(&mut opened(file)?, Told::Records, out)?),
         ["calls", ref file @ ..] => Ok(calls::answer_file(&mut opened(file)?, Told::Answers, out)?),
-        ["gen", "calls", "--level", "3", seed, count] => Ok(gen::write_calls(Level::Three, number(seed)?, number(count)?, out)?),
-        ["gen", "calls", seed, count] => Ok(gen::write_calls(Level::Two, number(seed)?, number(count)?, out)?),
+        ["gen", "calls", seed, count] => Ok(gen::write_calls(number(seed)?, number(count)?, out)?),
         ["gen", "jobs", seed, count] => Ok(gen_jobs::write_jobs(number(seed)?, number(count)?, out)?),
         ["gen", "jobs", seed, count, directory] => job_files(number(seed)?, number(count)?, Path::new(directory)),
         ["gen", "job", seed, index] => Ok(out.write_all(&gen_jobs::job(number(seed)?, number(index)?))?),

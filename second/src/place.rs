@@ -4,7 +4,6 @@ use std::fmt;
 
 use crate::book::{Block, Book, Path};
 use crate::job::{Meaning, Reader};
-use crate::level::Level;
 use crate::listing::{lines, LONGEST_TEXT};
 use crate::settings::Settings;
 
@@ -36,8 +35,7 @@ fn in_work(block: Option<Block>) -> String {
 
 /// A block that ends before is ended at once; in the block in work every tick is ticked.
 pub fn after(text: &[u8], settings: &Settings, ticks: u64) -> Place {
-    let (mut known, mut place) =
-        (Reader::default(), Place { found: 0, blocks: 0, line: 0, ticks, book: Book::make(Level::Two, *settings).0 });
+    let (mut known, mut place) = (Reader::default(), Place { found: 0, blocks: 0, line: 0, ticks, book: Book::make(*settings).0 });
     if text.len() > LONGEST_TEXT {
         return Place { found: -30, line: 1, ..place };
     }

@@ -1,9 +1,8 @@
 //! A machine record as anybody may make it up, and question 9: "is it sound?"
 
 use crate::arc::{self, is_circle_point, Kind, LARGEST_N};
-use crate::book::{Block, Book, Load, Path};
+use crate::book::{Block, Book, Load, Path, MOST_WAITING};
 use crate::charge;
-use crate::level::Level;
 use crate::line;
 use crate::point::Point;
 use crate::settings::Settings;
@@ -18,13 +17,12 @@ pub enum Work {
 
 #[derive(Clone, PartialEq, Eq, Debug)]
 pub struct Record {
-    pub level: Level,
     pub settings: Settings,
     pub point: Point,
     pub held: bool,
     pub remainder: u64,
     pub work: Work,
-    /// "the cycles still to do over the block in work and all waiting". A record of level 2 does not tell it, and nothing waits.
+    /// "the cycles still to do over the block in work and all waiting"
     pub left: u64,
     /// How many wait, by the record's own word, which may be more than it has places for.
     pub waiting: u64,
@@ -42,22 +40,22 @@ impl Record {
 /// The book of a sound record, none for an unsound one. "A sound record has this figure right, only waiting blocks that would be accepted
 /// in turn, and none waiting when nothing is in work."
 pub fn book_of(record: &Record) -> Option<Book> {
-    let Record { level, work, left, waiting, ref blocks, .. } = *record;
-    if waiting > level.most_waiting() as u64 || work == Work::Nothing && waiting > 0 {
+    let Record { work, left, waiting, ref blocks, .. } = *record;
+    if waiting > MOST_WAITING as u64 || work == Work::Nothing && waiting > 0 {
         return None;
     }
     let mut book = without_queue(record)?;
     for block in blocks {
         book.load(block).ok()?;
     }
-    (level == Level::Two || book.left == left).then_some(book)
+    (book.left == left).then_some(book)
 }
 
 /// The book of a record whose waiting blocks and figure are not looked at.
 /// "A record is sound if settings pass questions 1 to 3; the point is in travel;" the remainder is sound (02 §2) and so is
 /// what is in work.
 pub fn without_queue(record: &Record) -> Option<Book> {
-    let Record { level, settings, point, held, remainder, work, .. } = *record;
+    let Record { settings, point, held, remainder, work, .. } = *record;
     if settings.refusal().is_some() || !settings.in_travel(point) || !charge::is_sound_remainder(remainder, settings.q0()) {
         return None;
     }
@@ -66,7 +64,7 @@ pub fn without_queue(record: &Record) -> Option<Book> {
         Work::Line { start, end, f, c } => Some(sound_line(record, start, end, f, c)?),
         Work::Arc { kind, centre, n, end, f } => Some(sound_arc(record, kind, centre, n, end, f)?),
     };
-    Some(Book::opened(level, settings, point, held, remainder, block))
+    Some(Book::opened(settings, point, held, remainder, block))
 }
 
 /// "a line in work has start and end in travel and different, feed in 1..q0, cycles done in 0..q-1
@@ -114,8 +112,8 @@ pub fn record_of(book: &Book) -> Record {
         Some(Block { path: Path::Line, start, end, f, c, .. }) => Work::Line { start, end, f, c },
         Some(Block { path: Path::Arc { kind, centre, n }, end, f, .. }) => Work::Arc { kind, centre, n: n as u64, end, f },
     };
-    let Book { level, settings, point, held, remainder, left, .. } = *book;
-    let idle = Record { level, settings, point, held, remainder, work, left, waiting: 0, blocks: Vec::new() };
+    let Book { settings, point, held, remainder, left, .. } = *book;
+    let idle = Record { settings, point, held, remainder, work, left, waiting: 0, blocks: Vec::new() };
     idle.with_blocks(book.waiting.iter().map(Block::given).collect())
 }
 
@@ -127,7 +125,7 @@ mod tests {
     use crate::settings::USUAL;
 
     fn idle() -> Record {
-        record_of(&Book::make(Level::Three, USUAL).0)
+        record_of(&Book::make(USUAL).0)
     }
 
     /// With the right figure, so that all hangs on the rest.
@@ -220,15 +218,6 @@ mod tests {
         for left in [0, 1, u64::MAX] {
             assert_eq!(book_of(&Record { left, ..idle() }).is_some(), left == 0, "{left}");
         }
-    }
-
-    /// A record of level 2 has no figure to be right.
-    #[test]
-    fn no_figure_at_level_2() {
-        for left in [0, 4, u64::MAX] {
-            assert!(book_of(&Record { level: Level::Two, left, ..waiting(&[]) }).is_some(), "{left}");
-        }
-        assert!(book_of(&Record { level: Level::Two, left: 5, ..waiting(&[line(3, 5)]) }).is_none());
     }
 
     /// "only waiting blocks that would be accepted in turn": 11 to 16 from the end of the one before, with the record's settings.
