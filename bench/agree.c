@@ -75,11 +75,22 @@ static void load_all(int64_t words[SIDES][WORDS], const struct plain_block *b)
 
 static int64_t near_zero(int64_t reach) { return drawn(2 * reach + 1) - reach; }
 
-/* A block near here, most often one that is taken: the end of an arc is the start turned about the centre by quarters, now and
- * then beside it. */
+/* How many words a record has; those behind are no part of it. */
+static size_t own_words(const int64_t *words) { return WORD_QUEUE + BLOCK_WORDS * (size_t)words[WORD_WAITING]; }
+
+/* Where a block starts: where the last one that waits ends, else the one in work, else at the point. */
+static const int64_t *start_in(const int64_t *words)
+{
+    if (words[WORD_WAITING] > 0)
+        return words + own_words(words) - BLOCK_WORDS + 1;
+    return words[WORD_WORK] == 0 ? words + WORD_X : words + WORD_NUMBERS + (words[WORD_WORK] == 1 ? 2 : 3);
+}
+
+/* A block near the last one's end, most often one that is taken: the end of an arc is the start turned about the centre by quarters, now
+ * and then beside it. */
 static struct plain_block drawn_block(const int64_t *words, int64_t reach)
 {
-    const int64_t x = words[WORD_X], y = words[WORD_Y], capacity = 60 * words[WORD_W];
+    const int64_t *start = start_in(words), x = start[0], y = start[1], capacity = 60 * words[WORD_W];
     struct plain_block b = { 1 + drawn(3), x + near_zero(reach), y + near_zero(reach), 1 + drawn(capacity), 0, 0 };
     if (drawn(16) == 0)
         b.feed = capacity * drawn(2) + drawn(2);
@@ -100,7 +111,7 @@ static int64_t spoil(const int64_t *words, int64_t at)
     switch (drawn(5)) {
     case 0: return words[at] + drawn(5) - 2;
     case 1: return (int64_t)((uint64_t)words[at] ^ (uint64_t)1 << drawn(64));
-    case 2: return words[drawn(WORDS)];
+    case 2: return words[drawn((int64_t)own_words(words))];
     case 3: return 1414 * 60 * words[WORD_W] - 1 + drawn(2);
     default: return 60 * words[WORD_W] + drawn(2);
     }
@@ -116,7 +127,8 @@ static void agree_ahead(const int64_t *words, uint64_t ticks)
     memcpy(own, words, sizeof own);
     const int64_t answer = core_ahead(own, ticks, then[0], &sums[0]);
     must(c_words_ahead(own, ticks, then[1], &sums[1]) == answer, "a look's answer");
-    must(memcmp(then[0], then[1], sizeof then[0]) == 0 && memcmp(&sums[0], &sums[1], sizeof *sums) == 0, "a look");
+    const size_t known = answer < 0 ? WORDS : own_words(then[0]);
+    must(memcmp(then[0], then[1], known * sizeof *words) == 0 && memcmp(&sums[0], &sums[1], sizeof *sums) == 0, "a look");
     must(memcmp(own, words, sizeof own) == 0, "the record of a look");
 }
 
@@ -148,7 +160,7 @@ static void agree_look(const struct work *w)
 /* Words that mostly are no sound record: one of them is changed. */
 static void agree_spoilt(int64_t words[SIDES][WORDS])
 {
-    int64_t spoilt[SIDES][WORDS], at = drawn(WORDS), to = spoil(words[0], at);
+    int64_t spoilt[SIDES][WORDS], at = drawn((int64_t)own_words(words[0])), to = spoil(words[0], at);
     memcpy(spoilt, words, sizeof spoilt);
     for (int s = 0; s < SIDES; s++)
         spoilt[s][at] = to;
@@ -156,15 +168,12 @@ static void agree_spoilt(int64_t words[SIDES][WORDS])
     call_all(spoilt, tick, "tick on a changed record");
 }
 
-/* Ticks by value and in place, as many as have just been done on the words of the core. */
-static void agree_value(const int64_t *before, const int64_t *after, uint64_t sum, uint64_t ticks)
+/* Ticks in place, as many as have just been done on the words of the core. */
+static void agree_place(const int64_t *before, const int64_t *after, uint64_t sum, uint64_t ticks)
 {
-    plain_ticks *const by_value[] = { c_value_ticks, c_place_ticks, rust_value_ticks };
-    for (int s = 0; s < 3; s++) {
-        int64_t words[WORDS];
-        memcpy(words, before, sizeof words);
-        must(by_value[s](words, ticks) == sum && memcmp(words, after, sizeof words) == 0, "ticks by value");
-    }
+    int64_t words[WORDS];
+    memcpy(words, before, sizeof words);
+    must(c_place_ticks(words, ticks) == sum && memcmp(words, after, sizeof words) == 0, "ticks in place");
 }
 
 /* ---- makes, refused ones too */
@@ -186,7 +195,7 @@ static int64_t make_no(const int64_t *s)
 static void agree_make(void)
 {
     static const int64_t standard[6] = { 50, 5000, -1000000, 1000000, -1000000, 1000000 };
-    int64_t given[6], words[WORDS], wanted[WORDS] = { [WORD_ABI] = ABI };
+    int64_t given[6], words[WORDS] = { 0 }, wanted[WORDS] = { [WORD_ABI] = ABI };
     memcpy(given, standard, sizeof given);
     given[drawn(6)] = drawn(2) ? near_zero(3) : near_zero(1000002);
     const int64_t no = make_no(given);
@@ -197,39 +206,47 @@ static void agree_make(void)
 
 /* ---- histories */
 
+/* Ticks, before each of which the record is looked ahead from, and spoilt. */
+static void agree_ticks(int64_t words[SIDES][WORDS])
+{
+    int64_t before[WORDS], was[WORDS];
+    uint64_t sum = 0;
+    memcpy(before, words[0], sizeof before);
+    for (int i = 0; i < TICKS; i++) {
+        agree_spoilt(words);
+        agree_ahead(words[0], drawn_ticks());
+        memcpy(was, words[0], sizeof was);
+        sum = plain_mix(sum, core_tick(was));
+        call_all(words, tick, "tick");
+    }
+    agree_place(before, words[0], sum, TICKS);
+}
+
+/* Up to 18 blocks come at a time, in half of the histories one. */
 static void agree_history(void)
 {
-    int64_t words[SIDES][WORDS], before[WORDS];
-    const int64_t reach = drawn(4) ? 12 : 400000, room = 2 * reach;
+    int64_t words[SIDES][WORDS] = { { 0 } };
+    const int64_t reach = drawn(4) ? 12 : 400000, room = 2 * reach, many = drawn(2) ? 1 : QUEUE + 2;
     const int64_t p = 1 + drawn(1000), w = 1000 + drawn(19001);
     must(vz_make((vz_record *)words[0], p, w, -drawn(room), drawn(room), -drawn(room), drawn(room)) == 0, "make");
     for (int s = 1; s < SIDES; s++)
         memcpy(words[s], words[0], sizeof words[0]);
-    for (int block = 0; block < 4; block++) {
-        struct plain_block b = drawn_block(words[0], reach);
-        uint64_t sum = 0;
-        load_all(words, &b);
-        memcpy(before, words[0], sizeof before);
-        for (int i = 0; i < TICKS; i++) {
-            agree_spoilt(words);
-            agree_ahead(words[0], drawn_ticks());
-            int64_t was[WORDS];
-            memcpy(was, words[0], sizeof was);
-            sum = plain_mix(sum, core_tick(was));
-            call_all(words, tick, "tick");
+    for (int burst = 0; burst < 4; burst++) {
+        for (int64_t blocks = 1 + drawn(many); blocks > 0; blocks--) {
+            struct plain_block b = drawn_block(words[0], reach);
+            load_all(words, &b);
         }
-        agree_value(before, words[0], sum, TICKS);
+        agree_ticks(words);
         if (drawn(2))
             call_all(words, stop, "stop");
     }
 }
 
-/* ---- loads by value and roots */
+/* ---- loads in place, calls while blocks wait, and roots */
 
 static void agree_loads(const struct plain_block *block)
 {
-    plain_loads *const by_value[] = { c_value_loads, c_place_loads, rust_value_loads };
-    int64_t words[WORDS];
+    int64_t words[WORDS], other[WORDS];
     uint64_t sum = 0;
     fresh(words);
     for (uint64_t i = 0; i < 1000; i++) {
@@ -237,11 +254,8 @@ static void agree_loads(const struct plain_block *block)
         sum = plain_mix(sum, core_load(words, &b));
         sum = plain_mix(sum, core_stop(words));
     }
-    for (int s = 0; s < 3; s++) {
-        int64_t other[WORDS];
-        fresh(other);
-        must(by_value[s](other, block, 1000) == sum && memcmp(other, words, sizeof words) == 0, "loads by value");
-    }
+    fresh(other);
+    must(c_place_loads(other, block, 1000) == sum && memcmp(other, words, sizeof words) == 0, "loads in place");
 }
 
 static void agree_root(uint64_t s)
@@ -278,6 +292,8 @@ void agree(void)
     }
     for (const struct work *w = look_works; w < look_works + LOOK_WORKS; w++)
         agree_look(w);
+    for (const struct work *w = wait_works; w < wait_works + WAIT_WORKS; w++)
+        must(waited(WAIT_CORE, w, 99) == waited(WAIT_C, w, 99), w->name);
     for (int i = 0; i < HISTORIES; i++) {
         agree_make();
         agree_history();

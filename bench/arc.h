@@ -67,6 +67,13 @@ static inline int64_t pulses_to(int64_t radius, struct plain_arc p)
 /* What so many cycles of an arc with so many pulses are charged: a diagonal step has two of them, a straight one has one. */
 static inline int64_t charge(int64_t cycles, int64_t pulses) { return STRAIGHT * cycles + (DIAGONAL - STRAIGHT) * (pulses - cycles); }
 
+/* The cycles to the end where a quarter turn has so many; a whole turn where the arc is already there. */
+static inline int64_t cycles_to_end(const struct arc *a, bool clockwise, struct point at, int64_t quarter)
+{
+    const int64_t n = rank(quarter, place_of(a, clockwise, a->end)) - rank(quarter, place_of(a, clockwise, at));
+    return n <= 0 ? n + 4 * quarter : n;
+}
+
 struct rest {
     int64_t cycles, charges;
 };

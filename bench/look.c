@@ -122,10 +122,8 @@ static void arc_on(struct machine *m, int64_t cycles)
 }
 
 /* At most one cycle a tick: so many ticks do as many cycles as they and the remainder pay, but no more than they are themselves. */
-void c_skip(struct machine *m, int64_t ticks)
+int64_t c_skip(struct machine *m, int64_t ticks)
 {
-    if (m->held || m->kind == NOTHING)
-        return;
     const bool line = m->kind == LINE;
     const int64_t capacity = 60 * m->settings.w, feed = PER_FEED * (line ? m->line.feed : m->arc.feed);
     const int64_t lines = line ? m->line.cycles - m->line.done : 0;
@@ -136,7 +134,7 @@ void c_skip(struct machine *m, int64_t ticks)
         m->remainder = last * feed - due;
         m->at = line ? m->line.end : m->arc.end;
         m->kind = NOTHING;
-        return;
+        return last;
     }
     const int64_t sum = m->remainder + ticks * feed;
     int64_t cycles, charges;
@@ -149,4 +147,5 @@ void c_skip(struct machine *m, int64_t ticks)
         arc_on(m, cycles);
     }
     m->remainder = sum - charges * capacity;
+    return ticks;
 }

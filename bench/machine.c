@@ -1,7 +1,9 @@
-/* The machine in plain C: the test of the record (01, "sound"), tick, load, stop and look-ahead. */
+/* The machine in plain C: the test of the record (01, "sound", and 02 §3), tick, load, stop and look-ahead. */
 #include "arc.h"
 #include "cycle.h"
 #include "root.h"
+
+#include <string.h>
 
 enum { MOST_CYCLES = 4000000, FARTHEST_CENTRE = 2000000, MOST_AHEAD = 1000000, UNSOUND = -9 };
 static const int64_t LARGEST_SQUARE = 2000000000000;
@@ -61,11 +63,84 @@ static bool arc_sound(const struct machine *m)
     return stays(&m->settings, a, clockwise, m->at);
 }
 
-/* ---- calls */
+/* ---- blocks as a load is given them, from where they start */
+
+static struct arc arc_from(struct point start, const struct plain_block *b)
+{
+    return (struct arc){ { start.x + b->i, start.y + b->j }, { b->x, b->y }, b->i * b->i + b->j * b->j, b->feed };
+}
+
+/* Minus the first question from 11 to 16 that says no, or 0. */
+static int64_t block_no(const struct settings *s, struct point start, const struct plain_block *b)
+{
+    const struct point end = { b->x, b->y };
+    if (!within(1, b->feed, 60 * s->w))
+        return -11;
+    if (!inside(s, end))
+        return -12;
+    if (b->kind == LINE)
+        return same(start, end) ? -13 : 0;
+    if (!within(-TRAVEL, b->i, TRAVEL) || !within(-TRAVEL, b->j, TRAVEL) || (b->i == 0 && b->j == 0))
+        return -14;
+    const bool clockwise = b->kind == CLOCKWISE;
+    const struct arc a = arc_from(start, b);
+    if (!on_circle(a.square, seen(&a, clockwise, end)))
+        return -15;
+    return stays(s, &a, clockwise, start) ? 0 : -16;
+}
+
+/* The block comes into work. */
+static void begin(struct machine *m, struct point start, const struct plain_block *b, int64_t root)
+{
+    m->kind = b->kind;
+    if (b->kind == LINE)
+        m->line = (struct line){ start, { b->x, b->y }, b->feed, root, 0 };
+    else
+        m->arc = arc_from(start, b);
+}
+
+/* ---- roots and cycles; a root is tested by squares */
+
+static bool is_least_root(int64_t n, int64_t r) { return within(1, r, MOST_CYCLES) && (r - 1) * (r - 1) < n && n <= r * r; }
+
+static bool is_nearest_root(int64_t n, int64_t r) { return within(1, r, MOST_CYCLES) && r * r - r < n && n <= r * r + r; }
+
+static int64_t square_of(int64_t a, int64_t b) { return a * a + b * b; }
+
+static bool root_right(struct point start, const struct waiting *w)
+{
+    const struct plain_block *b = &w->block;
+    return b->kind == LINE ? is_least_root(square_of(b->x - start.x, b->y - start.y), w->root)
+                           : is_nearest_root(2 * square_of(b->i, b->j), w->root);
+}
+
+static int64_t cycles_of(struct point start, const struct plain_block *b, int64_t root)
+{
+    if (b->kind == LINE)
+        return root;
+    const struct arc a = arc_from(start, b);
+    return cycles_to_end(&a, b->kind == CLOCKWISE, start, root);
+}
+
+static bool work_root_right(const struct machine *m, int64_t root)
+{
+    return m->kind == NOTHING ? root == 0 : m->kind == LINE ? root == m->line.cycles : is_nearest_root(2 * m->arc.square, root);
+}
+
+static int64_t cycles_left(const struct machine *m, int64_t root)
+{
+    if (m->kind == NOTHING)
+        return 0;
+    return m->kind == LINE ? m->line.cycles - m->line.done : cycles_to_end(&m->arc, m->kind == CLOCKWISE, m->at, root);
+}
+
+/* ---- the test of a record */
 
 static int64_t feed_of(const struct machine *m) { return m->kind == LINE ? m->line.feed : m->arc.feed; }
 
-static bool sound(const struct machine *m)
+static struct point end_of(const struct machine *m) { return m->kind == NOTHING ? m->at : m->kind == LINE ? m->line.end : m->arc.end; }
+
+static bool work_sound(const struct machine *m)
 {
     if (!settings_right(&m->settings))
         return false;
@@ -79,12 +154,37 @@ static bool sound(const struct machine *m)
     return m->kind == LINE ? line_sound(m) : arc_sound(m);
 }
 
-int64_t c_tick_in(struct machine *m)
+static bool waiting_sound(const struct settings *s, struct point start, const struct waiting *w)
 {
-    if (!sound(m))
-        return UNSOUND;
-    if (m->held || m->kind == NOTHING)
-        return 0;
+    const struct plain_block *b = &w->block;
+    if (!within(LINE, b->kind, COUNTERCLOCKWISE) || (b->kind == LINE && (b->i | b->j) != 0))
+        return false;
+    return block_no(s, start, b) == 0 && root_right(start, w);
+}
+
+/* Each block that waits would be taken where the one before it ends, and the cycles of all are those still to do. */
+static bool queue_sound(const struct machine *m, const struct queue *q)
+{
+    if (q->left < 0 || !within(0, q->waiting, m->kind == NOTHING ? 0 : QUEUE) || !work_root_right(m, q->root))
+        return false;
+    struct point start = end_of(m);
+    int64_t left = q->left - cycles_left(m, q->root);
+    for (const struct waiting *w = q->first; w < q->first + q->waiting; w++) {
+        if (!waiting_sound(&m->settings, start, w))
+            return false;
+        left -= cycles_of(start, &w->block, w->root);
+        start = (struct point){ w->block.x, w->block.y };
+    }
+    return left == 0;
+}
+
+static bool sound(const struct machine *m, const struct queue *q) { return work_sound(m) && queue_sound(m, q); }
+
+/* ---- calls */
+
+/* A working tick: the byte. */
+static uint8_t work_tick(struct machine *m)
+{
     const int64_t straight = STRAIGHT * 60 * m->settings.w;
     m->remainder += PER_FEED * feed_of(m);
     if (m->remainder < straight)
@@ -105,85 +205,102 @@ int64_t c_tick_in(struct machine *m)
     m->at.y += (byte >> 2 & 1) - (byte >> 3 & 1);
     if (m->kind != LINE && same(m->at, m->arc.end))
         byte |= LAST;
-    if (byte & LAST)
-        m->kind = NOTHING;
     return byte;
 }
 
-static int64_t load_line(struct machine *m, const struct plain_block *b)
+/* The first block that waits comes into work, and the others move up. */
+static void bring_in(struct machine *m, struct queue *q)
 {
-    struct point end = { b->x, b->y };
-    if (same(m->at, end))
-        return -13;
-    int64_t x = llabs(end.x - m->at.x), y = llabs(end.y - m->at.y);
-    m->kind = LINE;
-    m->line = (struct line){ m->at, end, b->feed, least_root(x * x + y * y), 0 };
+    m->kind = NOTHING;
+    q->root = 0;
+    if (q->waiting == 0)
+        return;
+    begin(m, m->at, &q->first[0].block, q->first[0].root);
+    q->root = q->first[0].root;
+    q->waiting--;
+    memmove(q->first, q->first + 1, (size_t)q->waiting * sizeof *q->first);
+}
+
+int64_t c_tick_in(struct machine *m, struct queue *q)
+{
+    if (!sound(m, q))
+        return UNSOUND;
+    if (m->held || m->kind == NOTHING)
+        return 0;
+    const uint8_t byte = work_tick(m);
+    if (byte & CYCLE)
+        q->left--;
+    if (byte & LAST)
+        bring_in(m, q);
+    return byte;
+}
+
+/* The register width that a load answers, and the root. */
+static int64_t measure(struct point start, const struct plain_block *b, int64_t *root)
+{
+    if (b->kind != LINE) {
+        const int64_t square = square_of(b->i, b->j);
+        *root = nearest_root(2 * square);
+        return width(nearest_root(square));
+    }
+    const int64_t x = llabs(b->x - start.x), y = llabs(b->y - start.y);
+    *root = least_root(square_of(x, y));
     return width(x < y ? y : x);
 }
 
-static int64_t load_arc(struct machine *m, const struct plain_block *b)
+/* The end of the last block that waits, else of the one in work, else the point. */
+static struct point start_of(const struct machine *m, const struct queue *q)
 {
-    if (!within(-TRAVEL, b->i, TRAVEL) || !within(-TRAVEL, b->j, TRAVEL) || (b->i == 0 && b->j == 0))
-        return -14;
-    const bool clockwise = b->kind == CLOCKWISE;
-    struct arc a = { { m->at.x + b->i, m->at.y + b->j }, { b->x, b->y }, b->i * b->i + b->j * b->j, b->feed };
-    if (!on_circle(a.square, seen(&a, clockwise, a.end)))
-        return -15;
-    if (!stays(&m->settings, &a, clockwise, m->at))
-        return -16;
-    m->kind = b->kind;
-    m->arc = a;
-    return width(nearest_root(a.square));
+    if (q->waiting == 0)
+        return end_of(m);
+    const struct plain_block *last = &q->first[q->waiting - 1].block;
+    return (struct point){ last->x, last->y };
 }
 
-int64_t c_load_in(struct machine *m, const struct plain_block *b)
+int64_t c_load_in(struct machine *m, struct queue *q, const struct plain_block *b)
 {
-    if (!sound(m))
+    if (!sound(m, q))
         return UNSOUND;
-    if (m->kind != NOTHING)
+    if (q->waiting == QUEUE)
         return -10;
-    if (!within(1, b->feed, 60 * m->settings.w))
-        return -11;
-    if (!inside(&m->settings, (struct point){ b->x, b->y }))
-        return -12;
-    return b->kind == LINE ? load_line(m, b) : load_arc(m, b);
+    const struct point start = start_of(m, q);
+    const int64_t no = block_no(&m->settings, start, b);
+    if (no != 0)
+        return no;
+    int64_t root;
+    const int64_t bits = measure(start, b, &root);
+    q->left += cycles_of(start, b, root);
+    if (m->kind == NOTHING) {
+        begin(m, start, b, root);
+        q->root = root;
+    } else {
+        q->first[q->waiting++] = (struct waiting){ *b, root };
+    }
+    return bits;
 }
 
-int64_t c_stop_in(struct machine *m)
+int64_t c_stop_in(struct machine *m, struct queue *q)
 {
-    if (!sound(m))
+    if (!sound(m, q))
         return UNSOUND;
     m->kind = NOTHING;
     m->remainder = 0;
+    q->root = q->left = q->waiting = 0;
     return 0;
 }
 
-int64_t c_ahead_in(struct machine *m, uint64_t ticks)
+int64_t c_ahead_in(struct machine *m, struct queue *q, uint64_t ticks)
 {
-    if (!sound(m))
+    if (!sound(m, q))
         return UNSOUND;
     if (ticks > MOST_AHEAD)
         return -38;
-    c_skip(m, (int64_t)ticks);
+    for (int64_t more = (int64_t)ticks; more > 0 && !m->held && m->kind != NOTHING;) {
+        const int64_t others = q->left - cycles_left(m, q->root);
+        more -= c_skip(m, more);
+        q->left = others + cycles_left(m, q->root);
+        if (m->kind == NOTHING)
+            bring_in(m, q);
+    }
     return 0;
-}
-
-/* By value. */
-
-struct answered c_tick(struct machine m)
-{
-    int64_t answer = c_tick_in(&m);
-    return (struct answered){ answer, m };
-}
-
-struct answered c_load(struct machine m, struct plain_block b)
-{
-    int64_t answer = c_load_in(&m, &b);
-    return (struct answered){ answer, m };
-}
-
-struct answered c_stop(struct machine m)
-{
-    int64_t answer = c_stop_in(&m);
-    return (struct answered){ answer, m };
 }

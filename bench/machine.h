@@ -1,8 +1,9 @@
-/* The machine in plain C: in place, and by value, where it goes in by value and comes back beside the answer as in the core. */
+/* The machine in plain C: what is in work in a struct, and behind it the blocks that wait as the record's words have them. */
 #ifndef MACHINE_H
 #define MACHINE_H
 
 #include "plain.h"
+#include "record.h"
 
 #include <stdbool.h>
 
@@ -43,6 +44,19 @@ struct machine {
     };
 };
 
+/* Words 19 on of a record: the root of the block in work, the cycles still to do, how many blocks wait, and these. */
+struct waiting {
+    struct plain_block block;
+    int64_t root; /* of a line its cycles, of an arc those of a quarter turn */
+};
+
+struct queue {
+    int64_t root, left, waiting;
+    struct waiting first[QUEUE];
+};
+
+_Static_assert(sizeof(struct queue) == (WORDS - WORD_ROOT) * sizeof(int64_t), "the queue is the record's words");
+
 enum { TRAVEL = 1000000 }; /* the farthest that a travel bound may lie, and I and J */
 
 static inline bool within(int64_t lower, int64_t v, int64_t upper) { return lower <= v && v <= upper; }
@@ -58,24 +72,14 @@ static inline bool same(struct point p, struct point q) { return p.x == q.x && p
 static inline int width(int64_t v) { return 64 - __builtin_clzll((uint64_t)v); }
 
 /* The answer is a number as in the header. */
-struct answered {
-    int64_t answer;
-    struct machine machine;
-};
-
-struct answered c_tick(struct machine m);
-struct answered c_load(struct machine m, struct plain_block b);
-struct answered c_stop(struct machine m);
-
-/* The same in place. */
-int64_t c_tick_in(struct machine *m);
-int64_t c_load_in(struct machine *m, const struct plain_block *b);
-int64_t c_stop_in(struct machine *m);
-
-/* So many ticks at once, of a record that has been tested. */
-void c_skip(struct machine *m, int64_t ticks);
+int64_t c_tick_in(struct machine *m, struct queue *q);
+int64_t c_load_in(struct machine *m, struct queue *q, const struct plain_block *b);
+int64_t c_stop_in(struct machine *m, struct queue *q);
 
 /* A look-ahead: the machine goes so many ticks on. */
-int64_t c_ahead_in(struct machine *m, uint64_t ticks);
+int64_t c_ahead_in(struct machine *m, struct queue *q, uint64_t ticks);
+
+/* So many ticks at once, or to the end of the block in work, of a record that has been tested; how many they are. */
+int64_t c_skip(struct machine *m, int64_t ticks);
 
 #endif

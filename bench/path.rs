@@ -151,6 +151,20 @@ impl Arc {
         })
     }
 
+    /// A place's number on the way round: each quadrant has `quarter` points, the first half counted by across, the second by along.
+    fn rank(&self, quarter: i64, p: Point) -> i64 {
+        let place = self.place(p);
+        place.quadrant as i64 * quarter + if place.across <= place.along { place.across } else { quarter - place.along }
+    }
+
+    /// The cycles from here to the end where a quarter turn has so many; a whole turn where the arc is already there.
+    pub fn cycles(&self, at: Point, quarter: i64) -> i64 {
+        match self.rank(quarter, self.end) - self.rank(quarter, at) {
+            n @ 1.. => n,
+            n => n + 4 * quarter,
+        }
+    }
+
     pub fn sound(&self, s: &Settings, at: Point) -> bool {
         let centres = Range { lower: -FARTHEST_CENTRE, upper: FARTHEST_CENTRE };
         centres.has(self.centre.x)

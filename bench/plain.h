@@ -55,17 +55,13 @@ typedef uint64_t plain_loads(int64_t *words, const struct plain_block *block, ui
  * .._ticks     so many ticks into out, one by one; returns the ticks done, fewer where the block ended
  * .._cycles    the same, but the bytes are cleared first and only the cycles are visited
  * root         the least whole number whose square is at least s, for s below 2^46, by the hardware's root
- * words_..     a call on the record's words: decode, test, do, encode
- * value_..     the words are decoded once; then n calls, or loads each with a stop, on a struct that goes in and comes back by
- *              value; the answers, mixed */
+ * words_..     a call on the record's words: decode what is in work, test all, do, encode */
 #define PLAIN_SIDE(SIDE)                                                  \
     plain_run_line SIDE##_line_ticks, SIDE##_line_cycles;                 \
     plain_run_arc SIDE##_arc_ticks, SIDE##_arc_cycles;                    \
     uint64_t SIDE##_root(uint64_t s);                                     \
     plain_call SIDE##_words_tick, SIDE##_words_stop;                      \
-    plain_load SIDE##_words_load;                                         \
-    plain_ticks SIDE##_value_ticks;                                       \
-    plain_loads SIDE##_value_loads;
+    plain_load SIDE##_words_load;
 
 PLAIN_SIDE(c)
 PLAIN_SIDE(rust)
@@ -80,7 +76,7 @@ plain_ahead c_words_ahead;
 struct plain_sums c_line_look(struct plain_line line, struct plain_feed feed, uint64_t ticks);
 struct plain_sums c_arc_look(struct plain_arc arc, struct plain_feed feed, uint64_t ticks);
 
-/* As value_.., on a struct in place. */
+/* The words are decoded once; then n calls, or loads each with a stop, on a struct in place; the answers, mixed. */
 plain_ticks c_place_ticks;
 plain_loads c_place_loads;
 

@@ -17,8 +17,14 @@ enum {
     WORD_WORK,    /* 0 nothing, 1 a line, 2 an arc clockwise, 3 counterclockwise */
     WORD_NUMBERS, /* the numbers of what is in work */
     NUMBERS = 7,
-    WORDS = WORD_NUMBERS + NUMBERS,
-    ABI = 2
+    WORD_ROOT = WORD_NUMBERS + NUMBERS, /* from here on as struct queue of machine.h */
+    WORD_LEFT,
+    WORD_WAITING,
+    WORD_QUEUE, /* the blocks that wait */
+    BLOCK_WORDS = 7,
+    QUEUE = 16,
+    WORDS = WORD_QUEUE + BLOCK_WORDS * QUEUE,
+    ABI = 3
 };
 
 #endif

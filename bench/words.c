@@ -1,4 +1,5 @@
-/* The plain C machine behind the words of a record, and many times over by value and in place. */
+/* The plain C machine behind the words of a record: words 0 to 18 are decoded, the queue behind them is used where it stands. And in place,
+ * many times over. */
 #include "machine.h"
 #include "record.h"
 
@@ -35,19 +36,14 @@ static void put(int64_t *to, const int64_t *numbers)
         to[i] = numbers[i];
 }
 
+static struct queue *queue_in(int64_t *w) { return (struct queue *)(w + WORD_ROOT); }
+
+/* What a call may have changed: no setting. */
 static void encode(const struct machine *m, int64_t *w)
 {
     int64_t *n = w + WORD_NUMBERS;
-    w[WORD_ABI] = ABI;
-    w[WORD_P] = m->settings.p;
-    w[WORD_W] = m->settings.w;
-    w[WORD_X_LOWER] = m->settings.x.lower;
-    w[WORD_X_UPPER] = m->settings.x.upper;
-    w[WORD_Y_LOWER] = m->settings.y.lower;
-    w[WORD_Y_UPPER] = m->settings.y.upper;
     w[WORD_X] = m->at.x;
     w[WORD_Y] = m->at.y;
-    w[WORD_HELD] = m->held;
     w[WORD_REMAINDER] = m->remainder;
     w[WORD_WORK] = m->kind;
     if (m->kind == LINE)
@@ -63,7 +59,7 @@ int64_t c_words_tick(int64_t *words)
     struct machine m;
     if (!decode(words, &m))
         return UNSOUND;
-    int64_t answer = c_tick_in(&m);
+    int64_t answer = c_tick_in(&m, queue_in(words));
     encode(&m, words);
     return answer;
 }
@@ -73,7 +69,7 @@ int64_t c_words_load(int64_t *words, const struct plain_block *block)
     struct machine m;
     if (!decode(words, &m))
         return UNSOUND;
-    int64_t answer = c_load_in(&m, block);
+    int64_t answer = c_load_in(&m, queue_in(words), block);
     encode(&m, words);
     return answer;
 }
@@ -83,7 +79,7 @@ int64_t c_words_stop(int64_t *words)
     struct machine m;
     if (!decode(words, &m))
         return UNSOUND;
-    int64_t answer = c_stop_in(&m);
+    int64_t answer = c_stop_in(&m, queue_in(words));
     encode(&m, words);
     return answer;
 }
@@ -91,70 +87,56 @@ int64_t c_words_stop(int64_t *words)
 int64_t c_words_ahead(const int64_t *words, uint64_t ticks, int64_t *then, struct plain_sums *sums)
 {
     struct machine m;
-    int64_t answer = decode(words, &m) ? c_ahead_in(&m, ticks) : UNSOUND;
-    if (answer < 0) {
-        memcpy(then, words, WORDS * sizeof *then);
-        *sums = (struct plain_sums){ 0, 0 };
+    memcpy(then, words, WORDS * sizeof *then);
+    *sums = (struct plain_sums){ 0, 0 };
+    int64_t answer = decode(words, &m) ? c_ahead_in(&m, queue_in(then), ticks) : UNSOUND;
+    if (answer < 0)
         return answer;
-    }
     *sums = (struct plain_sums){ m.at.x - words[WORD_X], m.at.y - words[WORD_Y] };
     encode(&m, then);
     return answer;
 }
 
-uint64_t c_value_ticks(int64_t *words, uint64_t n)
+/* A machine with its queue in one struct, and back. */
+struct whole {
+    struct machine machine;
+    struct queue queue;
+};
+
+static void taken(const int64_t *words, struct whole *w)
 {
-    struct machine m;
-    uint64_t sum = 0;
-    if (!decode(words, &m))
+    if (!decode(words, &w->machine))
         abort();
-    for (uint64_t i = 0; i < n; i++) {
-        struct answered a = c_tick(m);
-        m = a.machine;
-        sum = plain_mix(sum, a.answer);
-    }
-    encode(&m, words);
-    return sum;
+    memcpy(&w->queue, words + WORD_ROOT, sizeof w->queue);
+}
+
+static void put_back(const struct whole *w, int64_t *words)
+{
+    encode(&w->machine, words);
+    memcpy(words + WORD_ROOT, &w->queue, sizeof w->queue);
 }
 
 uint64_t c_place_ticks(int64_t *words, uint64_t n)
 {
-    struct machine m;
+    struct whole w;
     uint64_t sum = 0;
-    if (!decode(words, &m))
-        abort();
+    taken(words, &w);
     for (uint64_t i = 0; i < n; i++)
-        sum = plain_mix(sum, c_tick_in(&m));
-    encode(&m, words);
-    return sum;
-}
-
-uint64_t c_value_loads(int64_t *words, const struct plain_block *block, uint64_t n)
-{
-    struct machine m;
-    uint64_t sum = 0;
-    if (!decode(words, &m))
-        abort();
-    for (uint64_t i = 0; i < n; i++) {
-        struct answered a = c_load(m, plain_nth(*block, i)), s = c_stop(a.machine);
-        m = s.machine;
-        sum = plain_mix(plain_mix(sum, a.answer), s.answer);
-    }
-    encode(&m, words);
+        sum = plain_mix(sum, c_tick_in(&w.machine, &w.queue));
+    put_back(&w, words);
     return sum;
 }
 
 uint64_t c_place_loads(int64_t *words, const struct plain_block *block, uint64_t n)
 {
-    struct machine m;
+    struct whole w;
     uint64_t sum = 0;
-    if (!decode(words, &m))
-        abort();
+    taken(words, &w);
     for (uint64_t i = 0; i < n; i++) {
         struct plain_block b = plain_nth(*block, i);
-        sum = plain_mix(sum, c_load_in(&m, &b));
-        sum = plain_mix(sum, c_stop_in(&m));
+        sum = plain_mix(sum, c_load_in(&w.machine, &w.queue, &b));
+        sum = plain_mix(sum, c_stop_in(&w.machine, &w.queue));
     }
-    encode(&m, words);
+    put_back(&w, words);
     return sum;
 }

@@ -1,15 +1,22 @@
-//! The plain Rust machine behind the words of a record, and by value many times over.
-use crate::machine::{rust_load, rust_stop, rust_tick, Answered, Block, Machine, Work};
+//! The plain Rust machine behind the words of a record: words 0 to 18 are decoded, the queue behind them is used where it stands.
+use crate::machine::{Block, Machine, Queue, Work};
 use crate::path::{Arc, Line, Point, Range, Settings};
 
-/// Which word is what, `decode` and `encode` say alone.
-type Words = [i64; 19];
+/// The words of what is in work; which word is what, `decode` and `encode` say alone.
+type Front = [i64; 19];
+
+/// The words of a record: the queue's words stand as `Queue` has them.
+#[repr(C)]
+pub struct Words {
+    front: Front,
+    queue: Queue,
+}
 
 /// The number of this layout.
-const ABI: i64 = 2;
+const ABI: i64 = 3;
 
 /// None where the words are no record at all: of another layout, a mark but 0 and 1, a kind above 3, not 0 in what is not used.
-fn decode(words: &Words) -> Option<Machine> {
+fn decode(words: &Front) -> Option<Machine> {
     let [abi, p, w, x_lower, x_upper, y_lower, y_upper, x, y, held, remainder, kind, numbers @ ..] = *words;
     if abi != ABI {
         return None;
@@ -33,76 +40,35 @@ fn decode(words: &Words) -> Option<Machine> {
     Some(Machine { settings, at: Point { x, y }, held, remainder, work })
 }
 
-fn encode(m: &Machine, words: &mut Words) {
-    let Settings { p, w, x, y } = m.settings;
+/// What a call may have changed: no setting.
+fn encode(m: &Machine, words: &mut Front) {
     let (kind, n) = match m.work {
         Work::Nothing => (0, [0; 7]),
         Work::Line(l) => (1, [l.start.x, l.start.y, l.end.x, l.end.y, l.feed, l.cycles, l.done]),
         Work::Arc(a) => (if a.clockwise { 2 } else { 3 }, [a.centre.x, a.centre.y, a.square, a.end.x, a.end.y, a.feed, 0]),
     };
-    let (held, [a, b, c, d, e, f, g]) = (i64::from(m.held), n);
-    *words = [ABI, p, w, x.lower, x.upper, y.lower, y.upper, m.at.x, m.at.y, held, m.remainder, kind, a, b, c, d, e, f, g];
+    (words[7], words[8], words[10], words[11]) = (m.at.x, m.at.y, m.remainder, kind);
+    words[12..].copy_from_slice(&n);
 }
 
-fn on_words(words: &mut Words, call: impl FnOnce(Machine) -> Answered) -> i64 {
-    let Some(m) = decode(words) else { return -9 };
-    let a = call(m);
-    encode(&a.machine, words);
-    a.answer
+fn on_words(words: &mut Words, call: impl FnOnce(&mut Machine, &mut Queue) -> i64) -> i64 {
+    let Some(mut m) = decode(&words.front) else { return -9 };
+    let answer = call(&mut m, &mut words.queue);
+    encode(&m, &mut words.front);
+    answer
 }
 
 #[no_mangle]
 pub extern "C" fn rust_words_tick(words: &mut Words) -> i64 {
-    on_words(words, rust_tick)
+    on_words(words, Machine::tick)
 }
 
 #[no_mangle]
 pub extern "C" fn rust_words_load(words: &mut Words, block: &Block) -> i64 {
-    on_words(words, |m| rust_load(m, *block))
+    on_words(words, |m, q| m.load(q, block))
 }
 
 #[no_mangle]
 pub extern "C" fn rust_words_stop(words: &mut Words) -> i64 {
-    on_words(words, rust_stop)
-}
-
-fn mix(sum: u64, answer: i64) -> u64 {
-    sum.wrapping_mul(31).wrapping_add(answer as u64)
-}
-
-#[no_mangle]
-pub extern "C" fn rust_value_ticks(words: &mut Words, n: u64) -> u64 {
-    let mut m = decode(words).expect("a record");
-    let mut sum = 0;
-    for _ in 0..n {
-        let a = rust_tick(m);
-        m = a.machine;
-        sum = mix(sum, a.answer);
-    }
-    encode(&m, words);
-    sum
-}
-
-/// As plain_nth of plain.h.
-fn nth(mut b: Block, n: u64) -> Block {
-    let k = (n & 65535) as i64;
-    b.feed = 1 + k;
-    if b.kind == 1 {
-        b.x -= k;
-    }
-    b
-}
-
-#[no_mangle]
-pub extern "C" fn rust_value_loads(words: &mut Words, block: &Block, n: u64) -> u64 {
-    let mut m = decode(words).expect("a record");
-    let mut sum = 0;
-    for i in 0..n {
-        let a = rust_load(m, nth(*block, i));
-        let s = rust_stop(a.machine);
-        m = s.machine;
-        sum = mix(mix(sum, a.answer), s.answer);
-    }
-    encode(&m, words);
-    sum
+    on_words(words, Machine::stop)
 }

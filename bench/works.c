@@ -24,6 +24,7 @@ int64_t core_load(int64_t *words, const struct plain_block *b)
 
 void fresh(int64_t *words)
 {
+    memset(words, 0, sizeof(vz_record));
     if (vz_make((vz_record *)words, 50, 5000, -1000000, 1000000, -1000000, 1000000) != 0)
         abort();
 }
@@ -104,19 +105,16 @@ static void words_ticks(const struct work *w, uint64_t times, plain_call *tick)
     kept = sum;
 }
 
-static void value_ticks(const struct work *w, uint64_t times, plain_ticks *ticks)
-{
-    int64_t words[VZ_RECORD_WORDS];
-    loaded(words, w);
-    kept = ticks(words, times);
-}
-
 static void ticks_core(const struct work *w, uint64_t times) { words_ticks(w, times, core_tick); }
 static void ticks_c_words(const struct work *w, uint64_t times) { words_ticks(w, times, c_words_tick); }
 static void ticks_rust_words(const struct work *w, uint64_t times) { words_ticks(w, times, rust_words_tick); }
-static void ticks_c(const struct work *w, uint64_t times) { value_ticks(w, times, c_value_ticks); }
-static void ticks_c_place(const struct work *w, uint64_t times) { value_ticks(w, times, c_place_ticks); }
-static void ticks_rust(const struct work *w, uint64_t times) { value_ticks(w, times, rust_value_ticks); }
+
+static void ticks_c_place(const struct work *w, uint64_t times)
+{
+    int64_t words[VZ_RECORD_WORDS];
+    loaded(words, w);
+    kept = c_place_ticks(words, times);
+}
 
 /* ---- loads, each with the stop that lets the next one in */
 
@@ -134,20 +132,17 @@ static void words_loads(const struct work *w, uint64_t times, plain_load *load, 
     kept = sum;
 }
 
-static void value_loads(const struct work *w, uint64_t times, plain_loads *loads)
+static void loads_core(const struct work *w, uint64_t times) { words_loads(w, times, core_load, core_stop); }
+static void loads_c_words(const struct work *w, uint64_t times) { words_loads(w, times, c_words_load, c_words_stop); }
+static void loads_rust_words(const struct work *w, uint64_t times) { words_loads(w, times, rust_words_load, rust_words_stop); }
+
+static void loads_c_place(const struct work *w, uint64_t times)
 {
     int64_t words[VZ_RECORD_WORDS];
     const struct plain_block block = block_of(w);
     fresh(words);
-    kept = loads(words, &block, times);
+    kept = c_place_loads(words, &block, times);
 }
-
-static void loads_core(const struct work *w, uint64_t times) { words_loads(w, times, core_load, core_stop); }
-static void loads_c_words(const struct work *w, uint64_t times) { words_loads(w, times, c_words_load, c_words_stop); }
-static void loads_rust_words(const struct work *w, uint64_t times) { words_loads(w, times, rust_words_load, rust_words_stop); }
-static void loads_c(const struct work *w, uint64_t times) { value_loads(w, times, c_value_loads); }
-static void loads_c_place(const struct work *w, uint64_t times) { value_loads(w, times, c_place_loads); }
-static void loads_rust(const struct work *w, uint64_t times) { value_loads(w, times, rust_value_loads); }
 
 /* ---- roots */
 
@@ -180,7 +175,7 @@ static void roots_isqrt(const struct work *w, uint64_t times) { roots(w, times, 
 
 /* ---- the tables and the goals */
 
-enum { LOOP = 1, CYCLES = 2, MEMSET = 5, VALUE = 1 }; /* the ways that goals name */
+enum { LOOP = 1, CYCLES = 2, MEMSET = 5, C_WORDS = 1 }; /* the ways that goals name */
 
 static const struct way run_ways[] = {
     { "core", runs_core },
@@ -206,14 +201,12 @@ static const struct work run_works[] = {
 
 static const struct way tick_ways[] = {
     { "core, words", ticks_core },
-    { "C by value", ticks_c },
     { "C, words", ticks_c_words },
     { "C in place", ticks_c_place },
-    { "Rust by value", ticks_rust },
     { "Rust, words", ticks_rust_words },
 };
-static const struct goal line_tick = { "single tick on a line at q0", VALUE, 1.25 };
-static const struct goal other_tick = { "single tick on an arc, or at q0/1000", VALUE, 1.5 };
+static const struct goal line_tick = { "single tick on a line at q0", C_WORDS, 1.25 };
+static const struct goal other_tick = { "single tick on an arc, or at q0/1000", C_WORDS, 1.5 };
 static const struct work tick_works[] = {
     { "tick, line, q0", 0, 1, 0, 0, 20000, 1, { &line_tick } },
     { "tick, line, q0/1000", 0, 1000, 0, 0, 20000, 1, { &other_tick } },
@@ -223,10 +216,8 @@ static const struct work tick_works[] = {
 
 static const struct way load_ways[] = {
     { "core, words", loads_core },
-    { "C by value", loads_c },
     { "C, words", loads_c_words },
     { "C in place", loads_c_place },
-    { "Rust by value", loads_rust },
     { "Rust, words", loads_rust_words },
 };
 static const struct work load_works[] = {
@@ -258,6 +249,7 @@ const struct table tables[] = {
     TABLE("run", "tick", 4, run, -1),
     TABLE("single tick", "call", 2000, tick, -1),
     TABLE("load", "pair of calls", 1000, load, -1),
+    TABLE("blocks waiting", "call", 1000, wait, -1),
     TABLE("look-ahead", "look", 1000, look, LOOK_BY_TICK),
     TABLE("least root", "call", 1000, root, -1),
 };

@@ -20,7 +20,7 @@ struct work {
     const char *name;
     int arc;
     uint64_t part;   /* the feed is the capacity divided by this */
-    uint64_t given;  /* the number whose root is taken, or the ticks of a look-ahead */
+    uint64_t given;  /* the number whose root is taken, the ticks of a look-ahead, or the call that is timed while blocks wait */
     int waits;       /* each root waits for the one before it */
     uint64_t times;  /* how often the work is done between two looks at the clock */
     uint64_t units;  /* in one time: the bytes that a run fills, or 1 */
@@ -62,6 +62,12 @@ plain_ahead core_ahead;
 enum { LOOK_WAYS = 4, LOOK_WORKS = 12, LOOK_CORE = 0, LOOK_BY_TICK = 2, LOOK_CLOSED = 3 };
 extern const struct way look_ways[LOOK_WAYS];
 extern const struct work look_works[LOOK_WORKS];
+
+/* Calls while blocks wait: their table's ways and works. */
+enum { WAIT_WAYS = 3, WAIT_WORKS = 8, WAIT_CORE = 0, WAIT_C = 2 };
+extern const struct way wait_ways[WAIT_WAYS];
+extern const struct work wait_works[WAIT_WORKS];
+uint64_t waited(int way, const struct work *w, uint64_t times);
 
 /* What a way keeps of so many looks. */
 int64_t looked(int way, const struct work *w, uint64_t times);
