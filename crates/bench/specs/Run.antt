@@ -4,6 +4,7 @@ use mathlib.Core.List.{List, []}
 use Prim.Native.Nat.{ℕ, min}
 use lib.Dec.{leb}
 use lib.ListN.{length}
+use Rattle.plane.specs.Byte.{cyclesMarked}
 use Rattle.work.specs.Work.{isNothing}
 use Rattle.run.specs.Run.{Strip, stripOf}
 use Rattle.bench.specs.declared.Bench.{Bench}
@@ -29,13 +30,14 @@ ranOver m budget s =
       ran = record {
         report = reportOf (s .ended) (leb budget (length (s .bytes)));
         ticks = length (s .bytes);
+        cycles = cyclesMarked (s .bytes);
         bench = movedOf m (s .at) (s .remainder) (s .work);
       };
       bytes = s .bytes;
     }
 
 abbrev pub noTick : Bench → Report → Run
-noTick m r = record { ran = record { report = r; ticks = 0; bench = m }; bytes = [] }
+noTick m r = record { ran = record { report = r; ticks = 0; cycles = 0; bench = m }; bytes = [] }
 
 -- "It answers idle or held (idle first) with 0 ticks"
 unfoldable pub runOf : Bench → (budget buffer : ℕ) → Run

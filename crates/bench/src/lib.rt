@@ -71,6 +71,8 @@ pub enum Report {
 pub struct Ran {
     pub report: Report,
     pub ticks: u64,
+    // How many of the ticks did a cycle: crate machine takes them off its figure. No caller is told.
+    pub cycles: u64,
     pub bench: Bench,
 }
 
@@ -213,6 +215,7 @@ impl Bench {
             return Ran {
                 report: Report::Refused(9),
                 ticks: 0,
+                cycles: 0,
                 bench: self,
             };
         }
@@ -232,6 +235,7 @@ impl Bench {
             return Ran {
                 report: Report::Idle,
                 ticks: 0,
+                cycles: 0,
                 bench: self,
             };
         }
@@ -239,6 +243,7 @@ impl Bench {
             return Ran {
                 report: Report::Held,
                 ticks: 0,
+                cycles: 0,
                 bench: self,
             };
         }
@@ -248,6 +253,7 @@ impl Bench {
         Ran {
             report: report_of(r.ended, budget <= r.ticks),
             ticks: r.ticks,
+            cycles: r.cycles,
             bench: self.moved(here, r.remainder, next),
         }
     }

@@ -47,11 +47,6 @@ sinceStop before Call.hold more = before + more
 sinceStop before Call.release more = before + more
 sinceStop before Call.stop more = 0
 
--- the bytes that mark a cycle, for the claims on runs, arcs and jobs
-abbrev pub cyclesMarked : List ℕ → ℕ
-cyclesMarked [] = 0
-cyclesMarked (b ∷ bs) = cycleMark b + cyclesMarked bs
-
 -- "cycles in the feed sum are the bytes that mark one"; 02 §2: "charges replace cycles". A byte tells by its codes what its cycle is
 -- charged, once the path is known: a line's diagonal cycle and an arc's look alike.
 abbrev pub chargeMarked : Path → (byte : ℕ) → ℕ

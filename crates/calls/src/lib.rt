@@ -16,12 +16,10 @@ use block::questions::load_no;
 use layout::encode::encode;
 use layout::given::settings;
 use machine::waiting::left_after;
-use machine::waiting::left_behind;
 use plane::point::Point;
 use record::read::bench_in;
 use record::read::left_in;
 use record::read::len_in;
-use record::read::root_in;
 use record::read::seen;
 use record::read::start_in;
 use record::sound::is_sound;
@@ -169,7 +167,7 @@ pub fn run(words: &mut [i64; 134], budget: u64, out: &mut [u8], ticks: &mut u64)
     let r = k.run_sound(budget, out);
     let report = r.report;
     let after = r.bench;
-    let left = left_behind(left_in(words), k, after, root_in(words));
+    let left = left_in(words) - r.cycles;
     store_ticks(words, after, left);
     *ticks = r.ticks;
     report_number(report)

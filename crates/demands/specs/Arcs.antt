@@ -10,7 +10,7 @@ use Rattle.whole.specs.Width.{widthOf}
 use Rattle.plane.specs.declared.point.Point.{Point}
 use Rattle.plane.specs.declared.pulse.Pulses.{Pulses}
 use Rattle.plane.specs.Pulse.{shiftedOf, pulsesBetween}
-use Rattle.plane.specs.Byte.{cycleByte, endMark}
+use Rattle.plane.specs.Byte.{cycleByte, cyclesMarked, endMark}
 use Rattle.circle.specs.declared.plane.Offset.{Offset}
 use Rattle.circle.specs.declared.plane.Turn.{Turn}
 use Rattle.circle.specs.Circle.{square, Circle}
@@ -36,7 +36,6 @@ use Rattle.machine.specs.declared.Machine.{Machine}
 use Rattle.machine.specs.declared.Answered.{Answered}
 use Rattle.machine.specs.declared.Ticked.{Ticked}
 use Rattle.book.specs.Ledger.{CountedAlong}
-use Rattle.book.specs.Sums.{cyclesMarked}
 use Rattle.history.specs.Contracts.{Loads, Ticks}
 use Rattle.demands.specs.Asked.{AllYes}
 use Rattle.demands.specs.Sound.{workEnd, Sound}

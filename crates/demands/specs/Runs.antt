@@ -7,6 +7,7 @@ use Prim.Native.Nat.{ℕ, _+_, _-_, _*_, _/_, _≤_, _<_, min, max}
 use lib.ListN.{length, take, drop}
 use denote.Ref.{RefT, now}
 use contract.Lifetimes.{Lfts}
+use Rattle.plane.specs.Byte.{cyclesMarked}
 use Rattle.work.specs.declared.Work.{Work}
 use Rattle.circle.specs.Charge.{mostPaid}
 use Rattle.work.specs.Work.{addedOf, cyclesLeft, chargesFor, chargesLeft, endOf}
@@ -19,7 +20,6 @@ use Rattle.machine.specs.declared.Ticked.{Ticked}
 use Rattle.machine.specs.declared.Ran.{Ran}
 use Rattle.book.specs.Bench.{Report}
 use Rattle.book.specs.Book.{Reply}
-use Rattle.book.specs.Sums.{cyclesMarked}
 use Rattle.history.specs.Contracts.{Ticks, Runs}
 use Rattle.demands.specs.Sound.{Sound}
 use Rattle.demands.specs.Answers.{ranReply}

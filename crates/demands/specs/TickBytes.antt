@@ -7,6 +7,7 @@ use Prim.Native.Nat.{ℕ}
 use lib.ListN.{length, take}
 use denote.Ref.{RefT, now}
 use contract.Lifetimes.{Lfts}
+use Rattle.plane.specs.Byte.{cyclesMarked}
 use Rattle.block.specs.Block.{blockWidth}
 use Rattle.work.specs.declared.Work.{Work}
 use Rattle.settings.specs.declared.Settings.{Settings}
@@ -17,7 +18,6 @@ use Rattle.bench.specs.Bench.{freshOf as freshBench}
 use Rattle.machine.specs.declared.Machine.{Machine}
 use Rattle.machine.specs.declared.Answered.{Answered}
 use Rattle.machine.specs.Machine.{freshOf}
-use Rattle.book.specs.Sums.{cyclesMarked}
 use Rattle.history.specs.Contracts.{Loads}
 use Rattle.job.specs.Job.{Made, jobOf}
 use Rattle.job.specs.Listing.{allCycles, allTicks}

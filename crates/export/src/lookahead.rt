@@ -10,10 +10,8 @@ use finish::works;
 use look::MOST_TICKS;
 use look::Sums;
 use look::way;
-use machine::waiting::left_behind;
 use record::read::bench_in;
 use record::read::left_in;
-use record::read::root_in;
 use record::sound::is_sound;
 use record::write::store_ticks;
 use run::skip::skip_work;
@@ -38,7 +36,7 @@ fn pass(words: &mut [i64; 134], k: Bench, ticks: u64) -> u64
     let here = r.at;
     let rest = r.work;
     let after = k.moved(here, r.remainder, rest);
-    let left = left_behind(left_in(words), k, after, root_in(words));
+    let left = left_in(words) - r.cycles;
     store_ticks(words, after, left);
     r.ticks
 }

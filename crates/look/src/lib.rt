@@ -9,7 +9,6 @@ ghost use Rattle.look.specs.Look.{refusing, tickingOf, aheadOf, passOf, 
 use bench::Answer;
 use finish::works;
 use machine::Machine;
-use machine::waiting::left_behind;
 use machine::waiting::next;
 use plane::point::Point;
 use run::skip::skip_work;
@@ -76,7 +75,7 @@ fn pass(m: Machine, ticks: u64) -> Passed
     let here = r.at;
     let rest = r.work;
     let after = k.moved(here, r.remainder, rest);
-    let left = left_behind(m.left, k, after, m.root);
+    let left = m.left - r.cycles;
     Passed {
         machine: next(after, m.root, left, q),
         ticks: r.ticks,

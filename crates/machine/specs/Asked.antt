@@ -1,7 +1,7 @@
 -- What inner code computes, and what it asks of its callers.
 use mathlib.Core.Path.{_≡_}
 use mathlib.Core.Bool.{true, false, cond, _&&_}
-use Prim.Native.Nat.{ℕ, _+_, _-_, _≤_, _<_, _^_}
+use Prim.Native.Nat.{ℕ, _-_}
 use lib.Dec.{leb, eqb, ltb}
 use Rattle.plane.specs.declared.point.Point.{Point}
 use Rattle.block.specs.declared.Block.{Block}
@@ -12,7 +12,7 @@ use Rattle.queue.specs.Queue.{waiting, queueSound}
 use Rattle.queue.specs.Test.{wrong}
 use Rattle.work.specs.declared.Work.{Work}
 use Rattle.work.specs.Work.{isNothing, cyclesLeft, endOf}
-use Rattle.work.specs.Rest.{Countable, rootIn}
+use Rattle.work.specs.Rest.{rootIn}
 use Rattle.settings.specs.Settings.{capacityOf}
 use Rattle.bench.specs.declared.Bench.{Bench}
 use Rattle.bench.specs.declared.Tick.{Tick}
@@ -33,15 +33,6 @@ workOff at w root count =
 abbrev pub cyclesTold : Tick → ℕ
 cyclesTold (Tick.Byte byte) = cond (ltb byte 16) 0 1
 cyclesTold (Tick.Refused number) = 0
-
--- the block in work before ticks and what is left of it after them, by one root
-pub record Left (left : ℕ) (k k′ : Bench) (root : ℕ) : Type 0 where
-  pub before : Countable (k .at) (k .work)
-  pub after : Countable (k′ .at) (k′ .work)
-  pub root-before : root ≡ rootIn (k .work)
-  pub root-after : isNothing (k′ .work) ≡ false → root ≡ rootIn (k′ .work)
-  pub most : cyclesLeft (k .at) (k .work) ≤ left
-  pub fits : left + cyclesLeft (k′ .at) (k′ .work) < 2 ^ 64
 
 -- a bench after ticks, and what waits behind it
 pub record Coming (k : Bench) (root left : ℕ) (q : Queue) : Type 0 where

@@ -199,7 +199,7 @@ impl Machine {
         let r = k.run_sound(budget, out);
         let report = r.report;
         let after = r.bench;
-        let left = waiting::left_behind(self.left, k, after, self.root);
+        let left = self.left - r.cycles;
         Ran {
             report: report,
             ticks: r.ticks,

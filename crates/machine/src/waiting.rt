@@ -1,15 +1,14 @@
-// What waits behind the block in work: its test, where the next block starts, the figure after ticks, and how a block comes into work.
+// What waits behind the block in work: its test, where the next block starts, the figure after a tick, and how a block comes into work.
 // The functions take the few numbers that they need and no machine, so that a call on words need not build one.
 ghost use mathlib.Core.Path.{_≡_};
 ghost use mathlib.Core.Bool.{true};
-ghost use Prim.Native.Nat.{_-_, _+_, _≤_};
-ghost use Rattle.work.specs.Work.{cyclesLeft};
+ghost use Prim.Native.Nat.{_-_, _≤_};
 ghost use Rattle.work.specs.Rest.{Countable};
 ghost use Rattle.settings.specs.Settings.{capacityOf};
 ghost use Rattle.bench.specs.Bench.{soundOf};
 ghost use Rattle.machine.specs.Machine.{waitingRight, startOf};
 ghost use Rattle.machine.specs.Calls.{nextOf};
-ghost use Rattle.machine.specs.Asked.{lessOf, workOff, cyclesTold, Coming, Left};
+ghost use Rattle.machine.specs.Asked.{lessOf, workOff, cyclesTold, Coming};
 use crate::Machine;
 use bench::Bench;
 use bench::Tick;
@@ -22,7 +21,6 @@ use whole::root::is_nearest_root;
 use work::Work;
 use work::begin;
 use work::is_nothing;
-use work::rest::cycles_left;
 use work::rest::end_of;
 
 // So many cycles taken off the count, where it has so many.
@@ -113,22 +111,6 @@ pub fn left_after(left: u64, tick: Tick) -> u64
         }
         Tick::Refused(_) => left,
     }
-}
-
-// The cycles still to do after ticks that led from the bench `from` to the bench `to`, with this root of its block.
-pub fn left_behind(left: u64, from: Bench, to: Bench, root: u64) -> u64
-    requires { ⌜ Left left from to root ⌝ }
-    ensures { λ r. ⌜ r ≡ left - cyclesLeft (from .at) (from .work) + cyclesLeft (to .at) (to .work) ⌝ }
-{
-    let at = from.at;
-    let work = from.work;
-    let others = left - cycles_left(at, work, root);
-    let here = to.at;
-    let rest = to.work;
-    if is_nothing(rest) {
-        return others;
-    }
-    others + cycles_left(here, rest, root)
 }
 
 // The record after ticks that left the bench so and so many cycles to do: at a block's end the first one that waits comes into work, with

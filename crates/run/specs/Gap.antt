@@ -8,11 +8,16 @@ use lib.ListN.{drop, replicate}
 use Rattle.circle.specs.declared.step.Move.{Move}
 use Rattle.circle.specs.declared.step.Move.the-variants.{Rise, Slant, Fall}
 use Rattle.run.specs.declared.gap.Gap.{Gap}
+use Rattle.run.specs.declared.gap.Divided.{Divided}
 
 -- the ticks without a cycle before the next cycle, of this due, and the remainder after the tick that does it; none where the due is there
 -- already
 unfoldable pub gapOf : (due a r : ℕ) → Gap
 gapOf due a r = let g = (due - 1 - r) / a in record { ticks = g; remainder = r + g * a + a - due }
+
+-- a due by what a tick adds, and what is over
+unfoldable pub dividedOf : (due a : ℕ) → Divided
+dividedOf due a = record { whole = due / a; over = due - due / a * a }
 
 -- a gap that is counted from d ticks earlier
 abbrev pub later : (d : ℕ) → Gap → Gap
@@ -42,13 +47,13 @@ pub record Before (due a : ℕ) (g : Gap) (n : ℕ) : Type 0 where
   pub small : g .remainder + due < 2 ^ 64
   pub off : (g .ticks + 1 - n) * a ≤ g .remainder + due
 
--- what `arc_gap` asks: so many whole ticks go into the due of each move, and the sums fit
-pub record ArcGap (q0 a straight diagonal : ℕ) (g : Gap) : Type 0 where
+-- what `arc_gap` asks: the dues of a straight step and of a diagonal one are divided, and the sums fit
+pub record ArcGap (q0 a : ℕ) (straight diagonal : Divided) (g : Gap) : Type 0 where
   pub some : 1 ≤ a
   pub most : a ≤ 1000 * q0
   pub capacity : q0 ≤ 1200000000
-  pub is-straight : straight ≡ 1000 * q0 / a
-  pub is-diagonal : diagonal ≡ 1414 * q0 / a
+  pub is-straight : straight ≡ dividedOf (1000 * q0) a
+  pub is-diagonal : diagonal ≡ dividedOf (1414 * q0) a
   pub rest : g .remainder ≤ 1696800000000
   pub early : g .ticks + 4000000000000 < 2 ^ 64
 

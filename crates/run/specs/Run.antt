@@ -7,6 +7,7 @@ use Prim.Native.Nat.{ℕ, zero, suc, _*_, _≤_, _<_}
 use lib.ListN.{length, drop}
 use Rattle.plane.specs.declared.point.Point.{Point}
 use Rattle.plane.specs.declared.travel.Travel.{Travel}
+use Rattle.plane.specs.Byte.{cyclesMarked}
 use Rattle.plane.specs.Travel.{insideOf}
 use Rattle.circle.specs.Charge.{diagonal}
 use Rattle.arc.specs.Centre.{Wide}
@@ -35,7 +36,15 @@ stripOf q0 (suc n) at r w = let a = advanceOf q0 at r w in inFront (isNothing (a
 
 -- what a run reports of its ticks
 abbrev pub ranOf : Strip → Ran
-ranOf s = record { ticks = length (s .bytes); ended = s .ended; at = s .at; remainder = s .remainder; work = s .work }
+ranOf s =
+    record {
+      ticks = length (s .bytes);
+      cycles = cyclesMarked (s .bytes);
+      ended = s .ended;
+      at = s .at;
+      remainder = s .remainder;
+      work = s .work;
+    }
 
 -- the buffer after a run: its tick bytes, and then as it was
 unfoldable pub written : (bytes old : List ℕ) → List ℕ

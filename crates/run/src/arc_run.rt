@@ -9,6 +9,7 @@ use crate::buffer::clear;
 use crate::buffer::least;
 use crate::ending::arc_end;
 use crate::gap::arc_gap;
+use crate::gap::divide;
 use crate::gap::first_gap;
 use crate::gap::remainder_at;
 use arc::arc::Arc;
@@ -30,17 +31,19 @@ pub fn run_arc(capacity: u64, at: Point, remainder: u64, a: Arc, most: u64, out:
     let n = least(most, end);
     let last = least(most, end - 1);
     clear(out, n);
-    let straight_whole = STRAIGHT * capacity / added;
-    let diagonal_whole = DIAGONAL * capacity / added;
+    let straight = divide(STRAIGHT * capacity, added);
+    let diagonal = divide(DIAGONAL * capacity, added);
     let mut tracer = Tracer::enter(a, at);
     let mut gap = first_gap(tracer.charge() * capacity, added, remainder);
+    let mut cycles: u64 = 0;
     while gap.ticks < last {
         let t = tracer.cycle();
         let tick = gap.ticks as usize;
         out[tick] = with_marks(t.code, false);
         tracer = t.tracer;
+        cycles = cycles + 1;
         let m = tracer.next;
-        gap = arc_gap(capacity, added, straight_whole, diagonal_whole, m, gap);
+        gap = arc_gap(capacity, added, straight, diagonal, m, gap);
     }
     if last < n {
         let code = tracer.last_code();
@@ -49,6 +52,7 @@ pub fn run_arc(capacity: u64, at: Point, remainder: u64, a: Arc, most: u64, out:
         out[tick] = with_marks(code, true);
         return Ran {
             ticks: n,
+            cycles: cycles + 1,
             ended: true,
             at: there,
             remainder: gap.remainder,
@@ -58,6 +62,7 @@ pub fn run_arc(capacity: u64, at: Point, remainder: u64, a: Arc, most: u64, out:
     let centre = a.centre;
     Ran {
         ticks: n,
+        cycles: cycles,
         ended: false,
         at: tracer.leave(centre),
         remainder: remainder_at(tracer.charge() * capacity, added, gap, n),

@@ -1,7 +1,7 @@
 // The end tick as far as a run asks it: exact where the run can reach it, else one beyond the run. Most runs of a long block cannot, and then
 // need no division, and on an arc no count of what is left and no root.
 ghost use mathlib.Core.Path.{_≡_};
-ghost use Prim.Native.Nat.{_-_, _*_, _^_, _≤_, _<_};
+ghost use Prim.Native.Nat.{_-_, _*_, _≤_, _<_};
 ghost use Rattle.divider.specs.Divider.{lastTick};
 ghost use Rattle.arc.specs.Arc.{arcCycles};
 ghost use Rattle.arc.specs.Charge.{arcCharges};

@@ -1,9 +1,9 @@
 // The gap to the next cycle.
 ghost use mathlib.Core.Path.{_≡_};
-ghost use Prim.Native.Nat.{_+_, _*_, _/_, _^_, _≤_, _<_};
+ghost use Prim.Native.Nat.{_+_, _*_, _^_, _≤_, _<_};
 ghost use Rattle.work.specs.laws.Sound.{Feed};
 ghost use Rattle.circle.specs.Charge.{moveCharge};
-ghost use Rattle.run.specs.Gap.{gapOf, nextGap, remainderAt, ifLess, byMove, Before, ArcGap};
+ghost use Rattle.run.specs.Gap.{gapOf, dividedOf, nextGap, remainderAt, ifLess, byMove, Before, ArcGap};
 use circle::step::Move;
 use circle::step::move_charge;
 
@@ -11,6 +11,23 @@ use circle::step::move_charge;
 pub struct Gap {
     pub ticks: u64,
     pub remainder: u64,
+}
+
+// A due beside what a tick adds: so many whole ticks, and what is over.
+pub struct Divided {
+    pub whole: u64,
+    pub over: u64,
+}
+
+pub fn divide(due: u64, added: u64) -> Divided
+    requires { ⌜ 1 ≤ added ⌝ }
+    ensures { λ r. ⌜ r ≡ dividedOf due added ⌝ }
+{
+    let whole = due / added;
+    Divided {
+        whole: whole,
+        over: due - whole * added,
+    }
 }
 
 // The gap to a cycle of this due, by a division: the remainder may be more than a tick adds, and a made-up one even more than the due.
@@ -48,10 +65,10 @@ fn by_move(m: Move, straight: u64, diagonal: u64) -> u64
     }
 }
 
-// The gap after a gap's cycle, to a cycle of this due. A cycle leaves less than a tick adds; then it is `whole` ticks more, as often as
-// what a tick adds goes into the due, or one more: no division. Only after a made-up remainder more can be left.
-pub fn next_gap(due: u64, added: u64, whole: u64, gap: Gap) -> Gap
-    requires { ⌜ Feed due added × (whole ≡ due / added) × (due ≤ 1696800000000)
+// The gap after a gap's cycle, to a cycle of this due, divided before the first gap. A cycle leaves less than a tick adds; then it is
+// `whole` ticks more, or one more: no division. Only after a made-up remainder more can be left.
+pub fn next_gap(due: u64, added: u64, parts: Divided, gap: Gap) -> Gap
+    requires { ⌜ Feed due added × (parts ≡ dividedOf due added) × (due ≤ 1696800000000)
         × (gap .remainder ≤ 1696800000000) × (gap .ticks + 4000000000000 < 2 ^ 64) ⌝ }
     ensures { λ r. ⌜ r ≡ nextGap due added gap ⌝ }
 {
@@ -62,24 +79,34 @@ pub fn next_gap(due: u64, added: u64, whole: u64, gap: Gap) -> Gap
             remainder: more.remainder,
         };
     }
-    let over = due - whole * added;
+    let over = parts.over;
     let rest = gap.remainder;
     let late = if_less(rest, over, 1);
     let more = if_less(rest, over, added);
     Gap {
-        ticks: gap.ticks + whole + late,
+        ticks: gap.ticks + parts.whole + late,
         remainder: rest + more - over,
     }
 }
 
-// The gap after a gap's cycle on an arc: to a straight step or to a diagonal one. So many times what a tick adds goes into the due of each.
-pub fn arc_gap(capacity: u64, added: u64, straight: u64, diagonal: u64, m: Move, gap: Gap) -> Gap
+// The gap after a gap's cycle on an arc, to a straight step or to a diagonal one, whose dues are divided.
+pub fn arc_gap(
+    capacity: u64,
+    added: u64,
+    straight: Divided,
+    diagonal: Divided,
+    m: Move,
+    gap: Gap,
+) -> Gap
     requires { ⌜ ArcGap capacity added straight diagonal gap ⌝ }
     ensures { λ r. ⌜ r ≡ nextGap (moveCharge m * capacity) added gap ⌝ }
 {
     let due = move_charge(m) * capacity;
-    let whole = by_move(m, straight, diagonal);
-    next_gap(due, added, whole, gap)
+    let parts = Divided {
+        whole: by_move(m, straight.whole, diagonal.whole),
+        over: by_move(m, straight.over, diagonal.over),
+    };
+    next_gap(due, added, parts, gap)
 }
 
 // The remainder after n ticks, none of which does the gap's cycle.

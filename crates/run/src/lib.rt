@@ -20,6 +20,8 @@ pub mod skip;
 // What a run reports, and what it leaves. `ended`: its last tick ended the block.
 pub struct Ran {
     pub ticks: u64,
+    // How many of the ticks did a cycle.
+    pub cycles: u64,
     pub ended: bool,
     pub at: Point,
     pub remainder: u64,
@@ -43,6 +45,7 @@ pub fn run_work(
     match work {
         Work::Nothing => Ran {
             ticks: 0,
+            cycles: 0,
             ended: false,
             at: at,
             remainder: remainder,

@@ -8,6 +8,7 @@ use crate::Ran;
 use crate::buffer::clear;
 use crate::buffer::least;
 use crate::ending::line_end;
+use crate::gap::divide;
 use crate::gap::first_gap;
 use crate::gap::next_gap;
 use crate::gap::remainder_at;
@@ -30,7 +31,7 @@ pub fn run_line(capacity: u64, at: Point, remainder: u64, l: Line, most: u64, ou
     let n = least(most, end);
     let last = least(most, end - 1);
     clear(out, n);
-    let whole = due / added;
+    let parts = divide(due, added);
     let mut gap = first_gap(due, added, remainder);
     let mut stepper = Stepper::enter(l, at);
     let mut cycles = l.done;
@@ -41,7 +42,7 @@ pub fn run_line(capacity: u64, at: Point, remainder: u64, l: Line, most: u64, ou
         out[tick] = cycle_byte(pulses, false);
         stepper = s.stepper;
         cycles = cycles + 1;
-        gap = next_gap(due, added, whole, gap);
+        gap = next_gap(due, added, parts, gap);
     }
     if last < n {
         let s = stepper.advance();
@@ -51,6 +52,7 @@ pub fn run_line(capacity: u64, at: Point, remainder: u64, l: Line, most: u64, ou
         out[tick] = cycle_byte(pulses, true);
         return Ran {
             ticks: n,
+            cycles: cycles + 1 - l.done,
             ended: true,
             at: there,
             remainder: gap.remainder,
@@ -61,6 +63,7 @@ pub fn run_line(capacity: u64, at: Point, remainder: u64, l: Line, most: u64, ou
     line.done = cycles;
     Ran {
         ticks: n,
+        cycles: cycles - l.done,
         ended: false,
         at: line.point(),
         remainder: remainder_at(due, added, gap, n),

@@ -29,6 +29,7 @@ fn line_on(capacity: u64, at: Point, remainder: u64, l: Line, ticks: u64) -> Ran
     line.done = l.done + gone.cycles;
     Ran {
         ticks: ticks,
+        cycles: gone.cycles,
         ended: false,
         at: line.point(),
         remainder: gone.remainder,
@@ -48,6 +49,7 @@ fn arc_on(capacity: u64, at: Point, remainder: u64, a: Arc, cycles: u64, ticks: 
     let here = paid.at;
     Ran {
         ticks: ticks,
+        cycles: paid.cycles,
         ended: false,
         at: here,
         remainder: sum - paid.charges * capacity,
@@ -63,6 +65,7 @@ fn work_on(capacity: u64, at: Point, remainder: u64, work: Work, cycles: u64, ti
     match work {
         Work::Nothing => Ran {
             ticks: 0,
+            cycles: 0,
             ended: false,
             at: at,
             remainder: remainder,
@@ -88,6 +91,7 @@ fn skip_left(capacity: u64, at: Point, remainder: u64, work: Work, left: Left, t
         let end = left.end;
         return Ran {
             ticks: last.tick,
+            cycles: left.cycles,
             ended: true,
             at: end,
             remainder: last.remainder,

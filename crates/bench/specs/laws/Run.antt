@@ -42,7 +42,14 @@ module _ (m : Bench) (budget : ℕ) (out : List ℕ) where
   ticking = stripOf (capacityOf (m .settings)) (min budget (length out)) (m .at) (m .remainder) (m .work)
 
   pub run-works : soundOf m ≡ true → isNothing (m .work) ≡ false → m .held ≡ false → {r : Work} {after : List ℕ} → r ≡ ranOf ticking → after ≡ written (ticking .bytes) out
-      → Done (record { report = reportOf (r .ended) (leb budget (r .ticks)); ticks = r .ticks; bench = movedOf m (r .at) (r .remainder) (r .work) }) after
+      → Done
+      (record {
+        report = reportOf (r .ended) (leb budget (r .ticks));
+        ticks = r .ticks;
+        cycles = r .cycles;
+        bench = movedOf m (r .at) (r .remainder) (r .work);
+      })
+      after
   unfolding runOf
   run-works sound busy free ran buffer = rw (sound, busy, free, buffer, ran) (refl, refl)
 

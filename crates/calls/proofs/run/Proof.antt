@@ -1,7 +1,7 @@
 -- `run` is right because on words of a sound record it is the bench's run, and it stores what that changes.
 use borrow.Author.Needs.{needs}
 use borrow.Author.Tests.{not-true, not-false}
-use mathlib.Core.Path.{_≡_, sym, ap, _∙_}
+use mathlib.Core.Path.{_≡_, refl, sym, ap, _∙_}
 use mathlib.Core.Bool.{true}
 use lib.ListN.{length}
 use denote.Ref.{now}
@@ -12,7 +12,7 @@ use Rattle.run.specs.Run.{written}
 use Rattle.bench.specs.declared.Bench.{Bench}
 use Rattle.bench.specs.Run.{runOf}
 use Rattle.record.specs.Words.{benchIn, soundWords}
-use Rattle.calls.specs.laws.Told.{run-refused, bench-sound, run-left, run-stores, run-told}
+use Rattle.calls.specs.laws.Told.{run-refused, bench-sound, run-enough, run-stores, run-told}
 use Rattle.calls.proofs.run.Statement.{statement}
 use Rattle.calls.proofs.run.Tie as tie
 
@@ -43,22 +43,17 @@ run-sound-requires c κs = bench-sound _ (sound (c .before .before .before)) (c 
 left-in-requires : tie.Need-left-in-requires
 left-in-requires c κs = search needs
 
-root-in-requires : tie.Need-root-in-requires
-root-in-requires c κs = search needs
-
-left-behind-requires : tie.Need-left-behind-requires
-left-behind-requires c κs =
-    let l = c .before .before in
+sub-left : tie.Need-sub-left
+sub-left c =
+    let l = c .before in
     let r = l .before .before .before .before .before in
-    let k = r .before .before in
-    run-left _ (sound (k .before .before)) (k .bench-in .ensures) _ _ (ran-on r) (l .left-in .ensures) (c .root-in .ensures)
+    run-enough _ (sound (r .before .before .before .before)) _ _ (ran-on r) (l .left-in .ensures)
 
 store-ticks-requires : tie.Need-store-ticks-requires
 store-ticks-requires c κs =
-    let l = c .before .before .before .before in
+    let l = c .before .before in
     let r = l .before .before .before .before .before in
-    let k = r .before .before in
-    run-stores _ (sound (k .before .before)) (k .bench-in .ensures) _ _ (ran-on r) (l .left-in .ensures) (c .before .left-behind .ensures)
+    run-stores _ (sound (r .before .before .before .before)) _ _ (ran-on r) (l .left-in .ensures) refl
 
 report-number-requires : tie.Need-report-number-requires
 report-number-requires c κs = search needs
@@ -69,7 +64,7 @@ same-length c = search needs
 returns-2 : tie.Need-returns-2
 returns-2 c =
     let n : SFits w64 (c .report-number .result) = search needs in
-    let r = c .before .before .before .before .before .before .before .before .before .before .before in
+    let r = c .before .before .before .before .before .before .before .before .before in
     let k = r .before .before in
     let s = k .before .before .before .before .before .before .args in
     let bytes = r .run-sound .ensures .1
@@ -81,5 +76,5 @@ returns-2 c =
 pub run-spec : {M : Type 1} → statement M
 run-spec =
     tie.close
-    (tie.spec is-sound-requires returns bench-in-requires run-sound-requires left-in-requires root-in-requires left-behind-requires
+    (tie.spec is-sound-requires returns bench-in-requires run-sound-requires left-in-requires sub-left
     store-ticks-requires report-number-requires same-length returns-2)

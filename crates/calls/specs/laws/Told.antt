@@ -1,13 +1,11 @@
 -- A call by whether the words are those of a sound record.
-use mathlib.Core.Path.{_≡_, refl, sym, ap, _∙_}
+use mathlib.Core.Path.{_≡_, refl, ap, _∙_}
 use mathlib.Core.Bool.{true, false}
 use mathlib.Core.List.{List}
-use Prim.Native.Nat.{ℕ, _+_, _-_, _≤_}
-use native.Mathlib.Omega.{arith}
+use Prim.Native.Nat.{ℕ, _-_, _≤_}
 use lib.IntN.{ℤ, pos, negsuc}
 use lib.ListN.{length}
 use Rattle.run.specs.Run.{written}
-use Rattle.work.specs.Work.{cyclesLeft}
 use Rattle.block.specs.declared.Block.{Block}
 use Rattle.bench.specs.declared.Bench.{Bench}
 use Rattle.bench.specs.declared.Answer.{Answer}
@@ -19,18 +17,17 @@ use Rattle.bench.specs.Run.{runOf as benchRun}
 use Rattle.machine.specs.declared.Machine.{Machine}
 use Rattle.machine.specs.Calls.{markOf, nextOf, loadOf, tickOf, holdOf, releaseOf, stopOf}
 use Rattle.machine.specs.Run.{runOf}
-use Rattle.machine.specs.Asked.{cyclesTold, Left}
-use Rattle.machine.specs.laws.Right.{Sound, sound, work-most}
-use Rattle.machine.specs.laws.Onward.{Onward, tick-onward, tick-left, run-onward, work-countable, work-left-most}
+use Rattle.machine.specs.Asked.{cyclesTold}
+use Rattle.machine.specs.laws.Right.{Sound, sound}
+use Rattle.machine.specs.laws.Onward.{tick-onward, tick-left, run-onward, run-left}
 use Rattle.machine.specs.laws.Next.{left-less}
-use Rattle.machine.specs.laws.Load.{left-bound}
 use Rattle.layout.specs.Words.{at, countOf}
 use Rattle.record.specs.Write.{idleOf}
 use Rattle.record.specs.Words.{encodeOf, over, benchIn, machineIn, soundWords}
 use Rattle.record.specs.Write.{Later}
 use Rattle.record.specs.laws.Write.{told-sound}
 use Rattle.record.specs.laws.Later.{tick-later, run-later}
-use Rattle.calls.specs.Calls.{answerNumber, tickNumber, reportNumber, Call, tells, callOf, refused, toldOf, tellsRun, ran}
+use Rattle.calls.specs.Calls.{answerNumber, tickNumber, reportNumber, Call, tells, callOf, refused, toldOf, tellsRun}
 use Rattle.calls.specs.Calls.{toldRunOf}
 
 pub told-refused : (ws : List ℤ) → soundWords ws ≡ false → (call : Call) → refused ws ≡ toldOf ws call
@@ -94,31 +91,18 @@ module _ (ws : List ℤ) (t : soundWords ws ≡ true) where
 
   -- ---- runs
 
-  -- what is left of the block in work once ticks led on from the bench
-  pub onward-left : {k k′ : Bench} → k ≡ benchIn ws → Onward (benchIn ws) k′ → {left root : ℕ} → left ≡ countOf (at ws 20)
-      → root ≡ countOf (at ws 19) → Left left k k′ root
-  unfolding machineIn
-  onward-left {k} {k′} k-is o left-is root-is =
-      rw (k-is, left-is, root-is)
-      (record {
-        before = work-countable (m .bench) (parts .bench);
-        after = work-countable k′ (o .sound);
-        root-before = parts .right .root-is;
-        root-after = λ more. parts .right .root-is ∙ sym (o .root more);
-        most = work-most (parts .right);
-        fits = omega (arith, left-bound m parts, work-left-most k′ (o .sound));
-      })
-
-  module _ {k : Bench} (k-is : k ≡ benchIn ws) (budget buffer : ℕ) {r : Ran} (is : r ≡ benchRun (benchIn ws) budget buffer .ran) {left : ℕ}
+  module _ (budget buffer : ℕ) {r : Ran} (is : r ≡ benchRun (benchIn ws) budget buffer .ran) {left : ℕ}
       (left-is : left ≡ countOf (at ws 20)) where
-    pub run-left : {root : ℕ} → root ≡ countOf (at ws 19) → Left left k (r .bench) root
+    pub run-enough : r .cycles ≤ left
     unfolding machineIn
-    run-left root-is = onward-left k-is (run-onward (m .bench) (parts .bench) budget buffer is) left-is root-is
+    run-enough =
+        let k = m .bench in
+        rw left-is
+        (left-less (parts .right) (run-onward k (parts .bench) budget buffer is) (run-left k (parts .bench) budget buffer is) .0)
 
-    pub run-stores : {then : ℕ} → then ≡ left - cyclesLeft (k .at) (k .work) + cyclesLeft (r .bench .at) (r .bench .work)
-        → Later ws (r .bench) then
+    pub run-stores : {then : ℕ} → then ≡ left - r .cycles → Later ws (r .bench) then
     unfolding machineIn
-    run-stores e = run-later ws t budget buffer is (rw (k-is, left-is) at e)
+    run-stores e = run-later ws t budget buffer is (e ∙ ap (λ (n : ℕ). n - r .cycles) left-is)
 
   pub run-told : (budget : ℕ) (out : List ℕ) {r : Ran} → r ≡ benchRun (benchIn ws) budget (length out) .ran → {after : List ℕ}
       → after ≡ written (benchRun (benchIn ws) budget (length out) .bytes) out

@@ -15,7 +15,7 @@ use Rattle.whole.specs.laws.Difference.{ring, var, _⊕_, _⊖_}
 use Rattle.plane.specs.declared.point.Point.{Point}
 use Rattle.plane.specs.Point.{equalPoint}
 use Rattle.plane.specs.Pulse.{pulseOf, shiftedOf, changeOf, pulsesBetween}
-use Rattle.plane.specs.Byte.{cycleMark, endMark}
+use Rattle.plane.specs.Byte.{cycleMark, cyclesMarked, endMark}
 use Rattle.plane.specs.laws.Byte.{told-codes}
 use Rattle.plane.specs.laws.Point.{same-point, equal-point, equal-itself}
 use Rattle.plane.specs.laws.Pulse.{change-pulse, change-small}
@@ -60,7 +60,6 @@ use Rattle.machine.specs.Machine.{machineOf}
 use Rattle.machine.specs.Calls.{nextOf, goingOn, tickOf}
 use Rattle.machine.specs.laws.Keeps.{tick-keeps}
 use Rattle.look.specs.laws.Sums.{next-stands}
-use Rattle.book.specs.Sums.{cyclesMarked}
 use Rattle.history.specs.Contracts.{Loads}
 use Rattle.demands.specs.Asked.{AllYes}
 use Rattle.demands.specs.Bench.{BenchSound}

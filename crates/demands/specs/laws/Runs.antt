@@ -12,12 +12,14 @@ use borrow.Author.Tests.{leb-true, leb-false, le-leb, lt-leb}
 use denote.Ref.{now}
 use Rattle.whole.specs.laws.Test.{refuted}
 use Rattle.plane.specs.declared.point.Point.{Point}
+use Rattle.plane.specs.Byte.{cyclesMarked}
 use Rattle.divider.specs.Divider.{endTick, lastTick}
 use Rattle.divider.specs.laws.Last.{Ends, unique}
 use Rattle.work.specs.declared.Work.{Work}
 use Rattle.work.specs.declared.Advance.{Advance}
 use Rattle.work.specs.Work.{isNothing, addedOf, cyclesLeft, chargesLeft, endOf, advanceOf}
 use Rattle.run.specs.Run.{Strip, inFront, stripOf, written, SoundIn}
+use Rattle.run.specs.laws.Keep.{ran-left}
 use Rattle.run.specs.laws.Strip.{strip-ends, end-tick, strip-early}
 use Rattle.run.specs.laws.Paid.{strip-pays}
 use Rattle.settings.specs.Settings.{capacityOf}
@@ -33,7 +35,6 @@ use Rattle.bench.specs.Run.{reportOf, ranOver, noTick as benchNoTick, runOf as 
 use Rattle.bench.specs.laws.Calls.{tick-works}
 use Rattle.finish.specs.Finish.{lastTickOf}
 use Rattle.finish.specs.laws.Record.{AtWork, at-work}
-use Rattle.finish.specs.laws.Strip.{strip-marks}
 use Rattle.machine.specs.declared.Machine.{Machine}
 use Rattle.machine.specs.declared.Ticked.{Ticked}
 use Rattle.machine.specs.Machine.{soundOf, machineOf}
@@ -45,7 +46,6 @@ use Rattle.machine.specs.laws.Rest.{next-own}
 use Rattle.look.specs.laws.Pass.{next, moved, same, kept, working-on}
 use Rattle.book.specs.Bench.{Report as BookReport}
 use Rattle.book.specs.Book.{Reply}
-use Rattle.book.specs.Sums.{cyclesMarked}
 use Rattle.tape.specs.laws.Pieces.{runs}
 use Rattle.history.specs.Reply.{runReply}
 use Rattle.history.specs.laws.Run.{first-bytes}
@@ -227,7 +227,7 @@ module _ (m : Machine) (budget : ℕ) (old : List ℕ) (e : soundOf m ≡ true) 
   paid : cyclesMarked (strip .bytes) ≡ cyclesIn bench (length (strip .bytes))
   paid =
       let n = min budget (length old) in
-      omega (arith, strip-marks n (at-work a) .up, strip-pays (at-work a) n)
+      omega (arith, ran-left (at-work a) n, strip-pays (at-work a) n)
 
   running : Running m budget old (written (strip .bytes) old) (ranOn m (ranOver bench budget strip) .ran)
   unfolding endTick lastTick

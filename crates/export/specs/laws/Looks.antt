@@ -26,14 +26,14 @@ use Rattle.machine.specs.declared.Machine.{Machine}
 use Rattle.machine.specs.Machine.{soundOf, machineOf}
 use Rattle.machine.specs.Calls.{nextOf, tickOf}
 use Rattle.machine.specs.laws.Right.{Sound, sound}
-use Rattle.machine.specs.Asked.{Left}
 use Rattle.machine.specs.laws.Onward.{Onward}
+use Rattle.machine.specs.laws.Next.{left-less}
 use Rattle.machine.specs.laws.Keeps.{tick-keeps}
 use Rattle.look.specs.declared.Sums.{Sums}
 use Rattle.look.specs.Look.{tickingOf, mostTicks, sumsOf, passOf, wayOf}
 use Rattle.machine.specs.laws.Rest.{next-own}
 use Rattle.look.specs.laws.Ticks.{tick-goes-on, ticking-sound, ticking-still}
-use Rattle.look.specs.laws.Pass.{skip-onward, passes, passed-most, passed-some, passed-on}
+use Rattle.look.specs.laws.Pass.{skip-onward, skip-less, passes, passed-most, passed-some, passed-on}
 use Rattle.look.specs.laws.Sums.{ticking-leads, leads-way}
 use Rattle.look.specs.laws.Ahead.{looks, too-far, sound-near}
 use Rattle.layout.specs.Words.{at, countOf, wordOf, refusalOf}
@@ -43,7 +43,7 @@ use Rattle.record.specs.laws.Write.{told-sound, words-are}
 use Rattle.record.specs.laws.Later.{strip-later}
 use Rattle.record.specs.laws.Again.{told-blanks, next-blanks, told-again, sound-again}
 use Rattle.calls.specs.Calls.{Call, Told, callOf, toldOf}
-use Rattle.calls.specs.laws.Told.{told-call, onward-left}
+use Rattle.calls.specs.laws.Told.{told-call}
 use Rattle.calls.specs.laws.Load.{own-words}
 use Rattle.export.specs.Looks.{tellsAhead, noSums, sumWords, ticksOf, toldAheadOf, Passing}
 
@@ -254,15 +254,19 @@ module _ {ws : List ℤ} {k : Bench} (g : Passing ws k) where
     onward : Onward (machineIn ws .bench) k′
     onward = skip-onward (machineIn ws) n capacity-own skip-own moves-own (subst AtWork own working)
 
-    pub pass-left : {left root : ℕ} → left ≡ countOf (at ws 20) → root ≡ countOf (at ws 19) → Left left k k′ root
-    unfolding machineIn
-    pass-left = onward-left ws (g .sound) (g .bench-is) onward
+    less : (let b = machineIn ws .bench in cyclesLeft (b .at) (b .work) ≡ cyclesLeft (k′ .at) (k′ .work) + r .cycles)
+    less = skip-less (machineIn ws) n capacity-own skip-own moves-own (subst AtWork own working)
 
-    pub pass-stores : {left then : ℕ} → left ≡ countOf (at ws 20)
-        → then ≡ left - cyclesLeft (k .at) (k .work) + cyclesLeft (k′ .at) (k′ .work) → Later ws k′ then
-    unfolding machineIn
-    pass-stores left-is e =
-        strip-later ws (g .sound) n (rw (skip-own, capacity-own) at moves-own) onward (rw (g .bench-is, left-is) at e)
+    module _ {left : ℕ} (left-is : left ≡ countOf (at ws 20)) where
+      pub pass-enough : r .cycles ≤ left
+      unfolding machineIn
+      pass-enough = rw left-is (left-less (sound (machineIn ws) (told-sound ws (g .sound)) .right) onward less .0)
+
+      pub pass-stores : {then : ℕ} → then ≡ left - r .cycles → Later ws k′ then
+      unfolding machineIn
+      pass-stores e =
+          strip-later ws (g .sound) n (rw (skip-own, capacity-own) at moves-own) onward (r .cycles) less
+          (e ∙ ap (λ (j : ℕ). j - r .cycles) left-is)
 
     pub pass-told : {after : List ℤ} → after ≡ over (encodeOf (nextOf k′ (machineIn ws .queue))) ws
         → (r .ticks ≡ passOf (machineIn ws) n .ticks) × (after ≡ over (encodeOf (passOf (machineIn ws) n .machine)) ws)

@@ -3,6 +3,7 @@ use mathlib.Core.Path.{_≡_, ap, subst}
 use mathlib.Core.Bool.{true}
 use Prim.Native.Nat.{ℕ, _+_, _-_, _*_, _≤_, min}
 use native.Mathlib.Omega.{arith}
+use Rattle.plane.specs.Byte.{cyclesMarked}
 use Rattle.work.specs.Work.{addedOf, cyclesLeft, chargesLeft}
 use Rattle.run.specs.Run.{Strip, stripOf}
 use Rattle.bench.specs.declared.Bench.{Bench}
@@ -12,11 +13,10 @@ use Rattle.bench.specs.Bench.{soundOf, movedOf}
 use Rattle.settings.specs.Settings.{capacityOf}
 use Rattle.bench.specs.Run.{ranOver, runOf}
 use Rattle.keeps.specs.laws.Calls.{run-keeps}
-use Rattle.book.specs.Sums.{cyclesMarked}
 use Rattle.finish.specs.declared.Finished.{Finished}
 use Rattle.finish.specs.Finish.{lastTickOf, finishOf}
+use Rattle.run.specs.laws.Keep.{ran-left}
 use Rattle.run.specs.laws.Strip.{Ended, strip-ends, end-tick}
-use Rattle.finish.specs.laws.Strip.{strip-marks}
 use Rattle.finish.specs.laws.Record.{AtWork, AtRest, at-work, finishes}
 
 module _ (m : Bench) (a : AtWork m) (budget buffer : ℕ) (long : finishOf m .ticks ≤ budget) (room : finishOf m .ticks ≤ buffer) where
@@ -32,18 +32,19 @@ module _ (m : Bench) (a : AtWork m) (budget buffer : ℕ) (long : finishOf m .ti
       let t : finishOf m .ticks ≡ lastTickOf m = ap (λ (f : Finished). f .ticks) (finishes m a) in
       strip-ends (min budget buffer) (lastTickOf m) (at-work a) (end-tick (at-work a)) (omega arith)
 
-  pub finish-is-run : runOf m budget buffer .ran ≡ record { report = Report.Ended; ticks = finishOf m .ticks; bench = finishOf m .bench }
+  all-marked : cyclesMarked (ticking .bytes) ≡ cyclesLeft (m .at) (m .work)
+  all-marked = omega (arith, ran-left (at-work a) (min budget buffer), ap (cyclesLeft (ticking .at)) (strip-ended .idle))
+
+  pub finish-is-run : runOf m budget buffer .ran
+      ≡ record { report = Report.Ended; ticks = finishOf m .ticks; cycles = finishOf m .cycles; bench = finishOf m .bench }
   finish-is-run =
       let e = strip-ended in
       let due = chargesLeft (m .at) (m .work) * capacityOf (m .settings) in
       let rest : ticking .remainder ≡ m .remainder + lastTickOf m * addedOf (m .work) - due = omega (arith, e .adds-up) in
-      rw (runs, finishes m a, e .ended, e .ticks, e .reached, rest, e .idle)
+      rw (runs, finishes m a, all-marked, e .ended, e .ticks, e .reached, rest, e .idle)
 
   pub finish-counts : cyclesMarked (runOf m budget buffer .bytes) ≡ finishOf m .cycles
-  finish-counts =
-      let e = strip-ended in
-      let marked = strip-marks (min budget buffer) (at-work a) .up in
-      rw (runs, finishes m a) (omega (arith, marked, ap (cyclesLeft (ticking .at)) (e .idle)))
+  finish-counts = rw (runs, finishes m a) all-marked
 
 -- so the record that it leaves is at rest, as a run's is
 pub finish-keeps-sound : (m : Bench) → AtWork m → AtRest (finishOf m .bench)

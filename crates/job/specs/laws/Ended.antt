@@ -3,6 +3,7 @@
 use mathlib.Core.Path.{_≡_, ap, subst, _∙_}
 use mathlib.Core.Bool.{true}
 use Prim.Native.Nat.{ℕ, _+_, _-_, _*_, _<_}
+use Rattle.plane.specs.Byte.{cyclesMarked}
 use Rattle.plane.specs.laws.Travel.{inside}
 use Rattle.circle.specs.Charge.{straight}
 use Rattle.block.specs.declared.Block.{Block}
@@ -11,7 +12,6 @@ use Rattle.block.specs.Charge.{blockCharges}
 use Rattle.block.specs.Questions.{loadNo}
 use Rattle.book.specs.Bench.{addedBy}
 use Rattle.book.specs.Ledger.{blockTicks}
-use Rattle.book.specs.Sums.{cyclesMarked}
 use Rattle.book.specs.laws.Begins.{Begun, accepted-begins}
 use Rattle.work.specs.Work.{isNothing}
 use Rattle.bench.specs.declared.Bench.{Bench}
@@ -49,10 +49,10 @@ module _ (m : Bench) (r : AtRest m) (b : Block) (ok : Accepted m b) where
 
   -- on the machine itself
   pub ended-run : runOf (loadOf m b .bench) enough enough .ran
-      ≡ record { report = Report.Ended; ticks = endedOf m b .ticks; bench = endedOf m b .bench }
+      ≡ record { report = Report.Ended; ticks = endedOf m b .ticks; cycles = endedOf m b .cycles; bench = endedOf m b .bench }
   ended-run =
       finish-is-run (loadOf m b .bench) (loaded-at-work m r b asked) enough enough (ticks-most _) (ticks-most _)
-      ∙ ap (λ (f : Finished). record { report = Report.Ended; ticks = f .ticks; bench = f .bench }) ended
+      ∙ ap (λ (f : Finished). record { report = Report.Ended; ticks = f .ticks; cycles = f .cycles; bench = f .bench }) ended
 
   pub ended-cycles : cyclesMarked (runOf (loadOf m b .bench) enough enough .bytes) ≡ endedOf m b .cycles
   ended-cycles =

@@ -1,14 +1,14 @@
 -- `pass` is right because a skip leaves the bench as its ticks would, and the next block comes in as after a run.
 use borrow.Author.Needs.{needs}
-use mathlib.Core.Path.{refl, sym, _∙_}
-use native.Mathlib.Omega.{arith}
+use mathlib.Core.Path.{_≡_, refl}
+use Prim.Native.Nat.{_+_}
+use Rattle.work.specs.Work.{cyclesLeft}
 use Rattle.bench.specs.laws.Sound.{sound as bench-parts}
 use Rattle.finish.specs.laws.Record.{AtWork, at-work, works}
-use Rattle.machine.specs.laws.Right.{sound, work-most}
-use Rattle.machine.specs.laws.Onward.{Onward, work-countable, work-left-most}
-use Rattle.machine.specs.laws.Next.{coming, left-onward}
-use Rattle.machine.specs.laws.Load.{left-bound}
-use Rattle.look.specs.laws.Pass.{skip-onward, passes}
+use Rattle.machine.specs.laws.Right.{sound}
+use Rattle.machine.specs.laws.Onward.{Onward}
+use Rattle.machine.specs.laws.Next.{coming, left-less}
+use Rattle.look.specs.laws.Pass.{skip-onward, skip-less, passes}
 use Rattle.look.proofs.pass.Statement.{statement}
 use Rattle.look.proofs.pass.Tie as tie
 
@@ -34,32 +34,31 @@ skip-work-requires c κs = rw (c .capacity .ensures) (at-work (working (c .befor
 moved-requires : tie.Need-moved-requires
 moved-requires c κs = search needs
 
-left-behind-requires : tie.Need-left-behind-requires
-left-behind-requires c κs =
-    let s = start c in
-    let m = s .args .m in
-    let i = sound m (s .pre .0) in
+-- and how many cycles less are left
+less : (c : tie.After-moved) → (let k = start c .args .m .bench in
     let k′ = c .moved .result in
-    let o = onward c in
-    record {
-      before = work-countable (m .bench) (i .bench);
-      after = work-countable k′ (o .sound);
-      root-before = i .right .root-is;
-      root-after = λ more. i .right .root-is ∙ sym (o .root more);
-      most = work-most (i .right);
-      fits = omega (arith, left-bound m i, work-left-most k′ (o .sound));
-    }
+    cyclesLeft (k .at) (k .work) ≡ cyclesLeft (k′ .at) (k′ .work) + c .before .before .skip-work .result .cycles)
+less c =
+    let skip = c .before .before in
+    let s = start c in
+    skip-less (s .args .m) (s .args .ticks) (skip .before .capacity .ensures) (skip .skip-work .ensures) (c .moved .ensures) (working s)
+
+sub-left : tie.Need-sub-left
+sub-left c =
+    let moved = c .before .before in
+    let s = start moved in
+    left-less (sound (s .args .m) (s .pre .0) .right) (onward moved) (less moved) .0
 
 next-requires : tie.Need-next-requires
 next-requires c κs =
-    let s = start (c .before) in
+    let moved = c .before .before in
+    let s = start moved in
     let i = sound (s .args .m) (s .pre .0) in
-    let o = onward (c .before) in
-    coming (i .right) o refl (c .left-behind .ensures ∙ sym (left-onward (i .right) o))
+    coming (i .right) (onward moved) refl (left-less (i .right) (onward moved) (less moved) .1)
 
 returns : tie.Need-returns
 returns c =
-    let moved = c .before .before in
+    let moved = c .before .before .before in
     let skip = moved .before .before in
     let s = start moved in
     passes (s .args .m) (s .args .ticks) (skip .before .capacity .ensures) (skip .skip-work .ensures) (moved .moved .ensures)
@@ -67,4 +66,4 @@ returns c =
 
 pub pass-spec : {M : Type 1} → statement M
 pass-spec =
-    tie.close (tie.spec capacity-requires skip-work-requires moved-requires left-behind-requires next-requires returns)
+    tie.close (tie.spec capacity-requires skip-work-requires moved-requires sub-left next-requires returns)

@@ -1,19 +1,21 @@
 -- At work: ticks are those of one block, after which the next one comes into work, and then the ticks that are left.
 use mathlib.Core.Path.{_≡_, refl, sym, ap, subst, _∙_}
 use mathlib.Core.Bool.{Bool, true, false}
-use Prim.Native.Nat.{ℕ, zero, suc, _-_, _≤_}
+use Prim.Native.Nat.{ℕ, zero, suc, _+_, _-_, _≤_}
 use native.Mathlib.Omega.{arith}
 use lib.ListN.{length}
 use Rattle.plane.specs.declared.point.Point.{Point}
+use Rattle.plane.specs.Byte.{cyclesMarked}
 use Rattle.plane.specs.laws.Travel.{inside}
 use Rattle.queue.specs.declared.Queue.{Queue}
 use Rattle.queue.specs.laws.Sound.{queue-sound}
 use Rattle.work.specs.declared.Advance.{Advance}
 use Rattle.work.specs.declared.Work.{Work}
-use Rattle.work.specs.Work.{isNothing, advanceOf}
+use Rattle.work.specs.Work.{isNothing, cyclesLeft, advanceOf}
+use Rattle.work.specs.laws.Keep.{SoundAt}
 use Rattle.run.specs.declared.Ran.{Ran}
 use Rattle.run.specs.Run.{Strip, inFront, stripOf, ranOf}
-use Rattle.run.specs.laws.Keep.{strip-end, strip-root}
+use Rattle.run.specs.laws.Keep.{strip-end, strip-left, strip-root}
 use Rattle.settings.specs.Settings.{capacityOf}
 use Rattle.bench.specs.declared.Bench.{Bench}
 use Rattle.bench.specs.declared.Ticked.{Ticked}
@@ -37,18 +39,27 @@ use Rattle.look.specs.laws.Ticks.{tick-goes-on}
 
 -- ---- the ticks of one block: the bench after them
 
-strip-onward : (k : Bench) → AtWork k → (n : ℕ) → Onward k (leftBy k (ticksOf k n))
-unfolding movedOf
-strip-onward k a n =
-    let p = bench-parts (a .sound) in
-    let q0 = capacityOf (k .settings) in
-    record {
-      settings = refl;
-      sound = subst (λ (k′ : Bench). benchSound k′ ≡ true) (bench-works n k a) (bench-sound n k (a .sound));
-      end = strip-end q0 (k .settings .travel) n (k .at) (k .remainder) (k .work)
-          (record { inside = inside (p .in-travel); below = p .below; sound = p .work });
-      root = strip-root q0 n (k .at) (k .remainder) (k .work);
-    }
+module _ (k : Bench) (a : AtWork k) (n : ℕ) where
+  abbrev q0 : ℕ
+  q0 = capacityOf (k .settings)
+
+  here : SoundAt q0 (k .settings .travel) (k .at) (k .remainder) (k .work)
+  here = let p = bench-parts (a .sound) in record { inside = inside (p .in-travel); below = p .below; sound = p .work }
+
+  strip-onward : Onward k (leftBy k (ticksOf k n))
+  unfolding movedOf
+  strip-onward =
+      record {
+        settings = refl;
+        sound = subst (λ (k′ : Bench). benchSound k′ ≡ true) (bench-works n k a) (bench-sound n k (a .sound));
+        end = strip-end q0 (k .settings .travel) n (k .at) (k .remainder) (k .work) here;
+        root = strip-root q0 n (k .at) (k .remainder) (k .work);
+      }
+
+  strip-less : cyclesLeft (k .at) (k .work)
+      ≡ cyclesLeft (leftBy k (ticksOf k n) .at) (leftBy k (ticksOf k n) .work) + cyclesMarked (ticksOf k n .bytes)
+  unfolding movedOf
+  strip-less = omega (arith, strip-left q0 (k .settings .travel) n (k .at) (k .remainder) (k .work) here (a .busy))
 
 -- ---- they are no more than asked for, and one at least
 
@@ -150,6 +161,9 @@ module _ (m : Machine) (n : ℕ) {q0 : ℕ} {r : Ran} {k′ : Bench} (capacity :
     (moves : k′ ≡ movedOf (m .bench) (r .at) (r .remainder) (r .work)) where
   pub skip-onward : AtWork (m .bench) → Onward (m .bench) k′
   skip-onward a = rw (moves, skip, capacity) (strip-onward (m .bench) a n)
+
+  pub skip-less : AtWork (m .bench) → cyclesLeft (m .bench .at) (m .bench .work) ≡ cyclesLeft (k′ .at) (k′ .work) + r .cycles
+  skip-less a = rw (moves, skip, capacity) (strip-less (m .bench) a n)
 
   pub passes : {m′ : Machine} → m′ ≡ nextOf k′ (m .queue) → _≡_ {A = Passed} (record { machine = m′; ticks = r .ticks }) (passOf m n)
   unfolding passOf

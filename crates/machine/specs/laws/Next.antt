@@ -20,27 +20,17 @@ use Rattle.settings.specs.declared.Settings.{Settings}
 use Rattle.settings.specs.Settings.{capacityOf}
 use Rattle.bench.specs.declared.Bench.{Bench}
 use Rattle.bench.specs.Bench.{movedOf}
-use Rattle.bench.specs.laws.Sound.{sound}
 use Rattle.machine.specs.declared.Machine.{Machine}
 use Rattle.machine.specs.Machine.{toDo, machineOf}
 use Rattle.machine.specs.Calls.{beginning, firstIn, nextOf}
 use Rattle.machine.specs.Asked.{Coming}
-use Rattle.machine.specs.laws.Right.{WaitingRight, work-most}
+use Rattle.machine.specs.laws.Right.{WaitingRight}
 use Rattle.machine.specs.laws.Onward.{Onward, wide, here-inside}
 
 -- ---- the figure after ticks, and what the code asks of a bench after them
 
 module _ {k k′ : Bench} {root left : ℕ} {q : Queue}
     (i : WaitingRight (capacityOf (k .settings)) (k .settings .travel) (k .at) (k .work) root left q) (o : Onward k k′) where
-  pub left-onward : toDo (k′ .at) (k′ .work) (waiting q) ≡ left - cyclesLeft (k .at) (k .work) + cyclesLeft (k′ .at) (k′ .work)
-  unfolding toDo
-  left-onward =
-      ap (λ (p : Point). cyclesLeft (k′ .at) (k′ .work) + chainCycles p (waiting q)) (o .end)
-      ∙ by (cyclesLeft (k .at) (k .work)) (chainCycles (endOf (k .at) (k .work)) (waiting q)) (cyclesLeft (k′ .at) (k′ .work)) (i .left-is)
-    where
-      by : (a b c : ℕ) → left ≡ a + b → c + b ≡ left - a + c
-      by a b c e = omega arith
-
   pub coming : {root′ left′ : ℕ} → root′ ≡ root → left′ ≡ toDo (k′ .at) (k′ .work) (waiting q) → Coming k′ root′ left′ q
   coming r l =
       record {
@@ -53,16 +43,13 @@ module _ {k k′ : Bench} {root left : ℕ} {q : Queue}
         left-is = l;
       }
 
-  -- after a tick that told so many cycles
+  -- after ticks that did so many cycles
   pub left-less : {told : ℕ} → cyclesLeft (k .at) (k .work) ≡ cyclesLeft (k′ .at) (k′ .work) + told
       → (told ≤ left) × (left - told ≡ toDo (k′ .at) (k′ .work) (waiting q))
-  left-less {told} e =
-      let most = left-holds in
-      let is : left - told ≡ left - cyclesLeft (k .at) (k .work) + cyclesLeft (k′ .at) (k′ .work) = omega (arith, most, e) in
-      (omega (arith, most, e), is ∙ sym left-onward)
-    where
-      left-holds : cyclesLeft (k .at) (k .work) ≤ left
-      left-holds = work-most i
+  unfolding toDo
+  left-less e =
+      let behind = ap (λ (p : Point). chainCycles p (waiting q)) (o .end) in
+      (omega (arith, i .left-is, e), omega (arith, i .left-is, e, behind))
 
 -- ---- the record after ticks
 

@@ -15,7 +15,7 @@ use Rattle.work.specs.laws.Rest.{countable}
 use Rattle.work.specs.laws.Left.{end-inside, left-most}
 use Rattle.work.specs.laws.Keep.{SoundAt}
 use Rattle.run.specs.Run.{Strip, stripOf}
-use Rattle.run.specs.laws.Keep.{advance-end, advance-left, advance-root, strip-end, strip-root}
+use Rattle.run.specs.laws.Keep.{advance-end, advance-left, advance-root, strip-end, strip-left, strip-root}
 use Rattle.settings.specs.Settings.{capacityOf}
 use Rattle.settings.specs.laws.Right.{settings-right}
 use Rattle.bench.specs.declared.Bench.{Bench}
@@ -122,20 +122,28 @@ module _ (k : Bench) (e : soundOf k ≡ true) where
       same : r .ran .bench .settings ≡ k .settings
       end : endOf (r .ran .bench .at) (r .ran .bench .work) ≡ endOf (k .at) (k .work)
       root : isNothing (r .ran .bench .work) ≡ false → rootIn (r .ran .bench .work) ≡ rootIn (k .work)
+      left : cyclesLeft (k .at) (k .work) ≡ cyclesLeft (r .ran .bench .at) (r .ran .bench .work) + r .ran .cycles
 
     ran : Ran (runOf k budget buffer)
     unfolding runOf movedOf
-    ran = rw e (by (isNothing (k .work)) (k .held))
+    ran = rw e (by (isNothing (k .work)) refl (k .held))
       where
-        by : (idle held : Bool) → Ran (cond idle (noTick k Report.Idle) (cond held (noTick k Report.Held) (ranOver k budget strip)))
-        by true held = record { same = refl; end = refl; root = λ more. refl }
-        by false true = record { same = refl; end = refl; root = λ more. refl }
-        by false false =
+        by : (idle : Bool) → isNothing (k .work) ≡ idle → (held : Bool)
+            → Ran (cond idle (noTick k Report.Idle) (cond held (noTick k Report.Held) (ranOver k budget strip)))
+        by true f held = record { same = refl; end = refl; root = λ more. refl; left = omega arith }
+        by false f true = record { same = refl; end = refl; root = λ more. refl; left = omega arith }
+        by false f false =
             record {
               same = refl;
               end = strip-end q0 t (min budget buffer) (k .at) (k .remainder) (k .work) here;
               root = strip-root q0 (min budget buffer) (k .at) (k .remainder) (k .work);
+              left = omega (arith, strip-left q0 t (min budget buffer) (k .at) (k .remainder) (k .work) here f);
             }
 
-    pub run-onward : {r : BenchRan} → r ≡ runOf k budget buffer .ran → Onward k (r .bench)
-    run-onward is = rw is (record { settings = ran .same; sound = run-keeps k e budget buffer; end = ran .end; root = ran .root })
+    module _ {r : BenchRan} (is : r ≡ runOf k budget buffer .ran) where
+      pub run-onward : Onward k (r .bench)
+      run-onward = rw is (record { settings = ran .same; sound = run-keeps k e budget buffer; end = ran .end; root = ran .root })
+
+      -- its bytes mark the cycles that it takes off what is left to do
+      pub run-left : cyclesLeft (k .at) (k .work) ≡ cyclesLeft (r .bench .at) (r .bench .work) + r .cycles
+      run-left = rw is (ran .left)

@@ -63,12 +63,6 @@ module _ (q0 : ℕ) (t : Travel) (at : Point) (w : Work) (root left : ℕ) (q : 
       by true f = eq-eqb (q .len) 0 (f refl)
       by false f = refl
 
--- the cycles of the block in work are among those still to do
-pub work-most : {q0 : ℕ} {t : Travel} {at : Point} {w : Work} {root left : ℕ} {q : Queue} → WaitingRight q0 t at w root left q
-    → cyclesLeft at w ≤ left
-unfolding toDo
-work-most i = omega (arith, i .left-is)
-
 -- ---- a machine's record
 
 pub record Sound (m : Machine) : Type 0 where

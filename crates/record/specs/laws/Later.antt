@@ -26,8 +26,8 @@ use Rattle.bench.specs.Run.{ranOver, noTick, runOf}
 use Rattle.machine.specs.declared.Machine.{Machine}
 use Rattle.machine.specs.Asked.{cyclesTold}
 use Rattle.machine.specs.laws.Right.{Sound, sound}
-use Rattle.machine.specs.laws.Onward.{Onward, tick-onward, tick-left, run-onward}
-use Rattle.machine.specs.laws.Next.{coming, left-less, left-onward}
+use Rattle.machine.specs.laws.Onward.{Onward, tick-onward, tick-left, run-onward, run-left}
+use Rattle.machine.specs.laws.Next.{coming, left-less}
 use Rattle.record.specs.Words.{machineIn, soundWords}
 use Rattle.record.specs.Write.{Follows, Later}
 use Rattle.record.specs.laws.Write.{told-sound}
@@ -150,11 +150,10 @@ module _ (ws : List ℤ) (t : soundWords ws ≡ true) where
   -- ticks of the block in work alone
   pub strip-later : (n : ℕ) {k′ : Bench} → (let k = m .bench in
       let s = stripOf (capacityOf (k .settings)) n (k .at) (k .remainder) (k .work) in k′ ≡ movedOf k (s .at) (s .remainder) (s .work))
-      → Onward (m .bench) k′ → {left : ℕ}
-      → left ≡ m .left - cyclesLeft (m .bench .at) (m .bench .work) + cyclesLeft (k′ .at) (k′ .work)
-      → Later ws k′ left
+      → Onward (m .bench) k′ → (told : ℕ) → cyclesLeft (m .bench .at) (m .bench .work) ≡ cyclesLeft (k′ .at) (k′ .work) + told
+      → {left : ℕ} → left ≡ m .left - told → Later ws k′ left
   unfolding machineIn
-  strip-later n {k′} is o {left} e =
+  strip-later n {k′} is o told less {left} e =
       let k = m .bench in
       let s = stripOf (capacityOf (k .settings)) n (k .at) (k .remainder) (k .work) in
       let a = subst (Ahead k) (sym is)
@@ -163,11 +162,10 @@ module _ (ws : List ℤ) (t : soundWords ws ≡ true) where
         sound = t;
         same = a .same;
         follows = a .follows;
-        coming = coming (right .right) o refl (e ∙ sym (left-onward (right .right) o));
+        coming = coming (right .right) o refl (e ∙ left-less (right .right) o less .1);
       }
 
-  pub run-later : (budget buffer : ℕ) {r : Ran} → r ≡ runOf (m .bench) budget buffer .ran → {left : ℕ}
-      → left ≡ m .left - cyclesLeft (m .bench .at) (m .bench .work) + cyclesLeft (r .bench .at) (r .bench .work)
+  pub run-later : (budget buffer : ℕ) {r : Ran} → r ≡ runOf (m .bench) budget buffer .ran → {left : ℕ} → left ≡ m .left - r .cycles
       → Later ws (r .bench) left
   unfolding machineIn
   run-later budget buffer {r} is {left} e =
@@ -177,5 +175,5 @@ module _ (ws : List ℤ) (t : soundWords ws ≡ true) where
         sound = t;
         same = a .same;
         follows = a .follows;
-        coming = coming (right .right) o refl (e ∙ sym (left-onward (right .right) o));
+        coming = coming (right .right) o refl (e ∙ left-less (right .right) o (run-left (m .bench) (right .bench) budget buffer is) .1);
       }

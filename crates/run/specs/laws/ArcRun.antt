@@ -2,7 +2,7 @@
 use mathlib.Core.Path.{_≡_, refl, sym, ap, subst, _∙_}
 use mathlib.Core.Bool.{Bool, true, false}
 use mathlib.Core.List.{List}
-use Prim.Native.Nat.{ℕ, _*_, _≤_, _<_}
+use Prim.Native.Nat.{ℕ, _+_, _-_, _*_, _^_, _≤_, _<_}
 use native.Mathlib.Omega.{arith}
 use lib.ListN.{set}
 use Rattle.plane.specs.declared.point.Point.{Point}
@@ -21,14 +21,14 @@ use Rattle.arc.specs.laws.Charge.{tracer-charge}
 use Rattle.arc.specs.laws.Stepper.{tracing, tracer-next, tracer-at}
 use Rattle.work.specs.declared.Work.{Work}
 use Rattle.work.specs.declared.Cycle.{Cycle}
-use Rattle.work.specs.Work.{isNothing, following, arcCycle, cycleOf}
+use Rattle.work.specs.Work.{isNothing, following, arcCycle, cycleOf, dueOf}
 use Rattle.work.specs.laws.Cycle.{cycleWith, arc-cycle, arc-codes}
 use Rattle.run.specs.declared.gap.Gap.{Gap}
 use Rattle.run.specs.Run.{Strip}
-use Rattle.run.specs.Gap.{nextGap, clearedOf}
+use Rattle.run.specs.Gap.{nextGap, remainderAt, clearedOf}
 use Rattle.run.specs.laws.Going.{Answer}
 use Rattle.run.specs.laws.Sound.{run-ready}
-use Rattle.run.specs.laws.Cycling.{Cycling, goes-on, ends-now, cycling-on, cycling-end}
+use Rattle.run.specs.laws.Cycling.{Cycling, count-few, goes-on, ends-now, cycling-on, cycling-end, cycling-out}
 
 -- a cycle has reached the end where nothing is in work after it
 arc-ended : (at : Point) (a : Arc) {b : Bool} → isNothing (arcCycle at a .work) ≡ b → equalPoint (arcStepped a at .at) (a .end) ≡ b
@@ -49,8 +49,8 @@ cycle-is a at end byte = arc-cycle at a refl (arc-ended at a end) byte
 abbrev pub StandsOn : Arc → Tracer → Type 0
 StandsOn a t = t ≡ arcTracer a (tracerAt (a .centre) t)
 
-module _ {q0 most : ℕ} {all : Strip} {out₀ out : List ℕ} {last n : ℕ} (a : Arc) (tracer : Tracer) {g : Gap}
-    (s : Cycling q0 (a .feed) most all out₀ out last n (tracerAt (a .centre) tracer) (Work.Arc a) g) (is : StandsOn a tracer) where
+module _ {q0 most : ℕ} {all : Strip} {out₀ out : List ℕ} {last n c : ℕ} (a : Arc) (tracer : Tracer) {g : Gap}
+    (s : Cycling q0 (a .feed) most all out₀ out last n 0 c (tracerAt (a .centre) tracer) (Work.Arc a) g) (is : StandsOn a tracer) where
   on : OnArc a (tracerAt (a .centre) tracer)
   on = run-ready (s .work) .0
 
@@ -60,6 +60,23 @@ module _ {q0 most : ℕ} {all : Strip} {out₀ out : List ℕ} {last n : ℕ} (a
   -- the charge of the cycle that is next
   pub charge-here : moveCharge (tracer .next) ≡ arcCharge a (tracerAt (a .centre) tracer)
   charge-here = ap (λ (x : Tracer). moveCharge (x .next)) is ∙ tracer-charge a (tracerAt (a .centre) tracer) (circles on)
+
+  -- the count of cycles
+  pub count-on : c + 1 < 2 ^ 64
+  count-on = omega (arith, count-few s)
+
+  pub arc-out : n ≤ last → last ≤ g .ticks → {old : List ℕ} → out₀ ≡ clearedOf n old
+      → (let p = tracerAt (a .centre) tracer in
+      Answer all old out
+      (record {
+        ticks = n;
+        cycles = c;
+        ended = false;
+        at = p;
+        remainder = remainderAt (dueOf q0 p (Work.Arc a)) (1000 * a .feed) g n;
+        work = Work.Arc a;
+      }))
+  arc-out m h clear = let since : c - 0 ≡ c = omega arith in rw since at (cycling-out s m h clear)
 
   module _ {t : Traced} (e : t ≡ tracedOf tracer) where
     next-is : t ≡ record { tracer = arcTracer a (arcStepped a (tracerAt (a .centre) tracer) .at); code = bothCodes (arcStepped a (tracerAt (a .centre) tracer) .pulses) }
@@ -92,17 +109,20 @@ module _ {q0 most : ℕ} {all : Strip} {out₀ out : List ℕ} {last n : ℕ} (a
 
     pub arc-on : g .ticks < last → {byte : ℕ} → byte ≡ withMarks (t .code) false
         → {next : Gap} → next ≡ nextGap (moveCharge (t .tracer .next) * q0) (1000 * a .feed) g
-        → Cycling q0 (a .feed) most all out₀ (set out (g .ticks) byte) last n (tracerAt (a .centre) (t .tracer)) (Work.Arc a) next × StandsOn a (t .tracer)
+        → Cycling q0 (a .feed) most all out₀ (set out (g .ticks) byte) last n 0 (c + 1) (tracerAt (a .centre) (t .tracer)) (Work.Arc a) next
+        × StandsOn a (t .tracer)
     arc-on h {byte} b {next} gap =
         let cycle = cycle-is a (tracerAt (a .centre) tracer) {byte = byte} (goes-on s h) (byte-is false b) in
-        let due = gap ∙ ap (λ (c : ℕ). nextGap (c * q0) (1000 * a .feed) g) next-charge in (
-          subst (λ (p : Point). Cycling q0 (a .feed) most all out₀ (set out (g .ticks) byte) last n p (Work.Arc a) next) (sym next-at)
-              (cycling-on s h cycle due),
+        let due = gap ∙ ap (λ (d : ℕ). nextGap (d * q0) (1000 * a .feed) g) next-charge in (
+          subst (λ (p : Point). Cycling q0 (a .feed) most all out₀ (set out (g .ticks) byte) last n 0 (c + 1) p (Work.Arc a) next)
+              (sym next-at) (cycling-on s h cycle due),
           tracer-is ∙ ap (arcTracer a) (sym next-at),
         )
 
     pub arc-end : last < n → last ≤ g .ticks → {byte : ℕ} → byte ≡ withMarks (t .code) true → {old : List ℕ} → out₀ ≡ clearedOf n old
-        → Answer all old (set out last byte) (record { ticks = n; ended = true; at = a .end; remainder = g .remainder; work = Work.Nothing })
+        → Answer all old (set out last byte)
+        (record { ticks = n; cycles = c + 1; ended = true; at = a .end; remainder = g .remainder; work = Work.Nothing })
     arc-end m h {byte} b clear =
         let cycle = cycle-is a (tracerAt (a .centre) tracer) {byte = byte} (ends-now s m h) (byte-is true b) in
-        cycling-end s m h (ap (λ (x : Cycle). x .byte) cycle) clear
+        let since : c + 1 - 0 ≡ c + 1 = omega arith in
+        rw since at (cycling-end s m h (ap (λ (x : Cycle). x .byte) cycle) clear)

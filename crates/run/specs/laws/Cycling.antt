@@ -20,12 +20,14 @@ use Rattle.run.specs.laws.Going.{Going, Answer, going-start, going-on, g
 use Rattle.run.specs.laws.Sound.{waiting, still-sound}
 use Rattle.run.specs.laws.Gap.{DueGap, gap-due, gap-sound}
 use Rattle.run.specs.laws.Left.{Left, left-start, left-some, left-turn, left-out, left-end}
+use Rattle.run.specs.laws.Keep.{cyclesOver, ran-left}
 use Rattle.run.specs.laws.Cycles.{in-work, cycle-counts, cycle-pays, each-pays, none-pays, added-some}
 use Rattle.run.specs.laws.Cycles.{feed-due, due-most, end-range, same-feed, same-end}
 use Rattle.run.specs.laws.Idle.{cycle-tick, cleared-length, cleared-twice, going-idle, answer-old}
 
--- `done` ticks are done, up to a cycle, which left the remainder `rest`; g is the gap to the next; in out₀ the n bytes are cleared
-pub record Cycling (q0 f most : ℕ) (all : Strip) (out₀ out : List ℕ) (last n : ℕ) (at : Point) (w : Work) (g : Gap) : Type 0 where
+-- `done` ticks are done, up to a cycle, which left the remainder `rest`; the count of cycles went from `from` to c; g is the gap to the
+-- next; in out₀ the n bytes are cleared
+pub record Cycling (q0 f most : ℕ) (all : Strip) (out₀ out : List ℕ) (last n from c : ℕ) (at : Point) (w : Work) (g : Gap) : Type 0 where
   pub done : ℕ
   pub rest : ℕ
   pub going : Going q0 most all out₀ out done at rest w
@@ -35,13 +37,16 @@ pub record Cycling (q0 f most : ℕ) (all : Strip) (out₀ out : List ℕ) (last
   pub work : SoundIn q0 at rest w
   pub feed : feedOf w ≡ f
   pub gap : g ≡ later done (gapOf (dueOf q0 at w) (addedOf w) rest)
+  pub since : from ≤ c
+  pub counted : cyclesOver all ≡ c - from + cyclesLeft at w
+  pub countable : cyclesOver all ≤ 8000000
 
 pub cycling-start : {q0 : ℕ} {at : Point} {r : ℕ} {w : Work} {last n : ℕ} {g : Gap} (most : ℕ) (old : List ℕ) {out : List ℕ} → SoundIn q0 at r w → most ≤ length old
     → last ≡ min most (lastTick (chargesLeft at w * q0) (addedOf w) r (cyclesLeft at w) - 1)
     → n ≡ min most (lastTick (chargesLeft at w * q0) (addedOf w) r (cyclesLeft at w))
     → out ≡ clearedOf n old → g ≡ gapOf (dueOf q0 at w) (addedOf w) r
-    → Cycling q0 (feedOf w) most (stripOf q0 most at r w) out out last n at w g
-cycling-start {q0} {at} {r} {w} {last} {n} {g} most old {out} i room before e clear gap =
+    → (from : ℕ) → Cycling q0 (feedOf w) most (stripOf q0 most at r w) out out last n from from at w g
+cycling-start {q0} {at} {r} {w} {last} {n} {g} most old {out} i room before e clear gap from =
     let l : Left (addedOf w) most last n 0 (chargesLeft at w * q0) (cyclesLeft at w) r =
     rw (before, e) (left-start (addedOf w) most (chargesLeft at w * q0) r (cyclesLeft at w) (added-some i) (in-work i .some)) in
     record {
@@ -54,6 +59,9 @@ cycling-start {q0} {at} {r} {w} {last} {n} {g} most old {out} i room before e cl
       work = i;
       feed = refl;
       gap = gap ∙ ap (λ (t : ℕ). record { ticks = t; remainder = gapOf (dueOf q0 at w) (addedOf w) r .remainder }) (omega arith);
+      since = omega arith;
+      counted = omega (arith, ran-left i most);
+      countable = omega (arith, ran-left i most, in-work i .few);
     }
 
 -- the buffer keeps its length
@@ -65,7 +73,8 @@ some-left at Work.Nothing h = absurd (omega arith)
 some-left at (Work.Line l) h = refl
 some-left at (Work.Arc a) h = refl
 
-module _ {q0 f most : ℕ} {all : Strip} {out₀ out : List ℕ} {last n : ℕ} {at : Point} {w : Work} {g : Gap} (s : Cycling q0 f most all out₀ out last n at w g) where
+module _ {q0 f most : ℕ} {all : Strip} {out₀ out : List ℕ} {last n from c : ℕ} {at : Point} {w : Work} {g : Gap}
+    (s : Cycling q0 f most all out₀ out last n from c at w g) where
   -- the gap, counted from the last cycle
   abbrev ahead : Gap
   ahead = gapOf (dueOf q0 at w) (addedOf w) (s .rest)
@@ -94,8 +103,8 @@ module _ {q0 f most : ℕ} {all : Strip} {out₀ out : List ℕ} {last n : ℕ} 
       (suc (cyclesLeft (cycleOf at w .at) (cycleOf at w .work))) (s .rest)
   parted = rw (cycle-pays (s .work), cycle-counts (s .work)) at (s .left)
 
-  module _ {c : Cycle} (e : c ≡ cycleOf at w) where
-    tick : record { at = c .at; remainder = ahead .remainder; byte = c .byte; work = c .work }
+  module _ {k : Cycle} (e : k ≡ cycleOf at w) where
+    tick : record { at = k .at; remainder = ahead .remainder; byte = k .byte; work = k .work }
         ≡ advanceOf q0 at (s .rest + ahead .ticks * addedOf w) w
     tick = cycle-tick q0 at (s .rest + ahead .ticks * addedOf w) w (due .leaves) e
 
@@ -108,16 +117,24 @@ module _ {q0 f most : ℕ} {all : Strip} {out₀ out : List ℕ} {last n : ℕ} 
       some-left (cycleOf at w .at) (cycleOf at w .work)
       (left-some (added-some (s .work)) due (each-pays (s .work)) (none-pays (s .work)) parted (omega (arith, ticks-are)))
 
-  pub cycling-on : g .ticks < last → {c : Cycle} → c ≡ cycleOf at w
-      → {next : Gap} → next ≡ nextGap (dueOf q0 (c .at) (c .work)) (1000 * f) g
-      → Cycling q0 f most all out₀ (set out (g .ticks) (c .byte)) last n (c .at) (c .work) next
+  -- the count of cycles stays small
+  pub count-few : c - from < 8000000
+  count-few = omega (arith, s .counted, s .countable, in-work (s .work) .some)
+
+  -- a cycle more
+  counts-on : {k : Cycle} → k ≡ cycleOf at w → (from ≤ c + 1) × (cyclesOver all ≡ c + 1 - from + cyclesLeft (k .at) (k .work))
+  counts-on e = rw e (omega (arith, s .since), omega (arith, s .since, s .counted, cycle-counts (s .work)))
+
+  pub cycling-on : g .ticks < last → {k : Cycle} → k ≡ cycleOf at w
+      → {next : Gap} → next ≡ nextGap (dueOf q0 (k .at) (k .work)) (1000 * f) g
+      → Cycling q0 f most all out₀ (set out (g .ticks) (k .byte)) last n from (c + 1) (k .at) (k .work) next
   unfolding nextGap
-  cycling-on h {c} e {next} gap =
-      let more : isNothing (c .work) ≡ false = rw e (goes-on h) in
+  cycling-on h {k} e {next} gap =
+      let more : isNothing (k .work) ≡ false = rw e (goes-on h) in
       let early : s .done + ahead .ticks < last = omega (arith, ticks-are) in
-      let feed = ap (λ (k : Cycle). feedOf (k .work)) e ∙ same-feed at w (goes-on h) in
-      let l : Left (addedOf (c .work)) most last n (s .done + ahead .ticks + 1) (chargesLeft (c .at) (c .work) * q0)
-      (cyclesLeft (c .at) (c .work)) (ahead .remainder) =
+      let feed = ap (λ (x : Cycle). feedOf (x .work)) e ∙ same-feed at w (goes-on h) in
+      let l : Left (addedOf (k .work)) most last n (s .done + ahead .ticks + 1) (chargesLeft (k .at) (k .work) * q0)
+      (cyclesLeft (k .at) (k .work)) (ahead .remainder) =
       rw feed (rw e (left-turn (added-some (s .work)) due (each-pays (s .work)) (none-pays (s .work)) parted early)) in
       record {
         done = s .done + ahead .ticks + 1;
@@ -130,8 +147,11 @@ module _ {q0 f most : ℕ} {all : Strip} {out₀ out : List ℕ} {last n : ℕ} 
         feed = feed ∙ s .feed;
         gap =
             gap
-            ∙ ap (λ (a : ℕ). later (g .ticks + 1) (gapOf (dueOf q0 (c .at) (c .work)) (1000 * a) (g .remainder))) (sym (feed ∙ s .feed))
-            ∙ ap (λ (x : Gap). later (x .ticks + 1) (gapOf (dueOf q0 (c .at) (c .work)) (addedOf (c .work)) (x .remainder))) (s .gap);
+            ∙ ap (λ (a : ℕ). later (g .ticks + 1) (gapOf (dueOf q0 (k .at) (k .work)) (1000 * a) (g .remainder))) (sym (feed ∙ s .feed))
+            ∙ ap (λ (x : Gap). later (x .ticks + 1) (gapOf (dueOf q0 (k .at) (k .work)) (addedOf (k .work)) (x .remainder))) (s .gap);
+        since = counts-on e .0;
+        counted = counts-on e .1;
+        countable = s .countable;
       }
 
   -- the tick that ends it, where there is one
@@ -147,12 +167,15 @@ module _ {q0 f most : ℕ} {all : Strip} {out₀ out : List ℕ} {last n : ℕ} 
         by false e = absurd (omega (arith, in-work (still-sound waits (tick refl) e) .some, last-tick .2))
 
     pub cycling-end : {byte : ℕ} → byte ≡ cycleOf at w .byte → {old : List ℕ} → out₀ ≡ clearedOf n old
-        → Answer all old (set out last byte) (record { ticks = n; ended = true; at = endOf at w; remainder = g .remainder; work = Work.Nothing })
+        → Answer all old (set out last byte)
+        (record { ticks = n; cycles = c + 1 - from; ended = true; at = endOf at w; remainder = g .remainder; work = Work.Nothing })
     cycling-end {byte} e clear =
         let nothing = nothing-is (cycleOf at w .work) ends-now in
         let there = ap (endOf (cycleOf at w .at)) (sym nothing) ∙ same-end (s .work) in
-        let c : record { at = endOf at w; byte = byte; work = Work.Nothing } ≡ cycleOf at w = λ i. record { at = sym there i; byte = e i; work = sym nothing i } in
-        let end = going-end (before c (omega (arith, last-tick .1))) (omega (arith, last-tick .1, s .left .short)) (tick c) refl in
+        let k : record { at = endOf at w; byte = byte; work = Work.Nothing } ≡ cycleOf at w =
+        λ i. record { at = sym there i; byte = e i; work = sym nothing i } in
+        let short = last-tick .1 in
+        let end = going-end (before k (omega (arith, short))) (omega (arith, short, s .left .short)) (tick k) refl (counts-on k .1) in
         rw (s .gap) (rw (last-tick .1, last-tick .0) at (answer-old clear end (last-tick .1)))
 
   -- with no cycle before n the ticks are used up there
@@ -186,11 +209,18 @@ module _ {q0 f most : ℕ} {all : Strip} {out₀ out : List ℕ} {last n : ℕ} 
 
     pub cycling-out : {old : List ℕ} → out₀ ≡ clearedOf n old
         → Answer all old out
-        (record { ticks = n; ended = false; at = at; remainder = remainderAt (dueOf q0 at w) (addedOf w) g n; work = w })
+        (record {
+          ticks = n;
+          cycles = c - from;
+          ended = false;
+          at = at;
+          remainder = remainderAt (dueOf q0 at w) (addedOf w) g n;
+          work = w;
+        })
     unfolding remainderAt
     cycling-out clear =
         let all-done : s .done + (n - s .done) ≡ n = omega (arith, s .left .here, s .left .low) in
         let rest : g .remainder + dueOf q0 at w - (g .ticks + 1 - n) * addedOf w ≡ s .rest + (n - s .done) * addedOf w =
         omega (arith, ticks, remainder-is) in
         let idle = going-idle (s .cleared) (s .going) (s .work .busy) (s .left .short) (n - s .done) (omega arith) (out-of .1) in
-        rw rest (answer-old clear (rw all-done at (going-out idle (omega (arith, out-of .0)))) refl)
+        rw rest (answer-old clear (rw all-done at (going-out idle (omega (arith, out-of .0)) (s .counted))) refl)

@@ -12,7 +12,8 @@ use Rattle.circle.specs.Charge.{moveCharge}
 use Rattle.divider.specs.laws.Last.{Due}
 use Rattle.work.specs.laws.Sound.{Feed}
 use Rattle.run.specs.declared.gap.Gap.{Gap}
-use Rattle.run.specs.Gap.{gapOf, later, nextGap, ifLess, byMove}
+use Rattle.run.specs.declared.gap.Divided.{Divided}
+use Rattle.run.specs.Gap.{gapOf, dividedOf, later, nextGap, ifLess, byMove}
 
 -- the gap is the divider's
 abbrev pub DueGap : (due a r : ℕ) → Gap → Type 0
@@ -58,16 +59,23 @@ gap-sound {due} {a} {r} {g} M l m h d = by (g .ticks) (d .before) (d .leaves)
 
 -- ---- without a division: so many whole sums of a tick go into the due
 
-pub record Whole (due a whole : ℕ) : Type 0 where
-  pub some : 1 ≤ whole
-  pub within : whole * a ≤ due
-  pub most : due < whole * a + a
+-- a divided due has a whole tick at least
+pub record Parts (due a : ℕ) (d : Divided) : Type 0 where
+  pub some : 1 ≤ d .whole
+  pub all : due ≡ d .whole * a + d .over
+  pub below : d .over < a
 
-pub whole-feeds : {due a whole : ℕ} → Feed due a → whole ≡ due / a → Whole due a whole
-whole-feeds {due} {a} {whole} k e =
-    let least : whole * a ≤ due = rw e (div-mul-le-self due a) in
-    let most : due < whole * a + a = rw e (lt-div-mul-add {a = due} (k .some)) in
-    record { some = lt-of-mul-lt-mul-right a {m = 0} {n = whole} (omega (arith, k .most)); within = least; most = most }
+pub parts : {due a : ℕ} {d : Divided} → Feed due a → d ≡ dividedOf due a → Parts due a d
+unfolding dividedOf
+parts {due} {a} k e =
+    let least = div-mul-le-self due a in
+    let most = lt-div-mul-add {a = due} (k .some) in
+    rw e
+    (record {
+      some = lt-of-mul-lt-mul-right a {m = 0} {n = due / a} (omega (arith, k .most));
+      all = omega arith;
+      below = omega arith;
+    })
 
 -- where the remainder is a tick's sum or more, by a division
 pub next-over : (due a : ℕ) (g : Gap) {x : Gap} → x ≡ gapOf due a (g .remainder)
@@ -75,53 +83,53 @@ pub next-over : (due a : ℕ) (g : Gap) {x : Gap} → x ≡ gapOf due a (g .rema
 unfolding nextGap
 next-over due a g e = ap (later (g .ticks + 1)) e
 
-module _ {due a whole : ℕ} (k : Feed due a) (w : Whole due a whole) where
-  pub whole-most : whole ≤ due
-  whole-most = omega (arith, w .within, mul-le-mul-left whole (k .some))
+module _ {due a : ℕ} {d : Divided} (k : Feed due a) (w : Parts due a d) where
+  pub whole-most : d .whole ≤ due
+  whole-most = omega (arith, w .all, mul-le-mul-left (d .whole) (k .some))
 
   module _ (g : Gap) (below : g .remainder < a) where
     gap-is : {next : Gap} → DueGap due a (g .remainder) next → later (g .ticks + 1) next ≡ nextGap due a g
     unfolding nextGap
-    gap-is d = ap (later (g .ticks + 1)) (due-unique d (gap-due due a (g .remainder) (k .some)))
+    gap-is x = ap (later (g .ticks + 1)) (due-unique x (gap-due due a (g .remainder) (k .some)))
 
-    pub next-less : due - whole * a ≤ g .remainder
-        → record { ticks = g .ticks + whole; remainder = g .remainder - (due - whole * a) } ≡ nextGap due a g
+    pub next-less : d .over ≤ g .remainder
+        → record { ticks = g .ticks + d .whole; remainder = g .remainder - d .over } ≡ nextGap due a g
     next-less h =
-        let one : whole ≡ whole - 1 + 1 = omega (arith, w .some) in
+        let one : d .whole ≡ d .whole - 1 + 1 = omega (arith, w .some) in
         let feeds = ap (λ (x : ℕ). x * a) one in
-        ap (λ (t : ℕ). record { ticks = t; remainder = g .remainder - (due - whole * a) }) (omega arith)
-        ∙ gap-is {next = record { ticks = whole - 1; remainder = g .remainder - (due - whole * a) }}
-        (record { before = λ m. omega (arith, w .within); leaves = omega (arith, w .within) })
+        ap (λ (t : ℕ). record { ticks = t; remainder = g .remainder - d .over }) (omega arith)
+        ∙ gap-is {next = record { ticks = d .whole - 1; remainder = g .remainder - d .over }}
+        (record { before = λ m. omega (arith, w .all); leaves = omega (arith, w .all) })
 
-    pub next-whole : g .remainder < due - whole * a
-        → record { ticks = g .ticks + 1 + whole; remainder = g .remainder + a - (due - whole * a) } ≡ nextGap due a g
-    next-whole h = gap-is (record { before = λ m. omega (arith, w .within); leaves = omega (arith, w .most, w .within) })
+    pub next-whole : g .remainder < d .over
+        → record { ticks = g .ticks + 1 + d .whole; remainder = g .remainder + a - d .over } ≡ nextGap due a g
+    next-whole h = gap-is (record { before = λ m. omega (arith, w .all); leaves = omega (arith, w .below, w .all) })
 
     -- both at once
     pub next-either : record {
-      ticks = g .ticks + whole + ifLess (g .remainder) (due - whole * a) 1;
-      remainder = g .remainder + ifLess (g .remainder) (due - whole * a) a - (due - whole * a);
+      ticks = g .ticks + d .whole + ifLess (g .remainder) (d .over) 1;
+      remainder = g .remainder + ifLess (g .remainder) (d .over) a - d .over;
     } ≡ nextGap due a g
-    next-either = by (ltb (g .remainder) (due - whole * a)) refl
+    next-either = by (ltb (g .remainder) (d .over)) refl
       where
-        by : (t : Bool) → ltb (g .remainder) (due - whole * a) ≡ t
-            → record { ticks = g .ticks + whole + cond t 1 0; remainder = g .remainder + cond t a 0 - (due - whole * a) } ≡ nextGap due a g
+        by : (t : Bool) → ltb (g .remainder) (d .over) ≡ t
+            → record { ticks = g .ticks + d .whole + cond t 1 0; remainder = g .remainder + cond t a 0 - d .over } ≡ nextGap due a g
         by true e =
-            let ticks : g .ticks + whole + 1 ≡ g .ticks + 1 + whole = omega arith in
-            ap (λ (n : ℕ). record { ticks = n; remainder = g .remainder + a - (due - whole * a) }) ticks
-            ∙ next-whole (ltb-true (g .remainder) (due - whole * a) e)
+            let ticks : g .ticks + d .whole + 1 ≡ g .ticks + 1 + d .whole = omega arith in
+            ap (λ (n : ℕ). record { ticks = n; remainder = g .remainder + a - d .over }) ticks
+            ∙ next-whole (ltb-true (g .remainder) (d .over) e)
         by false e =
-            let ticks : g .ticks + whole + 0 ≡ g .ticks + whole = omega arith in
-            let rest : g .remainder + 0 - (due - whole * a) ≡ g .remainder - (due - whole * a) = omega arith in
-            ap₂ (λ (n r : ℕ). record { ticks = n; remainder = r }) ticks rest ∙ next-less (ltb-false (g .remainder) (due - whole * a) e)
+            let ticks : g .ticks + d .whole + 0 ≡ g .ticks + d .whole = omega arith in
+            let rest : g .remainder + 0 - d .over ≡ g .remainder - d .over = omega arith in
+            ap₂ (λ (n r : ℕ). record { ticks = n; remainder = r }) ticks rest ∙ next-less (ltb-false (g .remainder) (d .over) e)
 
     -- and no more is taken off than there is
-    pub over-fits : due - whole * a ≤ g .remainder + ifLess (g .remainder) (due - whole * a) a
-    over-fits = by (ltb (g .remainder) (due - whole * a)) refl
+    pub over-fits : d .over ≤ g .remainder + ifLess (g .remainder) (d .over) a
+    over-fits = by (ltb (g .remainder) (d .over)) refl
       where
-        by : (t : Bool) → ltb (g .remainder) (due - whole * a) ≡ t → due - whole * a ≤ g .remainder + cond t a 0
-        by true e = omega (arith, w .most)
-        by false e = omega (arith, ltb-false (g .remainder) (due - whole * a) e)
+        by : (t : Bool) → ltb (g .remainder) (d .over) ≡ t → d .over ≤ g .remainder + cond t a 0
+        by true e = omega (arith, w .below)
+        by false e = omega (arith, ltb-false (g .remainder) (d .over) e)
 
 pub if-less-most : (a b n : ℕ) → ifLess a b n ≤ n
 if-less-most a b n = by (ltb a b)
@@ -130,12 +138,14 @@ if-less-most a b n = by (ltb a b)
     by true = omega arith
     by false = omega arith
 
--- the whole sums of a move's due
-pub by-move-is : (q0 a straight diagonal : ℕ) (m : Move) → straight ≡ 1000 * q0 / a → diagonal ≡ 1414 * q0 / a
-    → byMove m straight diagonal ≡ moveCharge m * q0 / a
-by-move-is q0 a straight diagonal Rise e f = e
-by-move-is q0 a straight diagonal Slant e f = f
-by-move-is q0 a straight diagonal Fall e f = e
+-- the divided due of a move
+pub by-move-is : (q0 a : ℕ) {straight diagonal : Divided} (m : Move) → straight ≡ dividedOf (1000 * q0) a
+    → diagonal ≡ dividedOf (1414 * q0) a
+    → record { whole = byMove m (straight .whole) (diagonal .whole); over = byMove m (straight .over) (diagonal .over) }
+    ≡ dividedOf (moveCharge m * q0) a
+by-move-is q0 a Rise e f = e
+by-move-is q0 a Slant e f = f
+by-move-is q0 a Fall e f = e
 
 pub move-due : (q0 : ℕ) (m : Move) → (1000 * q0 ≤ moveCharge m * q0) × (moveCharge m * q0 ≤ 1414 * q0)
 move-due q0 Rise = omega arith

@@ -8,11 +8,13 @@ use native.Mathlib.Omega.{arith}
 use lib.ListN.{length, drop, take, set, length-set, take-append-drop}
 use lib.Seq.{take-suc-set, drop-set-lt, length-take-le, drop-drop}
 use Rattle.plane.specs.declared.point.Point.{Point}
+use Rattle.plane.specs.Byte.{cyclesMarked}
 use Rattle.work.specs.declared.Work.{Work}
 use Rattle.work.specs.declared.Advance.{Advance}
-use Rattle.work.specs.Work.{isNothing, advanceOf}
+use Rattle.work.specs.Work.{isNothing, cyclesLeft, advanceOf}
 use Rattle.run.specs.declared.Ran.{Ran}
 use Rattle.run.specs.Run.{Strip, inFront, stripOf, ranOf, written}
+use Rattle.run.specs.laws.Keep.{cyclesOver}
 
 -- some bytes in front of a strip
 unfoldable pub after : List ℕ → Strip → Strip
@@ -56,10 +58,17 @@ split out out₀ n h e =
 
 answered : {all : Strip} (out₀ out : List ℕ) (n : ℕ) (at : Point) (r : ℕ) (w : Work) (ended : Bool)
     → all ≡ record { bytes = take n out; at = at; remainder = r; work = w; ended = ended }
-    → n ≤ length out → drop n out ≡ drop n out₀ → Answer all out₀ out (record { ticks = n; ended = ended; at = at; remainder = r; work = w })
-answered out₀ out n at r w ended e h rest =
+    → {c : ℕ} → cyclesOver all ≡ c + cyclesLeft at w → n ≤ length out → drop n out ≡ drop n out₀
+    → Answer all out₀ out (record { ticks = n; cycles = c; ended = ended; at = at; remainder = r; work = w })
+answered out₀ out n at r w ended e {c} counted h rest =
+    let cycles : cyclesMarked (take n out) ≡ c = omega (arith, ap cyclesOver e, counted) in
     record {
-      report = sym (ap ranOf e ∙ ap (λ (j : ℕ). record { ticks = j; ended = ended; at = at; remainder = r; work = w }) (length-take-le n out h));
+      report =
+          sym
+          (ap ranOf e
+          ∙ ap (λ (j : ℕ). record { ticks = j; cycles = cyclesMarked (take n out); ended = ended; at = at; remainder = r; work = w })
+          (length-take-le n out h)
+          ∙ ap (λ (j : ℕ). record { ticks = n; cycles = j; ended = ended; at = at; remainder = r; work = w }) cycles);
       buffer = split out out₀ n h rest ∙ sym (ap (λ (s : Strip). written (s .bytes) out₀) e);
     }
 
@@ -95,23 +104,28 @@ module _ {q0 k : ℕ} {all : Strip} {out₀ out : List ℕ} {n : ℕ} {at : Poin
 
   -- the tick that ends it
   pub going-end : n < k → {a : Advance} → a ≡ advanceOf q0 at r w → isNothing (a .work) ≡ true
-      → Answer all out₀ (set out n (a .byte)) (record { ticks = n + 1; ended = true; at = a .at; remainder = a .remainder; work = a .work })
+      → {c : ℕ} → cyclesOver all ≡ c + cyclesLeft (a .at) (a .work)
+      → Answer all out₀ (set out n (a .byte))
+      (record { ticks = n + 1; cycles = c; ended = true; at = a .at; remainder = a .remainder; work = a .work })
   unfolding after
-  going-end h {a} e end =
+  going-end h {a} e end counted =
       answered out₀ (set out n (a .byte)) (n + 1) (a .at) (a .remainder) (a .work) true
       (next h e end
       ∙ ap (λ (bs : List ℕ). record { bytes = bs; at = a .at; remainder = a .remainder; work = a .work; ended = true })
       (taken-on out n (a .byte) [] (omega (arith, g .long, g .room)) ∙ append-nil (take (n + 1) (set out n (a .byte)))))
+      counted
       (omega (arith, length-set out n (a .byte), g .long, g .room))
       (dropped-on out out₀ n (a .byte) (g .rest))
 
   -- and where the ticks are used up
-  pub going-out : k ≤ n → Answer all out₀ out (record { ticks = n; ended = false; at = at; remainder = r; work = w })
+  pub going-out : k ≤ n → {c : ℕ} → cyclesOver all ≡ c + cyclesLeft at w
+      → Answer all out₀ out (record { ticks = n; cycles = c; ended = false; at = at; remainder = r; work = w })
   unfolding after stripOf
-  going-out h =
+  going-out h counted =
       answered out₀ out n at r w false
       (g .so-far ∙ ap (λ (j : ℕ). after (take n out) (stripOf q0 j at r w)) none
       ∙ ap (λ (bs : List ℕ). record { bytes = bs; at = at; remainder = r; work = w; ended = false }) (append-nil (take n out)))
+      counted
       (omega (arith, g .long, g .room, g .here))
       (g .rest)
     where

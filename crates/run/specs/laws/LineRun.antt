@@ -2,7 +2,7 @@
 use mathlib.Core.Path.{_≡_, refl, ap, _∙_}
 use mathlib.Core.Bool.{Bool, true, false}
 use mathlib.Core.List.{List}
-use Prim.Native.Nat.{ℕ, _+_, _*_, _^_, _≤_, _<_}
+use Prim.Native.Nat.{ℕ, _+_, _-_, _*_, _^_, _≤_, _<_}
 use native.Mathlib.Omega.{arith}
 use lib.Dec.{eqb}
 use lib.ListN.{set}
@@ -43,8 +43,8 @@ line-ended l e = by (eqb (l .done + 1) (l .cycles)) ∙ e
     by true = refl
     by false = refl
 
-module _ {q0 most : ℕ} {all : Strip} {out₀ out : List ℕ} {last n : ℕ} (l : Line) (c : ℕ) {g : Gap}
-    (s : Cycling q0 (l .feed) most all out₀ out last n (pointAfter l c) (Work.Line (lineAfter l c)) g) where
+module _ {q0 most : ℕ} {all : Strip} {out₀ out : List ℕ} {last n from : ℕ} (l : Line) (c : ℕ) {g : Gap}
+    (s : Cycling q0 (l .feed) most all out₀ out last n from c (pointAfter l c) (Work.Line (lineAfter l c)) g) where
   in-line : LineAt (lineAfter l c) (pointAfter l c)
   in-line = line-at (run-ready (s .work) .0)
 
@@ -77,10 +77,12 @@ module _ {q0 most : ℕ} {all : Strip} {out₀ out : List ℕ} {last n : ℕ} (l
 
       pub line-on : g .ticks < last → {byte : ℕ} → byte ≡ cycleByte (a .pulses) false
           → {next : Gap} → next ≡ nextGap (1000 * q0) (1000 * l .feed) g
-          → Cycling q0 (l .feed) most all out₀ (set out (g .ticks) byte) last n (pointAfter l (c + 1)) (Work.Line (lineAfter l (c + 1))) next × (a .stepper ≡ stepperOf (lineAfter l (c + 1)))
+          → Cycling q0 (l .feed) most all out₀ (set out (g .ticks) byte) last n from (c + 1) (pointAfter l (c + 1))
+          (Work.Line (lineAfter l (c + 1))) next × (a .stepper ≡ stepperOf (lineAfter l (c + 1)))
       unfolding steppedOf
       line-on h byte gap = (cycling-on s h (cycle-is (goes-on s h) byte) gap, ap (λ (x : Advanced). x .stepper) next-is)
 
       pub line-end : last < n → last ≤ g .ticks → {byte : ℕ} → byte ≡ cycleByte (a .pulses) true → {old : List ℕ} → out₀ ≡ clearedOf n old
-          → Answer all old (set out last byte) (record { ticks = n; ended = true; at = l .end; remainder = g .remainder; work = Work.Nothing })
+          → Answer all old (set out last byte)
+          (record { ticks = n; cycles = c + 1 - from; ended = true; at = l .end; remainder = g .remainder; work = Work.Nothing })
       line-end m h byte clear = cycling-end s m h (ap (λ (x : Cycle). x .byte) (cycle-is (ends-now s m h) byte)) clear

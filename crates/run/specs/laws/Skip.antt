@@ -6,6 +6,7 @@ use native.Mathlib.Nat.{mul-le-mul-right, lt-of-mul-lt-mul-right}
 use native.Mathlib.Nat.{lt-div-mul-add, div-lt-iff-lt-mul}
 use native.Mathlib.Omega.{arith}
 use Rattle.plane.specs.declared.point.Point.{Point}
+use Rattle.plane.specs.Byte.{cyclesMarked}
 use Rattle.plane.specs.laws.Travel.{inside}
 use Rattle.divider.specs.declared.End.{End}
 use Rattle.divider.specs.declared.Gone.{Gone}
@@ -28,6 +29,7 @@ use Rattle.work.specs.Rest.{leftOf, Countable}
 use Rattle.work.specs.laws.Sound.{line-work}
 use Rattle.work.specs.laws.Rest.{lineOn, Reached, reachedOf, duesOf, countable, dues-for}
 use Rattle.run.specs.Run.{stripOf, ranOf, SoundIn}
+use Rattle.run.specs.laws.Keep.{ran-left}
 use Rattle.run.specs.laws.Cycles.{in-work, added-some, all-pays, end-fits}
 use Rattle.run.specs.laws.Strip.{strip-ends, end-tick, each-due, cycles-fewer, strip-early}
 
@@ -43,13 +45,15 @@ module _ {q0 : ℕ} {at : Point} {r : ℕ} {w : Work} (i : SoundIn q0 at r w) wh
 
     module _ {e : End} (last : e ≡ endingOf (l .charges * q0) (1000 * l .feed) r (l .cycles)) where
       pub ends-skip : (t : ℕ) → e .tick ≤ t
-          → record { ticks = e .tick; ended = true; at = l .end; remainder = e .remainder; work = Work.Nothing }
+          → record { ticks = e .tick; cycles = l .cycles; ended = true; at = l .end; remainder = e .remainder; work = Work.Nothing }
           ≡ ranOf (stripOf q0 t at r w)
       ends-skip t h =
           let s = strip-ends t (lastTickFor q0 at r w) i (end-tick i) (rw (last, left) at h) in
+          let done : cyclesMarked (stripOf q0 t at r w .bytes) ≡ cyclesLeft at w =
+          omega (arith, ran-left i t, ap (cyclesLeft (stripOf q0 t at r w .at)) (s .idle)) in
           let D = chargesLeft at w * q0 in
           let rest : stripOf q0 t at r w .remainder ≡ endingOf D (addedOf w) r (cyclesLeft at w) .remainder = omega (arith, s .adds-up) in
-          rw (last, left, s .ended, s .ticks, s .reached, rest, s .idle)
+          rw (last, left, s .ended, s .ticks, s .reached, rest, s .idle, done)
 
       -- the ticks end before the block
       pub skip-early : (t : ℕ) → t < e .tick → t < lastTickFor q0 at r w
@@ -67,12 +71,14 @@ module _ {q0 : ℕ} {at : Point} {r : ℕ} {w : Work} (i : SoundIn q0 at r w) wh
 
     -- the run's answer by what the ticks have done
     pub ran-short : (let g = goneOf (duesOf q0 at w) (addedOf w) r t in let s = reachedOf at w (g .cycles) in
-        record { ticks = t; ended = false; at = s .at; remainder = g .remainder; work = s .work } ≡ ranOf (stripOf q0 t at r w))
+        record { ticks = t; cycles = g .cycles; ended = false; at = s .at; remainder = g .remainder; work = s .work }
+        ≡ ranOf (stripOf q0 t at r w))
     ran-short =
         let s = strip-early i t early in
         let g = goneOf (duesOf q0 at w) (addedOf w) r t in
-        rw (s .ended, s .ticks, s .left-over)
-        (ap (λ (x : Reached). record { ticks = t; ended = false; at = x .at; remainder = g .remainder; work = x .work }) (sym (s .reached)))
+        rw (s .ended, s .ticks, s .cycles, s .left-over)
+        (ap (λ (x : Reached). record { ticks = t; cycles = g .cycles; ended = false; at = x .at; remainder = g .remainder; work = x .work })
+        (sym (s .reached)))
 
 -- ---- a line
 
@@ -98,6 +104,7 @@ module _ {q0 : ℕ} {at : Point} {r : ℕ} (l : Line) (i : SoundIn q0 at r (Work
 
     pub line-on-ran : record {
       ticks = t;
+      cycles = g .cycles;
       ended = false;
       at = pointOf (l .start) (l .end) (l .done + g .cycles);
       remainder = g .remainder;
@@ -151,7 +158,8 @@ module _ {q0 : ℕ} {at : Point} {r : ℕ} (a : Arc) (i : SoundIn q0 at r (Work.
     pub paid-fits : p .charges * q0 ≤ sum
     paid-fits = omega (arith, adds-up)
 
-    pub arc-on-ran : record { ticks = t; ended = false; at = p .at; remainder = sum - p .charges * q0; work = Work.Arc a }
+    pub arc-on-ran :
+        record { ticks = t; cycles = p .cycles; ended = false; at = p .at; remainder = sum - p .charges * q0; work = Work.Arc a }
         ≡ ranOf (stripOf q0 t at r (Work.Arc a))
     unfolding reachedOf
     arc-on-ran =

@@ -9,6 +9,7 @@ use lib.Dec.{T, leb}
 use lib.ListN.{length}
 use borrow.Author.Tests.{leb-true, leb-false}
 use Rattle.plane.specs.declared.point.Point.{Point}
+use Rattle.plane.specs.Byte.{cyclesMarked}
 use Rattle.divider.specs.declared.Gone.{Gone}
 use Rattle.divider.specs.Divider.{goneOf, lastTick}
 use Rattle.divider.specs.laws.Ticks.{total, Ticked, ticked}
@@ -21,6 +22,7 @@ use Rattle.work.specs.laws.Rest.{reachedOf, duesOf, reached-none, reached-next,
 use Rattle.run.specs.Run.{Strip, stripOf, SoundIn}
 use Rattle.run.specs.laws.Sound.{waiting, still-sound}
 use Rattle.run.specs.laws.Cycles.{in-work, cycle-counts, cycle-pays, each-pays, none-pays, added-some, same-feed, same-end}
+use Rattle.run.specs.laws.Keep.{marked}
 use Rattle.run.specs.laws.Idle.{idle-tick, cycle-tick}
 
 nothing : (w : Work) → isNothing w ≡ true → w ≡ Work.Nothing
@@ -68,6 +70,7 @@ module _ (d D a r j t : ℕ) (each : j * a ≤ D) (e : Ends (d + D) a r (suc j) 
 -- what a run of t ticks that do c cycles is
 pub record Short (at : Point) (w : Work) (t c rest : ℕ) (s : Strip) : Type 0 where
   pub ticks : length (s .bytes) ≡ t
+  pub cycles : cyclesMarked (s .bytes) ≡ c
   pub reached : record { at = s .at; work = s .work } ≡ reachedOf at w c
   pub left-over : s .remainder ≡ rest
   pub ended : s .ended ≡ false
@@ -88,7 +91,13 @@ module _ {q0 : ℕ} {at : Point} {r : ℕ} {w : Work} (i : SoundIn q0 at r w) (n
   unfolding stripOf
   short-idle c rest h s =
       rw (idle-tick q0 at r w h, i .busy)
-      (record { ticks = ap suc (s .ticks); reached = s .reached; left-over = s .left-over; ended = s .ended })
+      (record {
+        ticks = ap suc (s .ticks);
+        cycles = omega (arith, s .cycles);
+        reached = s .reached;
+        left-over = s .left-over;
+        ended = s .ended;
+      })
 
   module _ (now : ℕ) (fed : dueOf q0 at w + now ≡ r + addedOf w) where
     -- a tick with a cycle that is not the last, and the rest
@@ -113,7 +122,13 @@ module _ {q0 : ℕ} {at : Point} {r : ℕ} {w : Work} (i : SoundIn q0 at r w) (n
     unfolding stripOf
     short-cycle c rest more s =
         rw (← cycle-tick q0 at r w {rest = now} {c = cycleOf at w} fed refl, more)
-        (record { ticks = ap suc (s .ticks); reached = s .reached ∙ reached-next at w c more; left-over = s .left-over; ended = s .ended })
+        (record {
+          ticks = ap suc (s .ticks);
+          cycles = omega (arith, s .cycles, marked at w (i .busy));
+          reached = s .reached ∙ reached-next at w c more;
+          left-over = s .left-over;
+          ended = s .ended;
+        })
 
     -- the tick with the last cycle
     only-cycle : (let c = cycleOf at w in isNothing (c .work) ≡ true → t ≡ 0 → Ended q0 at r w (suc t) (stripOf q0 (suc n) at r w))
@@ -188,7 +203,7 @@ unfolding stripOf total
 strip-short {q0} zero g {at} {r} {w} i p h =
     let none = ticked-none (duesOf q0 at w) (addedOf w) (added-some i) (each-due i) p in
     let there = sym (ap (reachedOf at w) (none .0) ∙ reached-none q0 (i .travel) at w (i .sound)) in
-    record { ticks = refl; reached = there; left-over = sym (none .1); ended = refl }
+    record { ticks = refl; cycles = sym (none .0); reached = there; left-over = sym (none .1); ended = refl }
 strip-short {q0} (suc t) g {at} {r} {w} i p h =
     by (leb (dueOf q0 at w) (r + addedOf w)) refl (isNothing (cycleOf at w .work)) refl
     (λ g at r w i p h. strip-short t g {at = at} {r = r} {w = w} i p h)

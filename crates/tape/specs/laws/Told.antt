@@ -7,8 +7,8 @@ use native.Mathlib.Omega.{arith}
 use lib.Dec.{leb}
 use lib.IntN.{pos}
 use lib.ListN.{length, drop, length-append}
+use Rattle.plane.specs.Byte.{cyclesMarked}
 use Rattle.block.specs.declared.Block.{Block}
-use Rattle.book.specs.Sums.{cyclesMarked}
 use Rattle.bench.specs.declared.Bench.{Bench}
 use Rattle.bench.specs.declared.Ran.{Ran}
 use Rattle.settings.specs.declared.Settings.{Settings}

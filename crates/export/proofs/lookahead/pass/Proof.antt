@@ -1,8 +1,9 @@
 -- `pass` is right because a skip leaves the bench as its ticks would, and the words are stored as after a run.
 use borrow.Author.Needs.{needs}
+use mathlib.Core.Path.{refl}
 use Rattle.bench.specs.laws.Sound.{sound as bench-parts}
 use Rattle.finish.specs.laws.Record.{at-work}
-use Rattle.export.specs.laws.Looks.{working, pass-left, pass-stores, pass-told}
+use Rattle.export.specs.laws.Looks.{working, pass-enough, pass-stores, pass-told}
 use Rattle.export.proofs.lookahead.pass.Statement.{statement}
 use Rattle.export.proofs.lookahead.pass.Tie as tie
 
@@ -18,30 +19,26 @@ moved-requires c κs = search needs
 left-in-requires : tie.Need-left-in-requires
 left-in-requires c κs = search needs
 
-root-in-requires : tie.Need-root-in-requires
-root-in-requires c κs = search needs
+sub-left : tie.Need-sub-left
+sub-left c =
+    let l = c .before in
+    let v = l .before .before in
+    let k = v .before .before in
+    let s = k .before .before .before .before in
+    pass-enough (s .pre) (s .args .ticks) (k .before .capacity .ensures) (k .skip-work .ensures) (v .moved .ensures) (l .left-in .ensures)
 
-left-behind-requires : tie.Need-left-behind-requires
-left-behind-requires c κs =
+store-ticks-requires : tie.Need-store-ticks-requires
+store-ticks-requires c κs =
     let l = c .before .before in
     let v = l .before .before in
     let k = v .before .before in
     let s = k .before .before .before .before in
-    pass-left (s .pre) (s .args .ticks) (k .before .capacity .ensures) (k .skip-work .ensures) (v .moved .ensures) (l .left-in .ensures)
-    (c .root-in .ensures)
-
-store-ticks-requires : tie.Need-store-ticks-requires
-store-ticks-requires c κs =
-    let l = c .before .before .before .before in
-    let v = l .before .before in
-    let k = v .before .before in
-    let s = k .before .before .before .before in
     pass-stores (s .pre) (s .args .ticks) (k .before .capacity .ensures) (k .skip-work .ensures) (v .moved .ensures) (l .left-in .ensures)
-    (c .before .left-behind .ensures)
+    refl
 
 returns : tie.Need-returns
 returns c =
-    let v = c .before .before .before .before .before .before .before in
+    let v = c .before .before .before .before .before in
     let k = v .before .before in
     let s = k .before .before .before .before in
     pass-told (s .pre) (s .args .ticks) (k .before .capacity .ensures) (k .skip-work .ensures) (v .moved .ensures) (c .store-ticks .ensures)
@@ -54,7 +51,6 @@ pass-spec =
     skip-work-requires
     moved-requires
     left-in-requires
-    root-in-requires
-    left-behind-requires
+    sub-left
     store-ticks-requires
     returns)

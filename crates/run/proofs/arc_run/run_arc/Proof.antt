@@ -23,31 +23,33 @@ use Rattle.run.specs.laws.Going.{answers}
 use Rattle.run.specs.laws.Sound.{run-ready}
 use Rattle.run.specs.laws.Cycles.{in-work, end-range, added-some, feed-due, due-most, rest-most}
 use Rattle.run.specs.laws.Ending.{same-least, same-some, same-before}
-use Rattle.run.specs.laws.Cycling.{Cycling, cycling-start, cleared-long, gap-left, out-asks, cycling-out}
-use Rattle.run.specs.laws.ArcRun.{StandsOn, arc-asks, arc-small, charge-here, arc-on, arc-end}
+use Rattle.run.specs.laws.Cycling.{Cycling, cycling-start, cleared-long, gap-left, out-asks}
+use Rattle.run.specs.laws.ArcRun.{StandsOn, arc-asks, arc-small, charge-here, count-on, arc-on, arc-end, arc-out}
 use Rattle.run.proofs.arc_run.run_arc.Statement.{statement}
 use Rattle.run.proofs.arc_run.run_arc.Tie as tie
 
 abbrev Inv-loop : tie.InvT-loop
-Inv-loop capacity remainder a most out₀ added end n last straight-whole diagonal-whole tracer₀ gap₀ out tracer gap =
-    Cycling capacity (a .feed) most (stripOf capacity most (tracerAt (a .centre) tracer₀) remainder (Work.Arc a)) out₀ out last n
+Inv-loop capacity remainder a most out₀ added end n last straight diagonal tracer₀ gap₀ cycles₀ out tracer gap cycles =
+    Cycling capacity (a .feed) most (stripOf capacity most (tracerAt (a .centre) tracer₀) remainder (Work.Arc a)) out₀ out last n 0 cycles
     (tracerAt (a .centre) tracer) (Work.Arc a) gap × StandsOn a tracer
 
 abbrev μ-loop : tie.MeasureT-loop
-μ-loop capacity remainder a most out₀ added end n last straight-whole diagonal-whole tracer₀ gap₀ out tracer gap = last - gap .ticks
+μ-loop capacity remainder a most out₀ added end n last straight diagonal tracer₀ gap₀ cycles₀ out tracer gap cycles =
+    last - gap .ticks
 
 -- from the loop's head back: the start, the n bytes that the run writes, and the tick before which no cycle ends the arc
 abbrev start : tie.At-loop Inv-loop μ-loop → tie.Start Inv-loop μ-loop
-start l = l .before .before .before .before .before .before .before .before .before .before .before .before .before
+start l = l .before .before .before .before .before .before .before .before .before .before .before .before .before .before .before
 
 abbrev bytes : tie.At-loop Inv-loop μ-loop → ℕ
-bytes l = l .before .before .before .before .before .before .before .before .before .least .result
+bytes l = l .before .before .before .before .before .before .before .before .before .before .before .least .result
 
 abbrev last-of : tie.At-loop Inv-loop μ-loop → ℕ
-last-of l = l .before .before .before .before .before .before .before .before .least2 .result
+last-of l = l .before .before .before .before .before .before .before .before .before .before .least2 .result
 
-cleared : (l : tie.At-loop Inv-loop μ-loop) → l .before .before .before .before .before .before .clear .last .0 ≡ clearedOf (bytes l) (start l .args .out .now)
-cleared l = l .before .before .before .before .before .before .clear .ensures
+cleared : (l : tie.At-loop Inv-loop μ-loop)
+    → l .before .before .before .before .before .before .before .before .clear .last .0 ≡ clearedOf (bytes l) (start l .args .out .now)
+cleared l = l .before .before .before .before .before .before .before .before .clear .ensures
 
 long : (l : tie.At-loop Inv-loop μ-loop) → length (l .loop .out) ≡ length (start l .args .out .now)
 long l =
@@ -59,7 +61,7 @@ in-time l h = omega (arith, long l, start l .pre .1, l .loop .inv .0 .left .shor
 
 -- the tracer begins at the point, and knows the first charge
 abbrev entry : tie.After-enter Inv-loop μ-loop → tie.Start Inv-loop μ-loop
-entry c = c .before .before .before .before .before .before .before .before .before .before
+entry c = c .before .before .before .before .before .before .before .before .before .before .before .before
 
 entered : (c : tie.After-enter Inv-loop μ-loop) → entry c .args .at ≡ tracerAt (entry c .args .a .centre) (c .enter .result)
 entered c =
@@ -74,10 +76,10 @@ first-charge c =
     ∙ tracer-charge (b .args .a) (b .args .at) (circles (run-ready (b .pre .0) .0))
 
 begins : {q0 f most : ℕ} (a : Arc) (r : ℕ) {out : List ℕ} {last n : ℕ} {at p : Point} {g : Gap} → at ≡ p
-    → Cycling q0 f most (stripOf q0 most at r (Work.Arc a)) out out last n at (Work.Arc a) g
-    → Cycling q0 f most (stripOf q0 most p r (Work.Arc a)) out out last n p (Work.Arc a) g
+    → Cycling q0 f most (stripOf q0 most at r (Work.Arc a)) out out last n 0 0 at (Work.Arc a) g
+    → Cycling q0 f most (stripOf q0 most p r (Work.Arc a)) out out last n 0 0 p (Work.Arc a) g
 begins {q0} {f} {most} a r {out} {last} {n} {g = g} same i =
-    subst (λ (x : Point). Cycling q0 f most (stripOf q0 most x r (Work.Arc a)) out out last n x (Work.Arc a) g) same i
+    subst (λ (x : Point). Cycling q0 f most (stripOf q0 most x r (Work.Arc a)) out out last n 0 0 x (Work.Arc a) g) same i
 
 abbrev strip : tie.Start Inv-loop μ-loop → Point → Strip
 strip c p = stripOf (c .args .capacity) (c .args .most) p (c .args .remainder) (Work.Arc (c .args .a))
@@ -107,20 +109,20 @@ least-requires-2 c κs = search needs
 clear-requires : tie.Need-clear-requires Inv-loop μ-loop
 clear-requires c κs = omega (arith, c .before .before .least .ensures, c .before .before .before .before .before .before .pre .1)
 
-mul-straight-whole : tie.Need-mul-straight-whole Inv-loop μ-loop
-mul-straight-whole c = omega (arith, c .before .before .before .before .before .before .before .before .before .pre .0 .capacity)
+mul-divide : tie.Need-mul-divide Inv-loop μ-loop
+mul-divide c = omega (arith, c .before .before .before .before .before .before .before .before .before .pre .0 .capacity)
 
-div-straight-whole : tie.Need-div-straight-whole Inv-loop μ-loop
-div-straight-whole c = added-some (c .before .before .before .before .before .before .before .before .before .pre .0)
+divide-requires : tie.Need-divide-requires Inv-loop μ-loop
+divide-requires c κs = added-some (c .before .before .before .before .before .before .before .before .before .pre .0)
 
-mul-diagonal-whole : tie.Need-mul-diagonal-whole Inv-loop μ-loop
-mul-diagonal-whole c = omega (arith, c .before .before .before .before .before .before .before .before .before .pre .0 .capacity)
+mul-divide-2 : tie.Need-mul-divide-2 Inv-loop μ-loop
+mul-divide-2 c = omega (arith, c .before .before .before .before .before .before .before .before .before .before .pre .0 .capacity)
 
-div-diagonal-whole : tie.Need-div-diagonal-whole Inv-loop μ-loop
-div-diagonal-whole c = added-some (c .before .before .before .before .before .before .before .before .before .pre .0)
+divide-requires-2 : tie.Need-divide-requires-2 Inv-loop μ-loop
+divide-requires-2 c κs = added-some (c .before .before .before .before .before .before .before .before .before .before .pre .0)
 
 enter-requires : tie.Need-enter-requires Inv-loop μ-loop
-enter-requires c κs = run-ready (c .before .before .before .before .before .before .before .before .before .pre .0) .0
+enter-requires c κs = run-ready (c .before .before .before .before .before .before .before .before .before .before .before .pre .0) .0
 
 charge-requires : tie.Need-charge-requires Inv-loop μ-loop
 charge-requires c κs = search needs
@@ -134,14 +136,14 @@ first-gap-requires c κs = let i = entry (c .before) .pre .0 in rw (first-charge
 loop-holds : tie.Need-loop-holds Inv-loop μ-loop
 loop-holds c =
     let b = entry (c .before .before) in
-    let k = c .before .before .before .before .before .before .before in
+    let k = c .before .before .before .before .before .before .before .before .before in
     let e = k .before .before .arc-end .ensures in
     let last = k .least2 .ensures ∙ same-before e (end-range (b .pre .0) .0) in
     let n = k .before .least .ensures ∙ same-least e in
     let same = entered (c .before .before) in
     let due = ap (λ (d : ℕ). gapOf (d * b .args .capacity) (1000 * b .args .a .feed) (b .args .remainder)) (first-charge (c .before)) in
-    let clear = c .before .before .before .before .before .clear .ensures in
-    let i = cycling-start (b .args .most) (b .args .out .now) (b .pre .0) (b .pre .1) last n clear (c .first-gap .ensures ∙ due) in
+    let clear = c .before .before .before .before .before .before .before .clear .ensures in
+    let i = cycling-start (b .args .most) (b .args .out .now) (b .pre .0) (b .pre .1) last n clear (c .first-gap .ensures ∙ due) 0 in
     (begins (b .args .a) (b .args .remainder) same i, c .before .before .enter .ensures ∙ ap (arcTracer (b .args .a)) same)
 
 cycle-requires : tie.Need-cycle-requires Inv-loop μ-loop
@@ -157,15 +159,21 @@ slice-write-out c =
     let l = c .before .before .before .before in
     in-time l (omega (arith, c .before .before .if1 .taken, l .loop .inv .0 .left .low))
 
+add-cycles : tie.Need-add-cycles Inv-loop μ-loop
+add-cycles c =
+    let l = c .before .before .before .before .before in
+    omega (arith, count-on (start l .args .a) (l .loop .tracer) (l .loop .inv .0) (l .loop .inv .1))
+
 arc-gap-requires : tie.Need-arc-gap-requires Inv-loop μ-loop
 arc-gap-requires c κs =
-    let s = c .before .before .before .before .before .loop .inv .0 in
+    let l = c .before .before .before .before .before in
+    let s = l .loop .inv .0 in
     record {
       some = added-some (s .work);
       most = omega (arith, in-work (s .work) .feed .most);
       capacity = s .work .capacity;
-      is-straight = refl;
-      is-diagonal = refl;
+      is-straight = l .before .before .before .before .before .divide .ensures;
+      is-diagonal = l .before .before .before .before .divide2 .ensures;
       rest = gap-left s;
       early = omega (arith, c .before .before .before .if1 .taken, s .left .low, s .few, s .work .capacity);
     }
@@ -195,6 +203,11 @@ with-marks-requires-2 c κs =
 slice-write-out-2 : tie.Need-slice-write-out-2 Inv-loop μ-loop
 slice-write-out-2 c = let l = c .before .before .before .before .before .before in in-time l (c .before .before .before .if2 .taken)
 
+add-t34 : tie.Need-add-t34 Inv-loop μ-loop
+add-t34 c =
+    let l = c .before .before .before .before .before .before in
+    omega (arith, count-on (start l .args .a) (l .loop .tracer) (l .loop .inv .0) (l .loop .inv .1))
+
 same-length : tie.Need-same-length Inv-loop μ-loop
 same-length c =
     let l = c .before .before .before .before .before .before in
@@ -210,7 +223,9 @@ returns c =
     (t .if2 .taken) (t .before .if1 .left) byte (cleared l))
 
 leave-requires : tie.Need-leave-requires Inv-loop μ-loop
-leave-requires c κs = let l = c .before .before .before .before in arc-asks (start l .args .a) (l .loop .tracer) (l .loop .inv .0) (l .loop .inv .1)
+leave-requires c κs =
+    let l = c .before .before .before .before in
+    arc-asks (start l .args .a) (l .loop .tracer) (l .loop .inv .0) (l .loop .inv .1)
 
 charge-requires-2 : tie.Need-charge-requires-2 Inv-loop μ-loop
 charge-requires-2 c κs = search needs
@@ -230,7 +245,8 @@ returns-2 : tie.Need-returns-2 Inv-loop μ-loop
 returns-2 c =
     let l = c .before .before .before .before .before .before .before in
     let t = c .before .before .before .before in
-    let a = cycling-out (l .loop .inv .0) (t .if2 .left) (t .before .if1 .left) (cleared l) in
+    let a =
+    arc-out (start l .args .a) (l .loop .tracer) (l .loop .inv .0) (l .loop .inv .1) (t .if2 .left) (t .before .if1 .left) (cleared l) in
     answers (strip (start l)) (entered (l .before .before .before))
     (rw (c .before .before .leave .ensures, c .remainder-at .ensures, last-charge (c .before)) a)
 
@@ -246,10 +262,10 @@ run-arc-spec =
     sub-least
     least-requires-2
     clear-requires
-    mul-straight-whole
-    div-straight-whole
-    mul-diagonal-whole
-    div-diagonal-whole
+    mul-divide
+    divide-requires
+    mul-divide-2
+    divide-requires-2
     enter-requires
     charge-requires
     mul-first-gap
@@ -258,12 +274,14 @@ run-arc-spec =
     cycle-requires
     with-marks-requires
     slice-write-out
+    add-cycles
     arc-gap-requires
     loop-less
     loop-again
     last-code-requires
     with-marks-requires-2
     slice-write-out-2
+    add-t34
     same-length
     returns
     leave-requires
