@@ -122,7 +122,7 @@ static void arc_on(struct machine *m, int64_t cycles)
 }
 
 /* At most one cycle a tick: so many ticks do as many cycles as they and the remainder pay, but no more than they are themselves. */
-int64_t c_skip(struct machine *m, int64_t ticks)
+int64_t c_skip(struct machine *m, int64_t ticks, int64_t *cycles)
 {
     const bool line = m->kind == LINE;
     const int64_t capacity = 60 * m->settings.w, feed = PER_FEED * (line ? m->line.feed : m->arc.feed);
@@ -134,17 +134,18 @@ int64_t c_skip(struct machine *m, int64_t ticks)
         m->remainder = last * feed - due;
         m->at = line ? m->line.end : m->arc.end;
         m->kind = NOTHING;
+        *cycles = left.cycles;
         return last;
     }
     const int64_t sum = m->remainder + ticks * feed;
-    int64_t cycles, charges;
+    int64_t charges;
     if (line) {
-        cycles = least(ticks, sum / (STRAIGHT * capacity));
-        charges = STRAIGHT * cycles;
-        line_on(m, cycles);
+        *cycles = least(ticks, sum / (STRAIGHT * capacity));
+        charges = STRAIGHT * *cycles;
+        line_on(m, *cycles);
     } else {
-        cycles = arc_paid(m, sum, ticks, &charges);
-        arc_on(m, cycles);
+        *cycles = arc_paid(m, sum, ticks, &charges);
+        arc_on(m, *cycles);
     }
     m->remainder = sum - charges * capacity;
     return ticks;

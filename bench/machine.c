@@ -296,9 +296,9 @@ int64_t c_ahead_in(struct machine *m, struct queue *q, uint64_t ticks)
     if (ticks > MOST_AHEAD)
         return -38;
     for (int64_t more = (int64_t)ticks; more > 0 && !m->held && m->kind != NOTHING;) {
-        const int64_t others = q->left - cycles_left(m, q->root);
-        more -= c_skip(m, more);
-        q->left = others + cycles_left(m, q->root);
+        int64_t cycles;
+        more -= c_skip(m, more, &cycles);
+        q->left -= cycles;
         if (m->kind == NOTHING)
             bring_in(m, q);
     }

@@ -79,7 +79,7 @@ int64_t c_stop_in(struct machine *m, struct queue *q);
 /* A look-ahead: the machine goes so many ticks on. */
 int64_t c_ahead_in(struct machine *m, struct queue *q, uint64_t ticks);
 
-/* So many ticks at once, or to the end of the block in work, of a record that has been tested; how many they are. */
-int64_t c_skip(struct machine *m, int64_t ticks);
+/* So many ticks at once, or to the end of the block in work, of a record that has been tested; how many they are, and the cycles done. */
+int64_t c_skip(struct machine *m, int64_t ticks, int64_t *cycles);
 
 #endif
