@@ -3,7 +3,7 @@ bench/run | python3 bench/fill.py docs/BENCHMARKS.md"""
 import itertools
 import sys
 
-# What bench/run does not print: the figures beside an earlier archive.
+# What bench/run does not print: the figures beside an earlier archive, of bench/before.py.
 KEPT = {"call"}
 
 
