@@ -10,7 +10,7 @@ use Rattle.plane.specs.declared.point.Point.{Point}
 use Rattle.block.specs.declared.Block.{Block}
 use Rattle.block.specs.Questions.{loadNo}
 use Rattle.letters.specs.declared.word.Words.{Words}
-use Rattle.words.specs.laws.Scan.{lineOf}
+use Rattle.words.specs.computed.Meaning.{meaningOf}
 use Rattle.settings.specs.declared.Settings.{Settings}
 use Rattle.settings.specs.Settings.{capacityOf}
 use Rattle.reader.specs.declared.Reader.{Reader}
@@ -41,10 +41,10 @@ abbrev pub wordsAsk : Settings → (at : Point) (known : Reader) → Words → (
 wordsAsk s at k ws zero = cond (moving ws) (blockAsks s at k (blockOf (s .scale) k ws at)) (Asks.nothing k)
 wordsAsk s at k ws (suc n) = Asks.refuses (suc n)
 
--- the line's bytes without their LF; `lineOf` is the one answer about them that the grammar allows: `asks-means` in the laws says this over `Means`
+-- the line's bytes without their LF
 unfoldable pub lineAsks : Settings → (at : Point) (known : Reader) → (line : List ℕ) → Asks
 lineAsks s at k line =
-    let l = lineOf line in
+    let l = meaningOf line in
     let k′ = readerAfter k (l .words) in
     wordsAsk s at k′ (l .words) (lineNo (s .scale) k′ (length line) l)
 

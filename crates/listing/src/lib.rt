@@ -6,7 +6,7 @@ ghost use Prim.Native.Nat.{_+_, _≤_};
 ghost use lib.ListN.{length};
 ghost use lib.Dec.{leb};
 ghost use Rattle.bench.specs.Bench.{soundOf};
-ghost use Rattle.words.specs.laws.Scan.{firstLine};
+ghost use Rattle.words.specs.computed.Scan.{firstLine};
 ghost use Rattle.row.specs.Lines.{totalLine};
 ghost use Rattle.row.specs.Buffer.{hasRoom, bufferAfter, placeAfter};
 ghost use Rattle.listing.specs.Tally.{Gives, countsRight, kindOf, nextPlace, startOf, blockListed};

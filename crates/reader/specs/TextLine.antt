@@ -3,7 +3,7 @@ use mathlib.Core.Bool.{cond}
 use mathlib.Core.List.{List}
 use Prim.Native.Nat.{ℕ}
 use lib.ListN.{length}
-use Rattle.words.specs.laws.Scan.{lineOf}
+use Rattle.words.specs.computed.Meaning.{meaningOf}
 use Rattle.bench.specs.declared.Bench.{Bench}
 use Rattle.bench.specs.declared.Answer.{Answer}
 use Rattle.bench.specs.Bench.{soundOf}
@@ -33,9 +33,8 @@ takes k k′ m (ToLoad.Refused number) = reads (Read.Refused number) k m
 abbrev pub takenOf : (before : Reader) → Bench → Asked → ReadLine
 takenOf k m a = takes k (a .reader) m (a .asks)
 
--- "Any call on a record: is it sound? 9." The next block starts at the point. `lineOf` is the scan that the code does; it is the one answer
--- about the bytes that `Means` in `words/specs/Meaning.antt` allows; `read-means` in the laws says this definition over `Means`, so hold
--- that against the paper and not the scan.
+-- "Any call on a record: is it sound? 9." The next block starts at the point. `meaningOf` is the one answer about the bytes that the grammar
+-- allows.
 unfoldable pub readLineOf : Reader → Bench → (bytes : List ℕ) → ReadLine
 readLineOf k m bytes =
-    cond (soundOf m) (takenOf k m (askedOf (m .settings .scale) k (m .at) (length bytes) (lineOf bytes))) (reads (Read.Refused 9) k m)
+    cond (soundOf m) (takenOf k m (askedOf (m .settings .scale) k (m .at) (length bytes) (meaningOf bytes))) (reads (Read.Refused 9) k m)

@@ -3,7 +3,8 @@
 ghost use mathlib.Core.Path.{_≡_};
 ghost use Prim.Native.Nat.{_≤_};
 ghost use lib.ListN.{length};
-ghost use Rattle.words.specs.laws.Scan.{firstLine, lineOf};
+ghost use Rattle.words.specs.computed.Meaning.{meaningOf};
+ghost use Rattle.words.specs.computed.Scan.{firstLine};
 ghost use Rattle.reader.specs.Asked.{still, asked, blockAsked, askedOf};
 ghost use Rattle.reader.specs.declared.asked.ToLoad.the-variants.{Refused};
 ghost use Rattle.reader.specs.laws.Asked.{brokenNo};
@@ -93,7 +94,7 @@ fn ask_words(k: Reader, scale: u64, place: Point, bytes: u64, l: Line) -> Asked
 // What the first line of a text asks.
 pub fn ask_first(k: Reader, scale: u64, place: Point, text: &[u8]) -> AskedFirst
     requires { ⌜ scale ≤ 1000 ⌝ }
-    ensures { λ r. ⌜ r .asked ≡ (let line = firstLine (now (text .entry)) in askedOf scale k place (length line) (lineOf line)) ⌝ }
+    ensures { λ r. ⌜ r .asked ≡ (let line = firstLine (now (text .entry)) in askedOf scale k place (length line) (meaningOf line)) ⌝ }
     ensures { λ r. ⌜ r .bytes ≡ length (firstLine (now (text .entry))) ⌝ }
 {
     let first = words::line::read_first(text);
@@ -114,7 +115,7 @@ fn broken_no(bytes: usize) -> u64
 // What a line alone asks. It is its own first line, where it has no LF.
 pub fn ask_line(k: Reader, scale: u64, place: Point, line: &[u8]) -> Asked
     requires { ⌜ scale ≤ 1000 ⌝ }
-    ensures { λ r. ⌜ r ≡ askedOf scale k place (length (now (line .entry))) (lineOf (now (line .entry))) ⌝ }
+    ensures { λ r. ⌜ r ≡ askedOf scale k place (length (now (line .entry))) (meaningOf (now (line .entry))) ⌝ }
 {
     let first = ask_first(k, scale, place, line);
     if first.bytes < line.len() {

@@ -2,7 +2,7 @@
 ghost use mathlib.Core.Path.{_≡_};
 ghost use mathlib.Core.Bool.{true};
 ghost use lib.ListN.{length};
-ghost use Rattle.words.specs.laws.Scan.{firstLine};
+ghost use Rattle.words.specs.computed.Scan.{firstLine};
 ghost use Rattle.bench.specs.Bench.{soundOf};
 ghost use Rattle.bench.specs.Calls.{loadOf};
 ghost use Rattle.reader.specs.TextLine.{reads, loaded, takenOf, readLineOf};

@@ -3,7 +3,7 @@ use mathlib.Core.Bool.{cond}
 use mathlib.Core.List.{List}
 use Prim.Native.Nat.{ℕ}
 use lib.ListN.{length}
-use Rattle.words.specs.laws.Scan.{lineOf}
+use Rattle.words.specs.computed.Meaning.{meaningOf}
 use Rattle.bench.specs.declared.Answer.{Answer}
 use Rattle.machine.specs.declared.Machine.{Machine}
 use Rattle.machine.specs.Machine.{soundOf, startOf}
@@ -34,9 +34,9 @@ abbrev pub takenOf : (before : Reader) → Machine → Asked → ReadLine
 takenOf k m a = takes k (a .reader) m (a .asks)
 
 -- "Any call on a record: is it sound? 9." 02 §3: "what a text line leaves out, start from the end of the last waiting block, else of the
--- block in work, else from the point; a straight text line to that place makes no block." `lineOf` is the scan that the code does;
--- `read-means` in the laws says this over `Means` in `words/specs/Meaning.antt`, so hold that against the paper and not the scan.
+-- block in work, else from the point; a straight text line to that place makes no block." `meaningOf` is the one answer about the bytes
+-- that the grammar allows.
 unfoldable pub readLineOf : Reader → Machine → (bytes : List ℕ) → ReadLine
 readLineOf k m bytes =
     let start = startOf (m .bench) (m .queue) in
-    cond (soundOf m) (takenOf k m (askedOf (m .bench .settings .scale) k start (length bytes) (lineOf bytes))) (reads (Read.Refused 9) k m)
+    cond (soundOf m) (takenOf k m (askedOf (m .bench .settings .scale) k start (length bytes) (meaningOf bytes))) (reads (Read.Refused 9) k m)

@@ -1,4 +1,5 @@
--- To be believed: Grammar, Meaning. Proved: laws, where Scan is what the code does and Reading shows that its answer is theirs.
+-- Believed: Grammar, then Meaning. Computed: the scan, and the answer that Means allows. `laws` proves that the scan gives that answer.
 pub mod Grammar
 pub mod Meaning
+pub mod computed
 pub mod laws

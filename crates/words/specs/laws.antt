@@ -1,4 +1,3 @@
-pub mod Scan
 pub mod Digits
 pub mod Number
 pub mod Words
@@ -8,3 +7,4 @@ pub mod FirstLine
 pub mod Run
 pub mod Scanning
 pub mod Examples
+pub mod Meaning

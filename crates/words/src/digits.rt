@@ -2,7 +2,7 @@
 ghost use mathlib.Core.Path.{_≡_};
 ghost use Prim.Native.Nat.{_≤_, _<_};
 ghost use lib.ListN.{length, drop};
-ghost use Rattle.words.specs.laws.Scan.{firstOf, isDigit, digitsOf, Sized};
+ghost use Rattle.words.specs.computed.Scan.{firstOf, isDigit, digitsOf, Sized};
 
 // What was read: the number that the digits write, after those that stood before, and how many of them there are.
 pub struct Digits {

@@ -16,7 +16,8 @@ ghost use lib.ListN.{length, drop};
 ghost use Rattle.letters.specs.laws.Found.{wordsIn};
 ghost use Rattle.letters.specs.laws.Put.{Gathered};
 ghost use Rattle.words.specs.Meaning.{answerOf, notWords};
-ghost use Rattle.words.specs.laws.Scan.{firstLine, lineOf};
+ghost use Rattle.words.specs.computed.Meaning.{meaningOf};
+ghost use Rattle.words.specs.computed.Scan.{firstLine};
 
 // The answer about a line. Where it is not formed, the rest is as of an empty line.
 pub struct Line {
@@ -67,7 +68,7 @@ fn refused(s: &[u8], from: usize) -> First
 
 // The words of a text's first line: any bytes, of any length.
 pub fn read_first(s: &[u8]) -> First
-    ensures { λ r. ⌜ r .line ≡ lineOf (firstLine (now (s .entry))) ⌝ }
+    ensures { λ r. ⌜ r .line ≡ meaningOf (firstLine (now (s .entry))) ⌝ }
     ensures { λ r. ⌜ r .bytes ≡ length (firstLine (now (s .entry))) ⌝ }
 {
     let mut found = found::nothing();

@@ -7,7 +7,7 @@ ghost use mathlib.Core.Path.{_≡_};
 ghost use mathlib.Core.Bool.{cond};
 ghost use Prim.Native.Nat.{_+_, _-_, _^_, _≤_};
 ghost use lib.ListN.{length, drop};
-ghost use Rattle.words.specs.laws.Scan.{firstOf, signOf, amountOf, numberOf};
+ghost use Rattle.words.specs.computed.Scan.{firstOf, signOf, amountOf, numberOf};
 
 pub struct Sign {
     pub negative: bool,

@@ -3,7 +3,7 @@ ghost use mathlib.Core.Path.{_≡_};
 ghost use Prim.Native.Nat.{_+_};
 ghost use lib.Dec.{ltb};
 ghost use lib.ListN.{length, drop};
-ghost use Rattle.words.specs.laws.Scan.{firstLine};
+ghost use Rattle.words.specs.computed.Scan.{firstLine};
 
 const LF: u8 = 10;
 

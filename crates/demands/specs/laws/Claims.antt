@@ -6,8 +6,8 @@ use Rattle.run.specs.Run.{written}
 use Rattle.machine.specs.Calls.{makeOf, loadOf, tickOf, holdOf, releaseOf, stopOf}
 use Rattle.machine.specs.Run.{runOf}
 use Rattle.look.specs.Look.{aheadOf}
-use Rattle.words.specs.laws.Scan.{lineOf}
-use Rattle.words.specs.laws.Reading.{line-means}
+use Rattle.words.specs.computed.Meaning.{meaningOf}
+use Rattle.words.specs.laws.Meaning.{meaning-means}
 use Rattle.textline.specs.TextLine.{readLineOf}
 use Rattle.demands.specs.Answers.{Comes, EveryAnswer}
 use Rattle.demands.specs.Records.{EveryRecord}
@@ -30,7 +30,7 @@ comes =
       stop = λ m. (stopOf m, refl);
       look = λ m ticks. (aheadOf m ticks, refl);
       line = λ κs k m bytes. (readLineOf k m (now bytes), refl);
-      means = λ bytes. (lineOf bytes, line-means bytes);
+      means = λ bytes. (meaningOf bytes, meaning-means bytes);
     }
 
 pub every-answer : EveryAnswer

@@ -32,8 +32,8 @@ use Rattle.book.specs.Book.{Reply}
 use Rattle.history.specs.Contracts.{Looks}
 use Rattle.history.specs.Reply.{answerReply, tickReply, runReply}
 use Rattle.words.specs.declared.line.Line.{Line}
-use Rattle.words.specs.laws.Scan.{lineOf}
-use Rattle.words.specs.laws.Reading.{line-means}
+use Rattle.words.specs.computed.Meaning.{meaningOf}
+use Rattle.words.specs.laws.Meaning.{meaning-means}
 use Rattle.reader.specs.declared.Feed.{Feed}
 use Rattle.reader.specs.declared.Reader.{Reader}
 use Rattle.reader.specs.declared.«text_line».Read.{Read}
@@ -367,7 +367,7 @@ loaded-width : (k : Reader) (m : Machine) (line : RefT (List ℕ)) {bits : ℕ} 
 loaded-width k m line {bits} e = by (makesBlock k (m .bench .settings .scale) (nextStart m) l) refl
   where
     l : Line
-    l = lineOf (now line)
+    l = meaningOf (now line)
 
     r : ReadLine
     r = readLineOf k m (now line)
@@ -376,17 +376,17 @@ loaded-width k m line {bits} e = by (makesBlock k (m .bench .settings .scale) (n
     not-refused n is = let both-told = ap readReply e in let z : _≡_ {A = ℕ} 0 1 = cc in absurd (omega (arith, z))
 
     all : AllYes (lineQuestions k m (now line) l)
-    all = line-answers ([], tt) k m line r refl l (line-means (now line)) .accepted .0 not-refused
+    all = line-answers ([], tt) k m line r refl l (meaning-means (now line)) .accepted .0 not-refused
 
     by : (block : Bool) → makesBlock k (m .bench .settings .scale) (nextStart m) l ≡ block → bits < 2 ^ 63
     by true b =
-        let t = line-taken ([], tt) k m line r refl l (line-means (now line)) all .block b in
+        let t = line-taken ([], tt) k m line r refl l (meaning-means (now line)) all .block b in
         let width = ap bitsOf (sym (ap (λ (x : ReadLine). x .answer) (t .4)) ∙ e) in
         subst (λ (w : ℕ). w < 2 ^ 63) width
         (width-word m (sound-is m .1 (all .0)) (lineBlock k (m .bench .settings .scale) (nextStart m) l)
         (ap (λ (x : Answered). x .answer) (sym (t .2)) ∙ t .3))
     by false b =
-        let t = line-taken ([], tt) k m line r refl l (line-means (now line)) all .no-block b in
+        let t = line-taken ([], tt) k m line r refl l (meaning-means (now line)) all .no-block b in
         omega (arith, ap isLoaded (sym (ap (λ (x : ReadLine). x .answer) t) ∙ e))
 
 -- a line that answers a negative number is a refused one
@@ -399,7 +399,7 @@ refused-line k m line q = by (readLineOf k m (now line) .answer) refl
     by Read.Nothing at e = absurd (apart e)
     by (Read.Loaded bits) at e = absurd (apart (sym (word-small (loaded-width k m line at)) ∙ e))
     by (Read.Refused number) at e =
-        line-answers ([], tt) k m line (readLineOf k m (now line)) refl (lineOf (now line)) (line-means (now line)) .kept number
+        line-answers ([], tt) k m line (readLineOf k m (now line)) refl (meaningOf (now line)) (meaning-means (now line)) .kept number
         (ap readReply at)
 
 module _ (before known : List ℤ) (line : RefT (List ℕ)) (n : ℤ) (after known′ : List ℤ)

@@ -21,8 +21,8 @@ use Rattle.book.specs.Ledger.{CountedAlong}
 use Rattle.book.specs.laws.Counts.{counted-arc}
 use Rattle.words.specs.declared.line.Line.{Line}
 use Rattle.words.specs.Meaning.{Means}
-use Rattle.words.specs.laws.Scan.{lineOf}
-use Rattle.words.specs.laws.Reading.{line-means}
+use Rattle.words.specs.computed.Meaning.{meaningOf}
+use Rattle.words.specs.laws.Meaning.{meaning-means}
 use Rattle.reader.specs.declared.Reader.{Reader}
 use Rattle.reader.specs.Reader.{unknown, readerAfter, moving, lineNo}
 use Rattle.reader.specs.Asked.{still}
@@ -121,8 +121,8 @@ lines-mean : (s : Settings) (n : ℕ) (at : Point) (k : Reader) (lines : List (L
 unfolding jobFrom
 lines-mean s n at k [] = LinesMean.over
 lines-mean s n at k (bytes ∷ lines) =
-    line-means-job s n at k bytes lines (λ at k. lines-mean s (n + 1) at k lines) (lineOf bytes) (line-means bytes) (lineAsks s at k bytes)
-    (line-says s at k bytes (lineOf bytes) (line-means bytes))
+    line-means-job s n at k bytes lines (λ at k. lines-mean s (n + 1) at k lines) (meaningOf bytes) (meaning-means bytes) (lineAsks s at k bytes)
+    (line-says s at k bytes (meaningOf bytes) (meaning-means bytes))
 
 -- no other job
 lines-once : (s : Settings) {n : ℕ} {at : Point} {k : Reader} {lines : List (List ℕ)} {made : List Made} {end : End}

@@ -10,7 +10,7 @@ use lib.ListN.{length}
 use Rattle.plane.specs.declared.point.Point.{Point}
 use Rattle.block.specs.declared.Block.{Block}
 use Rattle.block.specs.Questions.{loadNo}
-use Rattle.words.specs.laws.Scan.{lineOf}
+use Rattle.words.specs.computed.Meaning.{meaningOf}
 use Rattle.settings.specs.Settings.{capacityOf}
 use Rattle.settings.specs.laws.Right.{settings-right}
 use Rattle.bench.specs.declared.Bench.{Bench}
@@ -95,7 +95,7 @@ module _ (ws ks : List ℤ) (line : List ℕ) where
     module _ {k : Bench} {start : Point} (g : Asking ws k start) where
       -- what the line asks there
       abbrev asks : (scale : ℕ) → Point → Asked
-      asks scale place = askedOf scale (d .reader) place (length line) (lineOf line)
+      asks scale place = askedOf scale (d .reader) place (length line) (meaningOf line)
 
       asks-own : asks (k .settings .scale) start
           ≡ (let m = machineIn ws in asks (m .bench .settings .scale) (startOf (m .bench) (m .queue)))

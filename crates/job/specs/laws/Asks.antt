@@ -11,8 +11,9 @@ use Rattle.block.specs.Questions.{loadNo}
 use Rattle.letters.specs.declared.word.Words.{Words}
 use Rattle.words.specs.declared.line.Line.{Line}
 use Rattle.words.specs.Meaning.{Means}
-use Rattle.words.specs.laws.Scan.{lineOf}
-use Rattle.words.specs.laws.Reading.{line-means, means-unique}
+use Rattle.words.specs.computed.Meaning.{meaningOf}
+use Rattle.words.specs.laws.Meaning.{meaning-means}
+use Rattle.words.specs.laws.Reading.{means-unique}
 use Rattle.work.specs.Work.{isNothing, begunOf}
 use Rattle.bench.specs.declared.Bench.{Bench}
 use Rattle.bench.specs.declared.Answered.{Answered}
@@ -75,7 +76,7 @@ module _ (m : Bench) (k : Reader) (sound : soundOf m ≡ true) (idle : isNothing
   pub line-asks : (line : List ℕ) → Read-as m k (lineAsks (m .settings) (m .at) k line) (readLineOf k m line)
   unfolding lineAsks readLineOf askedOf
   line-asks line =
-      let l = lineOf line in
+      let l = meaningOf line in
       let k′ = readerAfter k (l .words) in
       rw sound (words-ask k′ (l .words) (lineNo (m .settings .scale) k′ (length line) l))
 
@@ -83,4 +84,4 @@ module _ (m : Bench) (k : Reader) (sound : soundOf m ≡ true) (idle : isNothing
 pub asks-means : (s : Settings) (at : Point) (k : Reader) (line : List ℕ) (l : Line) → Means line l
     → (let k′ = readerAfter k (l .words) in lineAsks s at k line ≡ wordsAsk s at k′ (l .words) (lineNo (s .scale) k′ (length line) l))
 unfolding lineAsks
-asks-means s at k line l means = rw (means-unique line (lineOf line) l (line-means line) means)
+asks-means s at k line l means = rw (means-unique line (meaningOf line) l (meaning-means line) means)

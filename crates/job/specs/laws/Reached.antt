@@ -7,7 +7,7 @@ use native.Mathlib.Omega.{arith}
 use lib.ListN.{length}
 use Rattle.letters.specs.declared.word.Word.{Word}
 use Rattle.letters.specs.declared.word.Words.{Words}
-use Rattle.words.specs.laws.Scan.{lineOf}
+use Rattle.words.specs.computed.Meaning.{meaningOf}
 use Rattle.bench.specs.declared.Bench.{Bench}
 use Rattle.bench.specs.declared.Answer.{Answer}
 use Rattle.bench.specs.Bench.{soundOf, movedOf}
@@ -77,18 +77,18 @@ unfolding readLineOf askedOf
 feed-read k m line h = by (soundOf m)
   where
     k′ : Reader
-    k′ = readerAfter k (lineOf line .words)
+    k′ = readerAfter k (meaningOf line .words)
 
     number : ℕ
-    number = lineNo (m .settings .scale) k′ (length line) (lineOf line)
+    number = lineNo (m .settings .scale) k′ (length line) (meaningOf line)
 
     a : Asked
-    a = askedWith (m .settings .scale) k k′ (m .at) (lineOf line .words) number
+    a = askedWith (m .settings .scale) k k′ (m .at) (meaningOf line .words) number
 
     by : (sound : Bool) → FeedSmall (cond sound (takenOf k m a) (reads (Read.Refused 9) k m) .reader .feed)
     by true =
-        let after = feed-after (k .feed) (lineOf line .words .f) (line-writable line .f) h in
-        feed-taken k (a .reader) m h (feed-asked k k′ m h after (lineOf line .words) number) (a .asks)
+        let after = feed-after (k .feed) (meaningOf line .words .f) (line-writable line .f) h in
+        feed-taken k (a .reader) m h (feed-asked k k′ m h after (meaningOf line .words) number) (a .asks)
     by false = h
 
 -- ---- a line

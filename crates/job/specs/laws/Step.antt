@@ -16,7 +16,7 @@ use Rattle.listing.specs.Tally.{Gives, nextPlace, listedOf, readOf, bytesRead}
 use Rattle.listing.specs.laws.Read.{written, goes-on}
 use Rattle.job.specs.declared.Stage.{Stage}
 use Rattle.job.specs.declared.Check.{Check}
-use Rattle.words.specs.laws.Scan.{firstLine}
+use Rattle.words.specs.computed.Scan.{firstLine}
 use Rattle.words.specs.laws.FirstLine.{first-short}
 use Rattle.job.specs.Text.{linesOf}
 use Rattle.job.specs.Check.{rowsFrom, unless, restOf, lastOf, Steps}

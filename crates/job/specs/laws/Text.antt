@@ -7,7 +7,7 @@ use native.Mathlib.Omega.{arith}
 use lib.Dec.{eqb}
 use lib.ListN.{length, take, drop, length-drop}
 use lib.Seq.{take-length}
-use Rattle.words.specs.laws.Scan.{untilLf, firstLine}
+use Rattle.words.specs.computed.Scan.{untilLf, firstLine}
 use Rattle.job.specs.Text.{inFront, lineOr, linesOf}
 
 -- the slice from a place on

@@ -8,8 +8,9 @@ use lib.ListN.{length}
 use Rattle.plane.specs.declared.point.Point.{Point}
 use Rattle.letters.specs.declared.word.Words.{Words}
 use Rattle.words.specs.Meaning.{notWords}
-use Rattle.words.specs.laws.Scan.{lineOf, firstLine}
-use Rattle.words.specs.laws.Scanning.{line-broken}
+use Rattle.words.specs.computed.Meaning.{meaningOf}
+use Rattle.words.specs.computed.Scan.{firstLine}
+use Rattle.words.specs.laws.Meaning.{meaning-broken}
 use Rattle.reader.specs.declared.Reader.{Reader}
 use Rattle.reader.specs.declared.asked.ToLoad.{ToLoad}
 use Rattle.reader.specs.Reader.{readerAfter, lineNo}
@@ -25,9 +26,9 @@ abbrev pub brokenNo : (bytes : ℕ) → ℕ
 brokenNo bytes = cond (leb bytes 80) 32 31
 
 pub asked-broken : (p : ℕ) (k : Reader) (place : Point) (bytes : List ℕ) → length (firstLine bytes) < length bytes
-    → asked (ToLoad.Refused (brokenNo (length bytes))) k ≡ askedOf p k place (length bytes) (lineOf bytes)
+    → asked (ToLoad.Refused (brokenNo (length bytes))) k ≡ askedOf p k place (length bytes) (meaningOf bytes)
 unfolding askedOf lineNo
-asked-broken p k place bytes lf = rw (← line-broken bytes lf) (by (leb (length bytes) 80))
+asked-broken p k place bytes lf = rw (← meaning-broken bytes lf) (by (leb (length bytes) 80))
   where
     by : (short : Bool)
         → asked (ToLoad.Refused (cond short 32 31)) k

@@ -9,8 +9,8 @@ use mir.Syntax.{w64}
 use mir.Val.{SFits}
 use Rattle.whole.specs.laws.Sign.{signed-size}
 use Rattle.whole.specs.laws.Order.{abs-fits}
-use Rattle.words.specs.laws.Scan.{lineOf}
-use Rattle.words.specs.laws.Reading.{line-below}
+use Rattle.words.specs.computed.Meaning.{meaningOf}
+use Rattle.words.specs.laws.Meaning.{meaning-below}
 use Rattle.reader.specs.Reader.{pulsesOf, coordinate}
 use Rattle.letters.specs.declared.letter.Letter.the-variants.{F, X, Y, I, J}
 use Rattle.letters.specs.declared.word.Word.{Word}
@@ -45,14 +45,14 @@ pub record Writable (ws : Words) : Type 0 where
   pub j : ws .j .magnitude < 10 ^ 10
   pub f : ws .f .magnitude < 10 ^ 7
 
-pub line-writable : (bytes : List ℕ) → Writable (lineOf bytes .words)
+pub line-writable : (bytes : List ℕ) → Writable (meaningOf bytes .words)
 line-writable bytes =
     record {
-      x = omega (arith, line-below bytes X);
-      y = omega (arith, line-below bytes Y);
-      i = omega (arith, line-below bytes I);
-      j = omega (arith, line-below bytes J);
-      f = omega (arith, line-below bytes F);
+      x = omega (arith, meaning-below bytes X);
+      y = omega (arith, meaning-below bytes Y);
+      i = omega (arith, meaning-below bytes I);
+      j = omega (arith, meaning-below bytes J);
+      f = omega (arith, meaning-below bytes F);
     }
 
 -- they are small where p is one of the settings

@@ -7,8 +7,9 @@ use lib.ListN.{length}
 use Rattle.block.specs.declared.Block.{Block}
 use Rattle.words.specs.declared.line.Line.{Line}
 use Rattle.words.specs.Meaning.{Means}
-use Rattle.words.specs.laws.Scan.{lineOf}
-use Rattle.words.specs.laws.Reading.{line-means, means-unique}
+use Rattle.words.specs.computed.Meaning.{meaningOf}
+use Rattle.words.specs.laws.Meaning.{meaning-means}
+use Rattle.words.specs.laws.Reading.{means-unique}
 use Rattle.bench.specs.declared.Bench.{Bench}
 use Rattle.bench.specs.declared.Answer.{Answer}
 use Rattle.bench.specs.Bench.{soundOf}
@@ -25,7 +26,7 @@ pub read-means : (k : Reader) (m : Bench) (bytes : List ℕ) (l : Line) → Mean
     → readLineOf k m bytes
     ≡ cond (soundOf m) (takenOf k m (askedOf (m .settings .scale) k (m .at) (length bytes) l)) (reads (Read.Refused 9) k m)
 unfolding readLineOf
-read-means k m bytes l means = rw (means-unique bytes (lineOf bytes) l (line-means bytes) means)
+read-means k m bytes l means = rw (means-unique bytes (meaningOf bytes) l (meaning-means bytes) means)
 
 -- ---- the record after a line is the one before it, or that after a load: what holds of both holds of it
 
@@ -46,7 +47,7 @@ unfolding readLineOf
 read-either P k m bytes same load = by (soundOf m)
   where
     a : Asked
-    a = askedOf (m .settings .scale) k (m .at) (length bytes) (lineOf bytes)
+    a = askedOf (m .settings .scale) k (m .at) (length bytes) (meaningOf bytes)
 
     by : (sound : Bool) → P (cond sound (takenOf k m a) (reads (Read.Refused 9) k m) .bench)
     by true = takes-either P m same load k (a .reader) (a .asks)

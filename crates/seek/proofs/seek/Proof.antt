@@ -6,7 +6,7 @@ use mathlib.Core.List.{List}
 use Prim.Native.Nat.{ℕ, _+_, _-_, _≤_}
 use native.Mathlib.Omega.{arith}
 use lib.ListN.{length, drop, length-drop}
-use Rattle.words.specs.laws.Scan.{firstLine}
+use Rattle.words.specs.computed.Scan.{firstLine}
 use Rattle.words.specs.laws.FirstLine.{first-short}
 use Rattle.bench.specs.Bench.{soundOf}
 use Rattle.reader.specs.declared.«text_line».ReadLine.{ReadLine}

@@ -7,7 +7,7 @@ use native.Mathlib.Omega.{arith}
 use lib.ListN.{length, drop, length-drop, drop-of-length-le}
 use lib.Seq.{drop-drop}
 use borrow.Author.Tests.{le-leb, lt-leb}
-use Rattle.words.specs.laws.Scan.{firstLine}
+use Rattle.words.specs.computed.Scan.{firstLine}
 use Rattle.settings.specs.declared.Settings.{Settings}
 use Rattle.reader.specs.declared.«text_line».ReadLine.{ReadLine}
 use Rattle.reader.specs.TextLine.{readLineOf}

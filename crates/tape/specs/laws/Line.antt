@@ -10,7 +10,7 @@ use borrow.Author.Tests.{le-leb, lt-leb}
 use Rattle.bench.specs.declared.Bench.{Bench}
 use Rattle.reader.specs.declared.«text_line».ReadLine.{ReadLine}
 use Rattle.reader.specs.TextLine.{readLineOf}
-use Rattle.words.specs.laws.Scan.{firstLine}
+use Rattle.words.specs.computed.Scan.{firstLine}
 use Rattle.job.specs.Text.{linesOf}
 use Rattle.job.specs.Check.{unless}
 use Rattle.job.specs.laws.Text.{lines-next}

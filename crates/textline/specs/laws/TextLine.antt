@@ -7,8 +7,9 @@ use lib.ListN.{length}
 use Rattle.block.specs.declared.Block.{Block}
 use Rattle.words.specs.declared.line.Line.{Line}
 use Rattle.words.specs.Meaning.{Means}
-use Rattle.words.specs.laws.Scan.{lineOf}
-use Rattle.words.specs.laws.Reading.{line-means, means-unique}
+use Rattle.words.specs.computed.Meaning.{meaningOf}
+use Rattle.words.specs.laws.Meaning.{meaning-means}
+use Rattle.words.specs.laws.Reading.{means-unique}
 use Rattle.bench.specs.declared.Answer.{Answer}
 use Rattle.machine.specs.declared.Machine.{Machine}
 use Rattle.machine.specs.Machine.{soundOf, startOf}
@@ -26,7 +27,7 @@ pub read-means : (k : Reader) (m : Machine) (bytes : List ℕ) (l : Line) → Me
     readLineOf k m bytes
     ≡ cond (soundOf m) (takenOf k m (askedOf (m .bench .settings .scale) k start (length bytes) l)) (reads (Read.Refused 9) k m))
 unfolding readLineOf
-read-means k m bytes l means = rw (means-unique bytes (lineOf bytes) l (line-means bytes) means)
+read-means k m bytes l means = rw (means-unique bytes (meaningOf bytes) l (meaning-means bytes) means)
 
 -- ---- the record after a line is the one before it, or that after a load: what holds of both holds of it
 
@@ -47,7 +48,7 @@ unfolding readLineOf
 read-either P k m bytes same load = by (soundOf m)
   where
     a : Asked
-    a = askedOf (m .bench .settings .scale) k (startOf (m .bench) (m .queue)) (length bytes) (lineOf bytes)
+    a = askedOf (m .bench .settings .scale) k (startOf (m .bench) (m .queue)) (length bytes) (meaningOf bytes)
 
     by : (sound : Bool) → P (cond sound (takenOf k m a) (reads (Read.Refused 9) k m) .machine)
     by true = takes-either P m same load k (a .reader) (a .asks)

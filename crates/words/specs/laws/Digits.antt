@@ -15,7 +15,7 @@ use Rattle.letters.specs.Letter.{takesPoint, unitOf}
 use Rattle.words.specs.declared.digits.Digits.{Digits}
 use Rattle.words.specs.Grammar.{digitsText, AllDigits, PointRight}
 use Rattle.words.specs.Meaning.{number, magnitudeOf}
-use Rattle.words.specs.laws.Scan.{firstOf, isDigit, digits, pushOf, moreDigits, digitsOf}
+use Rattle.words.specs.computed.Scan.{firstOf, isDigit, digits, pushOf, moreDigits, digitsOf}
 
 -- ---- a byte that is a digit
 

@@ -8,7 +8,7 @@ use Rattle.letters.specs.declared.letter.Letter.the-variants.{N, G, F, X, Y, I,
 use Rattle.letters.specs.declared.word.Word.{Word}
 use Rattle.letters.specs.Word.{missingWord, oneWord, wordsBy}
 use Rattle.words.specs.Meaning.{answerOf}
-use Rattle.words.specs.laws.Scan.{lineOf}
+use Rattle.words.specs.computed.Scan.{lineOf}
 
 pub record Example : Type 0 where
   pub text : List ℕ

@@ -14,9 +14,9 @@ use Rattle.letters.specs.Letter.{takesSign, takesPoint}
 use Rattle.words.specs.declared.digits.Digits.{Digits}
 use Rattle.words.specs.declared.number.Sign.{Sign}
 use Rattle.words.specs.declared.number.Amount.{Amount}
-use Rattle.words.specs.laws.Scan.{untilLf, firstLine}
-use Rattle.words.specs.laws.Scan.{firstOf, isDigit, digits, pushOf, moreDigits, digitsOf}
-use Rattle.words.specs.laws.Scan.{sign, signOf, amount, pointedOf, amountAfter, amountWith, amountOf, signed, numberAfter, numberOf}
+use Rattle.words.specs.computed.Scan.{untilLf, firstLine}
+use Rattle.words.specs.computed.Scan.{firstOf, isDigit, digits, pushOf, moreDigits, digitsOf}
+use Rattle.words.specs.computed.Scan.{sign, signOf, amount, pointedOf, amountAfter, amountWith, amountOf, signed, numberAfter, numberOf}
 
 -- ---- its bytes
 

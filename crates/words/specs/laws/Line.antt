@@ -20,7 +20,7 @@ use Rattle.letters.specs.laws.Letter.{letter-of, letter-byte}
 use Rattle.words.specs.declared.line.Line.{Line}
 use Rattle.words.specs.Grammar.{Item, blank, word, lineText, RightLine, LineOfWords}
 use Rattle.words.specs.Meaning.{isMinus, magnitudeOf, answerOf, notWords}
-use Rattle.words.specs.laws.Scan.{numberOf, Next, on, nextOf, numberNext, follow, scanOf}
+use Rattle.words.specs.computed.Scan.{numberOf, Next, on, nextOf, numberNext, follow, scanOf}
 use Rattle.words.specs.laws.Number.{Ends, numberText, number-read, number-in}
 use Rattle.words.specs.laws.Words.{gather}
 

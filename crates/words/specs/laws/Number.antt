@@ -16,8 +16,8 @@ use Rattle.words.specs.declared.number.Number.{Number}
 use Rattle.words.specs.Grammar.{Sign, unsigned, plus, minus, signText, digitsText, decimalsText}
 use Rattle.words.specs.Grammar.{AllDigits, SignRight, PointRight, RightWord}
 use Rattle.words.specs.Meaning.{number, magnitudeOf, isMinus}
-use Rattle.words.specs.laws.Scan.{firstOf, isDigit, digits, digitsOf, sign, signOf}
-use Rattle.words.specs.laws.Scan.{amount, pointedOf, amountAfter, amountWith, amountOf, signed, numberAfter, numberOf}
+use Rattle.words.specs.computed.Scan.{firstOf, isDigit, digits, digitsOf, sign, signOf}
+use Rattle.words.specs.computed.Scan.{amount, pointedOf, amountAfter, amountWith, amountOf, signed, numberAfter, numberOf}
 use Rattle.words.specs.laws.Digits.{digits-in, digits-read, in-thousandths}
 
 -- ---- what is written is read

@@ -22,9 +22,9 @@ use Rattle.words.specs.declared.number.Sign.{Sign}
 use Rattle.words.specs.declared.number.Amount.{Amount}
 use Rattle.words.specs.declared.number.Number.{Number}
 use Rattle.words.specs.Meaning.{answerOf, notWords}
-use Rattle.words.specs.laws.Scan.{firstOf, isDigit, digits, pushOf, moreDigits, digitsOf, Sized}
-use Rattle.words.specs.laws.Scan.{sign, signOf, amount, pointedOf, amountAfter, amountOf, signed, numberOf}
-use Rattle.words.specs.laws.Scan.{numberNext, letterNext, nextOf, scanOf, lineOf}
+use Rattle.words.specs.computed.Scan.{firstOf, isDigit, digits, pushOf, moreDigits, digitsOf, Sized}
+use Rattle.words.specs.computed.Scan.{sign, signOf, amount, pointedOf, amountAfter, amountOf, signed, numberOf}
+use Rattle.words.specs.computed.Scan.{numberNext, letterNext, nextOf, scanOf, lineOf}
 use Rattle.words.specs.laws.Digits.{digit-byte, digits-stop, digits-full, digits-more}
 use Rattle.words.specs.laws.Line.{goOn, scan-skip}
 

@@ -19,7 +19,7 @@ use Rattle.letters.specs.laws.Put.{Gathered}
 use Rattle.letters.specs.Word.{oneWord}
 use Rattle.words.specs.declared.number.Number.{Number}
 use Rattle.words.specs.Meaning.{answerOf, notWords}
-use Rattle.words.specs.laws.Scan.{numberOf, on, numberNext, letterNext, nextOf, scanOf, lineOf, untilLf, firstLine}
+use Rattle.words.specs.computed.Scan.{numberOf, on, numberNext, letterNext, nextOf, scanOf, lineOf, untilLf, firstLine}
 use Rattle.words.specs.laws.Line.{goOn}
 use Rattle.words.specs.laws.Run.{Scanned, scanned-end, scanned-blank, scanned-other, scanned-wrong, scanned-word}
 use Rattle.words.specs.laws.FirstLine.{first-drop, first-more, end-later, number-first, number-short}

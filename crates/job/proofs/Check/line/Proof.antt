@@ -15,7 +15,7 @@ use Prim.Native.Nat.{ℕ, _+_, _≤_}
 use native.Mathlib.Omega.{arith}
 use lib.ListN.{length, drop}
 use Rattle.listing.specs.Tally.{Gives, readOf, bytesRead}
-use Rattle.words.specs.laws.Scan.{firstLine}
+use Rattle.words.specs.computed.Scan.{firstLine}
 use Rattle.job.specs.laws.Text.{slice-rest}
 use Rattle.job.specs.laws.Step.{step-long, step-total, step-refused, near, step-line}
 

@@ -27,7 +27,7 @@ use Rattle.row.specs.laws.Buffer.{refused-short}
 use Rattle.listing.specs.declared.Tally.{Tally}
 use Rattle.listing.specs.Tally.{Gives, countsRight, listedWith, readOf}
 use Rattle.listing.specs.laws.Counts.{counts}
-use Rattle.words.specs.laws.Scan.{firstLine}
+use Rattle.words.specs.computed.Scan.{firstLine}
 use Rattle.listing.specs.laws.Read.{placed-none, written, goes-on, no-room, with-room, not-listed, listed, no-line, last-line, next-line, block-on}
 
 roomy : (c : tie.Else1) → hasRoom (c .before .before .before .before .args .out .now) (c .before .before .before .before .args .at) ≡ true

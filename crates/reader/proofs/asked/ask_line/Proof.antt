@@ -5,7 +5,7 @@ use mathlib.Core.List.{List}
 use Prim.Native.Nat.{ℕ}
 use native.Mathlib.Omega.{arith}
 use lib.ListN.{length}
-use Rattle.words.specs.laws.Scan.{lineOf}
+use Rattle.words.specs.computed.Meaning.{meaningOf}
 use Rattle.words.specs.laws.Scanning.{first-whole}
 use Rattle.reader.specs.Asked.{askedOf}
 use Rattle.reader.specs.laws.Asked.{asked-broken}
@@ -34,7 +34,7 @@ returns-2 c =
     let f = c .before .before .before in
     let a = f .before .before .args in
     let same = first-whole (a .line .now) (omega (arith, f .ask-first .ensures .1)) in
-    f .ask-first .ensures .0 ∙ ap (λ (line : List ℕ). askedOf (a .scale) (a .k) (a .place) (length line) (lineOf line)) same
+    f .ask-first .ensures .0 ∙ ap (λ (line : List ℕ). askedOf (a .scale) (a .k) (a .place) (length line) (meaningOf line)) same
 
 pub ask-line-spec : {M : Type 1} → statement M
 ask-line-spec =

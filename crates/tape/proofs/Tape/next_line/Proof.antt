@@ -13,7 +13,7 @@ use Prim.Native.Nat.{ℕ, _+_, _≤_}
 use native.Mathlib.Omega.{arith}
 use lib.ListN.{length, drop, length-drop}
 use Rattle.reader.specs.TextLine.{readLineOf}
-use Rattle.words.specs.laws.Scan.{firstLine}
+use Rattle.words.specs.computed.Scan.{firstLine}
 use Rattle.words.specs.laws.FirstLine.{first-short}
 use Rattle.job.specs.laws.Text.{slice-rest}
 use Rattle.tape.specs.laws.Line.{next-long, next-none, next-refused, next-read}

@@ -7,8 +7,9 @@ use borrow.Author.Tests.{not-true, not-false}
 use lib.ListN.{length, drop, getD}
 use Rattle.letters.specs.laws.Sets.{index-below}
 use Rattle.letters.specs.laws.Put.{gathered-none, gathered-more, words-more}
-use Rattle.words.specs.laws.Scan.{firstLine}
+use Rattle.words.specs.computed.Scan.{firstLine}
 use Rattle.words.specs.laws.Run.{scanned-start}
+use Rattle.words.specs.laws.Meaning.{scan-means}
 use Rattle.words.specs.laws.FirstLine.{in-text, at-end}
 use Rattle.words.specs.laws.Scanning.{Scanning, line-left, line-over, inside, line-blank, line-other, line-wrong, line-word}
 use borrow.Author.Needs.{needs}
@@ -69,7 +70,8 @@ returns c =
     let t = o .before .before .before in
     let r = t .before .before .loop .inv .scanned in
     let other = sym (o .of-byte .ensures) ∙ c .before .enum-told .given .1 in
-    (c .refused .ensures .0 ∙ line-other (text t) r (on t .0) (on t .1) (o .before .if2 .taken) other, c .refused .ensures .1 ∙ ends t)
+    let answer = line-other (text t) r (on t .0) (on t .1) (o .before .if2 .taken) other ∙ scan-means (firstLine (text t)) in
+    (c .refused .ensures .0 ∙ answer, c .refused .ensures .1 ∙ ends t)
 
 read-requires : tie.Need-read-requires Inv-loop μ-loop
 read-requires c κs = let h = on (c .before .before .before .before .before .before) .0 in omega (arith, h)
@@ -86,7 +88,7 @@ returns-2 c =
     let r = t .before .before .loop .inv .scanned in
     let letter = sym (o .of-byte .ensures) ∙ l .named .given .1 in
     let wrong = line-wrong (text t) r (on t .0) (on t .1) (o .before .if2 .taken) _ letter (n .read .result) (n .read .ensures .0) in
-    (c .refused2 .ensures .0 ∙ wrong (not-true _ (c .before .if3 .taken)), c .refused2 .ensures .1 ∙ ends t)
+    (c .refused2 .ensures .0 ∙ wrong (not-true _ (c .before .if3 .taken)) ∙ scan-means (firstLine (text t)), c .refused2 .ensures .1 ∙ ends t)
 
 add-i-2 : tie.Need-add-i-2 Inv-loop μ-loop
 add-i-2 c = search needs
@@ -157,7 +159,7 @@ returns-3 c =
     let v = e .before .before .loop in
     let s = e .before .before .before .before .before .args .s .now in
     let over = line-over s (v .inv .scanned) (at-end s (v .i) (sym (e .before .in-line .ensures) ∙ e .if1 .left)) in
-    (c .formed .ensures ∙ over .0, over .1)
+    (c .formed .ensures ∙ over .0 ∙ scan-means (firstLine s), over .1)
 
 pub read-first-spec : {M : Type 1} → statement M
 read-first-spec =

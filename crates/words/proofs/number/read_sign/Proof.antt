@@ -6,7 +6,7 @@ use borrow.Author.Tests.{not-true, not-false}
 use lib.Dec.{eqb}
 use lib.ListN.{drop, length-drop}
 use Rattle.words.specs.declared.number.Sign.{Sign}
-use Rattle.words.specs.laws.Scan.{firstOf, sign, signOf}
+use Rattle.words.specs.computed.Scan.{firstOf, sign, signOf}
 use Rattle.words.specs.laws.Run.{one-most, sign-read}
 use Rattle.words.specs.laws.FirstLine.{sign-short}
 use borrow.Author.Needs.{needs}
