@@ -1,5 +1,6 @@
 -- What each call promises: its own contract, as the checker hands it to a caller (`Learnt`). So a history speaks of the code and of no
 -- model beside it.
+use mathlib.Core.Bool.{Bool, true}
 use mathlib.Core.List.{List}
 use Prim.Native.Nat.{ℕ}
 use denote.Ref.{RefT}
@@ -13,6 +14,7 @@ use Rattle.machine.specs.declared.Ran.{Ran}
 use Rattle.reader.specs.declared.Reader.{Reader}
 use Rattle.textline.specs.declared.ReadLine.{ReadLine}
 use Rattle.look.specs.declared.Ahead.{Ahead}
+use Rattle.machine.proofs.Machine.is_sound.Reads as sound-reads
 use Rattle.machine.proofs.Machine.make.Reads as make-reads
 use Rattle.machine.proofs.Machine.load.Reads as load-reads
 use Rattle.machine.proofs.Machine.tick.Reads as tick-reads
@@ -49,6 +51,13 @@ Stops m r = stop-reads.Learnt tt (m, tt) r (m, tt)
 -- read_line, at a reader and a record and lent the bytes of a line, may return r
 abbrev pub ReadsLine : Lfts 1 → Reader → Machine → RefT (List ℕ) → ReadLine → Type 0
 ReadsLine κs k m line r = line-reads.Learnt κs (k, (m, (line, tt))) r (k, (m, (line, tt)))
+
+-- is_sound, the code's own test of a record, may answer r; that it says so of 01's sound records alone is the claim `every_record`
+abbrev pub Tests : Machine → Bool → Type 0
+Tests m r = sound-reads.Learnt tt (m, tt) r (m, tt)
+
+abbrev pub PassesTest : Machine → Type 0
+PassesTest m = Tests m true
 
 -- look_ahead, on a record and a number of ticks, may return r
 abbrev pub Looks : Machine → (ticks : ℕ) → Ahead → Type 0

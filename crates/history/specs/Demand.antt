@@ -13,13 +13,12 @@ use Rattle.settings.specs.declared.Settings.{Settings}
 use Rattle.settings.specs.Settings.{capacityOf}
 use Rattle.machine.specs.declared.Machine.{Machine}
 use Rattle.machine.specs.declared.Answered.{Answered}
-use Rattle.machine.specs.Machine.{soundOf}
 use Rattle.book.specs.Book.{Book, Call, Reply, freshBook, figureOf, replies, closing}
 use Rattle.book.specs.Bounds.{OnWork}
 use Rattle.book.specs.Ledger.{Account, Right, Given, AcceptedThere, BeginsBelow, Counted, Every, accounts, inOrder, taken}
 use Rattle.book.specs.Sums.{pulsesSent, chargesSince, feedsSince}
 use Rattle.history.specs.Agree.{workOf}
-use Rattle.history.specs.Contracts.{Makes}
+use Rattle.history.specs.Contracts.{Makes, PassesTest}
 use Rattle.history.specs.History.{History, HasHistory}
 
 -- the book after the calls cs of a machine with the settings s
@@ -50,7 +49,7 @@ pub record AsDemanded (s : Settings) (cs : List Call) (rs : List Reply) (m : Mac
   pub figure : m .left ≡ figureOf (bookAfter s cs)
   -- 02 §3: "A sound record has this figure right, only waiting blocks that would be accepted in turn, and none waiting when nothing is in
   -- work."
-  pub sound : soundOf m ≡ true
+  pub sound : PassesTest m
   -- "On a line the point is at most half a pulse per axis from the exact point for the cycles done, and its squared distance from the line
   -- is at most one half. On an arc it is less than half a pulse from the circle." And it is the point that the arc's walk has reached after
   -- the cycles done.

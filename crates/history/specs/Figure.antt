@@ -8,21 +8,21 @@ use denote.Ref.{RefT}
 use contract.Lifetimes.{Lfts}
 use Rattle.queue.specs.Queue as queue
 use Rattle.machine.specs.declared.Machine.{Machine}
-use Rattle.machine.specs.Machine.{toDo, soundOf}
+use Rattle.machine.specs.Machine.{toDo}
 use Rattle.reader.specs.declared.Reader.{Reader}
 use Rattle.textline.specs.declared.ReadLine.{ReadLine}
 use Rattle.look.specs.declared.Ahead.{Ahead}
 use Rattle.book.specs.Book.{Call, Reply}
-use Rattle.history.specs.Contracts.{ReadsLine, Looks}
+use Rattle.history.specs.Contracts.{PassesTest, ReadsLine, Looks}
 use Rattle.history.specs.History.{History}
 
 pub record FigureRight (m : Machine) : Type 0 where
   pub afresh : m .left ≡ toDo (m .bench .at) (m .bench .work) (queue.waiting (m .queue))
   -- and the next call finds a sound record too
-  pub sound : soundOf m ≡ true
+  pub sound : PassesTest m
 
 pub record EveryFigure : Type 0 where
-  pub calls : (m : Machine) → soundOf m ≡ true → (cs : List Call) (rs : List Reply) (m′ : Machine) → History m cs rs m′ → FigureRight m′
+  pub calls : (m : Machine) → PassesTest m → (cs : List Call) (rs : List Reply) (m′ : Machine) → History m cs rs m′ → FigureRight m′
   pub line : (κs : Lfts 1) (k : Reader) (m : Machine) (bytes : RefT (List ℕ)) (r : ReadLine) → ReadsLine κs k m bytes r
-      → soundOf m ≡ true → FigureRight (r .machine)
-  pub look : (m : Machine) (ticks : ℕ) (r : Ahead) → Looks m ticks r → soundOf m ≡ true → FigureRight (r .then) × FigureRight (r .machine)
+      → PassesTest m → FigureRight (r .machine)
+  pub look : (m : Machine) (ticks : ℕ) (r : Ahead) → Looks m ticks r → PassesTest m → FigureRight (r .then) × FigureRight (r .machine)

@@ -10,12 +10,11 @@ use Rattle.settings.specs.declared.Settings.{Settings}
 use Rattle.bench.specs.declared.Answer.{Answer}
 use Rattle.machine.specs.declared.Machine.{Machine}
 use Rattle.machine.specs.declared.Answered.{Answered}
-use Rattle.machine.specs.Machine.{soundOf}
 use Rattle.book.specs.Book.{Call, Reply}
 use Rattle.book.specs.Sums.{pulsesSent}
 use Rattle.look.specs.declared.Ahead.{Ahead}
 use Rattle.look.specs.Look.{mostTicks}
-use Rattle.history.specs.Contracts.{Makes, Looks}
+use Rattle.history.specs.Contracts.{PassesTest, Makes, Looks}
 use Rattle.history.specs.History.{History}
 use Rattle.history.specs.Demand.{AsDemanded}
 
@@ -35,7 +34,7 @@ pub record Foretold (m : Machine) (r : Ahead) (rs : List Reply) (m′ : Machine)
 -- "a look-ahead of up to 1,000,000 ticks"
 pub record EveryLook : Type 0 where
   -- from any sound record it tells what so many ticks give
-  pub ticks : (m : Machine) → soundOf m ≡ true → (n : ℕ) → n ≤ mostTicks → (r : Ahead) → Looks m n r
+  pub ticks : (m : Machine) → PassesTest m → (n : ℕ) → n ≤ mostTicks → (r : Ahead) → Looks m n r
       → (rs : List Reply) (m′ : Machine) → History m (onlyTicks n) rs m′ → Foretold m r rs m′
   -- after any history these are so many more ticks of it; so all that demand 3 says of a history's record, its bounds too, holds of the
   -- record ahead

@@ -68,7 +68,7 @@ foretold m sound n most r look rs m′ more =
 pub every-look : EveryLook
 every-look =
     record {
-      ticks = foretold;
+      ticks = λ m p. foretold m (sym p);
       history = λ asked made h cs before m t n most r look rs m′ more.
           let f = foretold m (stays-sound t (rw h (make-keeps asked))) n most r look rs m′ more in
           (f, rw (f .then) (every-history asked made h (cs ++ onlyTicks n) (before ++ rs) m′ (joined t more)));
