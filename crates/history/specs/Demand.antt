@@ -2,7 +2,6 @@
 -- from a machine made fresh, each call getting the record that the one before returned, all this holds after it." With 02 §3, Sixteen
 -- blocks waiting.
 use mathlib.Core.Path.{_≡_}
-use mathlib.Core.Bool.{true}
 use mathlib.Core.List.{List}
 use Prim.Native.Nat.{_+_, _*_}
 use Rattle.plane.specs.Byte.{codeX, codeY}

@@ -1,7 +1,6 @@
 -- 02 §3: "The record keeps the cycles still to do over the block in work and all waiting. After every call on a sound record this figure
 -- equals the count made afresh.", on any sound one, made-up ones too: after any calls of a history, a text line, and ahead of any ticks.
 use mathlib.Core.Path.{_≡_}
-use mathlib.Core.Bool.{true}
 use mathlib.Core.List.{List}
 use Prim.Native.Nat.{ℕ}
 use denote.Ref.{RefT}

@@ -1,7 +1,6 @@
 -- 02 §1, Where will it be?: "It gives the record and the signed pulse sum per axis that the same ticks would give on a copy. The machine
 -- itself comes back unchanged." What it refuses is in crate demands.
 use mathlib.Core.Path.{_≡_}
-use mathlib.Core.Bool.{true}
 use mathlib.Core.List.{List, [], _∷_, _++_}
 use Prim.Native.Nat.{ℕ, zero, suc, _+_, _≤_}
 use lib.IntN.{_+ℤ_, _-ℤ_}

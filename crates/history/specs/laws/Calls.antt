@@ -17,7 +17,7 @@ use Rattle.work.specs.declared.Work.{Work}
 use Rattle.work.specs.Work.{isNothing, begunOf}
 use Rattle.run.specs.Run.{written}
 use Rattle.settings.specs.declared.Settings.{Settings}
-use Rattle.settings.specs.Settings.{capacityOf, settingsNo}
+use Rattle.settings.specs.Settings.{capacityOf}
 use Rattle.bench.specs.declared.Bench.{Bench}
 use Rattle.bench.specs.Bench.{movedOf}
 use Rattle.bench.specs.Run.{runOf as benchRun}
@@ -33,7 +33,8 @@ use Rattle.book.specs.laws.Sound.{Sound, benchOf}
 use Rattle.book.specs.laws.Ticking.{tick-does, run-does, end-stays}
 use Rattle.history.specs.Agree.{workOf, benchTold, recordOf}
 use Rattle.history.specs.Reply.{answerReply, tickReply, runReply}
-use Rattle.history.specs.laws.Record.{Follows, always-working, same-end, told-sound}
+use Rattle.machine.specs.laws.Right.{sound}
+use Rattle.history.specs.laws.Record.{Follows, always-working, same-end}
 use Rattle.history.specs.laws.Next.{begun-is, next-is}
 use Rattle.history.specs.laws.Tick.{tick-is}
 use Rattle.history.specs.laws.Run.{first-bytes, run-is}
@@ -59,12 +60,9 @@ module _ (s : Settings) (k : Block) where
       rw (always-working j (j .block .path), start)
       (ap (machineOf (benchTold s (benchOf at mark r (InWork.working j)))) (push-queue (j .block .end) l k (ltb-true (length l) 16 room)))
 
-module _ (s : Settings) (passed : settingsNo s ≡ 0) (b : Book) (i : Sound (capacityOf s) (s .travel) b) where
+module _ (s : Settings) (b : Book) (i : Sound (capacityOf s) (s .travel) b) (e : soundOf (recordOf s b) ≡ true) where
   abbrev answersAs : Call → Answered → Type 0
   answersAs c r = Follows s (entry (capacityOf s) (s .travel) b c) (answerReply (r .answer)) (r .machine)
-
-  sound : soundOf (recordOf s b) ≡ true
-  sound = told-sound s passed b i
 
   -- the block starts from the same place
   start-is : startOf (benchTold s (b .bench)) (queueOf (workEnd (b .bench)) (b .waiting)) ≡ bookStart b
@@ -84,7 +82,7 @@ module _ (s : Settings) (passed : settingsNo s ≡ 0) (b : Book) (i : Sound (cap
 
   pub load-follows : (k : Block) → answersAs (Call.load k) (loadOf (recordOf s b) k)
   unfolding loadOf loadEntry queueOf machineOf
-  load-follows k = rw (sound, start-is) (load-by k (loadNo (capacityOf s) (s .travel) (hasRoom b) (bookStart b) k) refl)
+  load-follows k = rw (e, start-is) (load-by k (loadNo (capacityOf s) (s .travel) (hasRoom b) (bookStart b) k) refl)
 
   -- ---- tick and run: the bench's, and then the next block
 
@@ -102,7 +100,7 @@ module _ (s : Settings) (passed : settingsNo s ≡ 0) (b : Book) (i : Sound (cap
   unfolding tickOf machineOf
   tick-follows =
       let does = tick-does (capacityOf s) (s .travel) b (i .bench) in
-      rw (sound, tick-is s passed (b .bench) (i .bench))
+      rw (e, tick-is s (b .bench) (i .bench) (sound (recordOf s b) e .bench))
       (record {
         says = refl;
         leads = next-follows (benchTick (capacityOf s) (b .bench) .after) refl (end-stays (capacityOf s) (s .travel) does refl);
@@ -118,9 +116,9 @@ module _ (s : Settings) (passed : settingsNo s ≡ 0) (b : Book) (i : Sound (cap
       let r = benchRun k budget (length out) in
       let bytes : take (r .ran .ticks) (written (r .bytes) out) ≡ r .bytes =
       rw (ticks-are k budget (length out)) (first-bytes (r .bytes) out) in
-      let told = run-is s passed budget (length out) (b .bench) (i .bench) in
+      let told = run-is s budget (length out) (b .bench) (i .bench) (sound (recordOf s b) e .bench) in
       let does = run-does (capacityOf s) (s .travel) b budget (length out) (i .bench) in
-      rw (sound, bytes)
+      rw (e, bytes)
       (record {
         says = told .says;
         leads = next-follows (bookRun (capacityOf s) (b .bench) budget (length out) .after) (told .leaves)
@@ -131,14 +129,14 @@ module _ (s : Settings) (passed : settingsNo s ≡ 0) (b : Book) (i : Sound (cap
 
   pub hold-follows : answersAs Call.hold (holdOf (recordOf s b))
   unfolding holdOf machineOf
-  hold-follows = rw sound (record { says = refl; leads = refl })
+  hold-follows = rw e (record { says = refl; leads = refl })
 
   pub release-follows : answersAs Call.release (releaseOf (recordOf s b))
   unfolding releaseOf machineOf
-  release-follows = rw sound (record { says = refl; leads = refl })
+  release-follows = rw e (record { says = refl; leads = refl })
 
   pub stop-follows : answersAs Call.stop (stopOf (recordOf s b))
   unfolding stopOf machineOf movedOf
   stop-follows =
       let k = benchOf (b .bench .at) (b .bench .mark) 0 InWork.nothing in
-      rw sound (record { says = refl; leads = ap (machineOf (benchTold s k)) (empty-queue (b .bench .at)) })
+      rw e (record { says = refl; leads = ap (machineOf (benchTold s k)) (empty-queue (b .bench .at)) })

@@ -11,8 +11,8 @@ use Rattle.plane.specs.declared.travel.Travel.{Travel}
 use Rattle.work.specs.Work.{isNothing}
 use Rattle.run.specs.Run.{Strip, inFront, stripOf, written}
 use Rattle.settings.specs.declared.Settings.{Settings}
-use Rattle.settings.specs.Settings.{capacityOf, settingsNo}
-use Rattle.bench.specs.Bench.{movedOf}
+use Rattle.settings.specs.Settings.{capacityOf}
+use Rattle.bench.specs.Bench.{soundOf, movedOf}
 use Rattle.bench.specs.Run.{Run, reportOf, runOf}
 use Rattle.book.specs.Bench.{Job, InWork, Ticked, Ran, benchTick, strip, benchRun, isNothing as idle, Bench as BookBench}
 use Rattle.book.specs.Bench.{Strip as BookStrip, inFront as bookInFront, reportOf as bookReport}
@@ -21,7 +21,7 @@ use Rattle.book.specs.laws.Sound.{BenchSound, benchOf}
 use Rattle.book.specs.laws.Ticking.{tick-kept}
 use Rattle.history.specs.Agree.{workOf, benchTold}
 use Rattle.history.specs.Reply.{runReply}
-use Rattle.history.specs.laws.Record.{always-working, bench-sound}
+use Rattle.history.specs.laws.Record.{always-working}
 use Rattle.history.specs.laws.Tick.{advanceTold, advance-is, mark-kept}
 
 -- what the ticks of the book do, in the words of what is in work
@@ -82,26 +82,23 @@ pub record RunTold (s : Settings) (k : Run) (b : Ran) : Type 0 where
   pub says : runReply (k .ran .report) (k .ran .ticks) (k .bytes) ≡ Reply.ran (b .report) (length (b .codes)) (b .codes)
   pub leaves : k .ran .bench ≡ benchTold s (b .after)
 
-module _ (s : Settings) (passed : settingsNo s ≡ 0) (budget buffer : ℕ) where
+module _ (s : Settings) (budget buffer : ℕ) where
   abbrev Matches : BookBench → Type 0
   Matches k = RunTold s (runOf (benchTold s k) budget buffer) (benchRun (capacityOf s) k budget buffer)
 
   run-parts : (at : Point) (mark : Bool) (r : ℕ) (w : InWork) → BenchSound (capacityOf s) (s .travel) (benchOf at mark r w)
-      → Matches (benchOf at mark r w)
+      → soundOf (benchTold s (benchOf at mark r w)) ≡ true → Matches (benchOf at mark r w)
   unfolding runOf benchRun movedOf
-  run-parts at mark r InWork.nothing i =
-      rw (bench-sound s passed (benchOf at mark r InWork.nothing) i) (record { says = refl; leaves = refl })
-  run-parts at true r (InWork.working j) i =
-      rw (bench-sound s passed (benchOf at true r (InWork.working j)) i, always-working j (j .block .path))
-      (record { says = refl; leaves = refl })
-  run-parts at false r (InWork.working j) i =
+  run-parts at mark r InWork.nothing i e = rw e (record { says = refl; leaves = refl })
+  run-parts at true r (InWork.working j) i e = rw (e, always-working j (j .block .path)) (record { says = refl; leaves = refl })
+  run-parts at false r (InWork.working j) i e =
       let k = strip (capacityOf s) (min budget buffer) (benchOf at false r (InWork.working j)) in
       let m = same (capacityOf s) (s .travel) (min budget buffer) at r j i in
-      rw (bench-sound s passed (benchOf at false r (InWork.working j)) i, always-working j (j .block .path), m .strip-is)
+      rw (e, always-working j (j .block .path), m .strip-is)
       (record {
         says = report-is (k .ended) (leb budget (length (k .codes))) (length (k .codes)) (k .codes);
         leaves = rw (m .mark-is);
       })
 
-  pub run-is : (k : BookBench) → BenchSound (capacityOf s) (s .travel) k → Matches k
-  run-is k i = run-parts (k .at) (k .mark) (k .remainder) (k .work) i
+  pub run-is : (k : BookBench) → BenchSound (capacityOf s) (s .travel) k → soundOf (benchTold s k) ≡ true → Matches k
+  run-is k i e = run-parts (k .at) (k .mark) (k .remainder) (k .work) i e

@@ -28,16 +28,16 @@ use Rattle.work.specs.declared.Cycle.{Cycle}
 use Rattle.work.specs.declared.Advance.{Advance}
 use Rattle.work.specs.Work.{following, lineCycle, arcCycle, cycleOf, feedOf, chargeOf, advanceBy, advanceOf}
 use Rattle.settings.specs.declared.Settings.{Settings}
-use Rattle.settings.specs.Settings.{capacityOf, settingsNo}
+use Rattle.settings.specs.Settings.{capacityOf}
 use Rattle.bench.specs.declared.Tick.{Tick}
 use Rattle.bench.specs.declared.Ticked.{Ticked as BenchTicked}
-use Rattle.bench.specs.Bench.{movedOf}
+use Rattle.bench.specs.Bench.{soundOf, movedOf}
 use Rattle.bench.specs.Calls.{ticks, tickOf}
 use Rattle.book.specs.Bench.{Job, InWork, Ticked, addedBy, jobDue, cycleTick, fedTick, benchTick, Bench as BookBench}
 use Rattle.book.specs.laws.Sound.{JobSound, BenchSound, benchOf}
 use Rattle.book.specs.laws.Here.{Here, ArcHere, after-one, job-here}
 use Rattle.history.specs.Agree.{workAlong, workOf, benchTold}
-use Rattle.history.specs.laws.Record.{always-working, bench-sound}
+use Rattle.history.specs.laws.Record.{always-working}
 
 -- the block in work with one cycle more
 abbrev onward : Job → Job
@@ -136,7 +136,7 @@ module _ (q0 : ℕ) (t : Travel) (at : Point) (r : ℕ) (j : Job) where
       by f true e = rw e
       by f false e = rw e
 
-module _ (s : Settings) (passed : settingsNo s ≡ 0) where
+module _ (s : Settings) where
   abbrev q : ℕ
   q = capacityOf s
 
@@ -144,18 +144,15 @@ module _ (s : Settings) (passed : settingsNo s ≡ 0) where
   told k = ticks (Tick.Byte (k .code)) (benchTold s (k .after))
 
   tick-parts : (at : Point) (mark : Bool) (r : ℕ) (w : InWork)
-      → (let k = benchOf at mark r w in BenchSound q (s .travel) k → tickOf (benchTold s k) ≡ told (benchTick q k))
+      → (let k = benchOf at mark r w in
+      BenchSound q (s .travel) k → soundOf (benchTold s k) ≡ true → tickOf (benchTold s k) ≡ told (benchTick q k))
   unfolding tickOf benchTick movedOf
-  tick-parts at true r InWork.nothing i = rw (bench-sound s passed (benchOf at true r InWork.nothing) i)
-  tick-parts at false r InWork.nothing i = rw (bench-sound s passed (benchOf at false r InWork.nothing) i)
-  tick-parts at true r (InWork.working j) i = rw (bench-sound s passed (benchOf at true r (InWork.working j)) i)
-  tick-parts at false r (InWork.working j) i =
-      rw (
-        bench-sound s passed (benchOf at false r (InWork.working j)) i,
-        always-working j (j .block .path),
-        advance-is q (s .travel) at r j (i .work),
-        mark-kept q (s .travel) at r j,
-      )
+  tick-parts at true r InWork.nothing i e = rw e
+  tick-parts at false r InWork.nothing i e = rw e
+  tick-parts at true r (InWork.working j) i e = rw e
+  tick-parts at false r (InWork.working j) i e =
+      rw (e, always-working j (j .block .path), advance-is q (s .travel) at r j (i .work), mark-kept q (s .travel) at r j)
 
-  pub tick-is : (k : BookBench) → BenchSound q (s .travel) k → tickOf (benchTold s k) ≡ told (benchTick q k)
-  tick-is k i = tick-parts (k .at) (k .mark) (k .remainder) (k .work) i
+  pub tick-is : (k : BookBench) → BenchSound q (s .travel) k → soundOf (benchTold s k) ≡ true
+      → tickOf (benchTold s k) ≡ told (benchTick q k)
+  tick-is k i e = tick-parts (k .at) (k .mark) (k .remainder) (k .work) i e
