@@ -92,27 +92,27 @@ abbrev pub loaded : Book → Block → (number : ℕ) → Entry
 loaded b k zero = answers (width (blockWidth (startOf b) k)) (settled (b .bench) (b .waiting ++ (k ∷ [])))
 loaded b k (suc n) = answers (refused (suc n)) b
 
+unfoldable pub loadEntry : (q0 : ℕ) → Travel → Book → Block → Entry
+loadEntry q0 travel b k = loaded b k (loadNo q0 travel (hasRoom b) (startOf b) k)
+
+-- ---- tick and run: the tick that ends a block brings in the next and does nothing for it, "and a run still stops there"
+
+abbrev pub tickEntry : (q0 : ℕ) → Book → Entry
+tickEntry q0 b = let t = benchTick q0 (b .bench) in answers (byte (t .code)) (settled (t .after) (b .waiting))
+
+-- "It answers their number and the report, and its tick bytes are theirs."
+abbrev pub runEntry : (q0 : ℕ) → Book → (budget buffer : ℕ) → Entry
+runEntry q0 b budget buffer =
+    let r = benchRun q0 (b .bench) budget buffer in
+    answers (ran (r .report) (length (r .codes)) (r .codes)) (settled (r .after) (b .waiting))
+
+-- ---- the whole history
+
 module _ (q0 : ℕ) (travel : Travel) where
-  unfoldable pub loadEntry : Book → Block → Entry
-  loadEntry b k = loaded b k (loadNo q0 travel (hasRoom b) (startOf b) k)
-
-  -- ---- tick and run: the tick that ends a block brings in the next and does nothing for it, "and a run still stops there"
-
-  abbrev pub tickEntry : Book → Entry
-  tickEntry b = let t = benchTick q0 (b .bench) in answers (byte (t .code)) (settled (t .after) (b .waiting))
-
-  -- "It answers their number and the report, and its tick bytes are theirs."
-  abbrev pub runEntry : Book → (budget buffer : ℕ) → Entry
-  runEntry b budget buffer =
-      let r = benchRun q0 (b .bench) budget buffer in
-      answers (ran (r .report) (length (r .codes)) (r .codes)) (settled (r .after) (b .waiting))
-
-  -- ---- the whole history
-
   abbrev pub entry : Book → Call → Entry
-  entry b (load k) = loadEntry b k
-  entry b tick = tickEntry b
-  entry b (run budget buffer) = runEntry b budget buffer
+  entry b (load k) = loadEntry q0 travel b k
+  entry b tick = tickEntry q0 b
+  entry b (run budget buffer) = runEntry q0 b budget buffer
   entry b hold = marked true b
   entry b release = marked false b
   entry b stop = stopped b

@@ -84,7 +84,7 @@ module _ (q0 : ℕ) (t : Travel) where
 
   pub run-is-ticks : (b : Book) (older : List Account) (budget buffer : ℕ) → Sound q0 t b
       → Agree q0 (b .bench .remainder) (b .bench .work) older
-      → Same b older (Call.run budget buffer) (length (tickBytes (runEntry q0 t b budget buffer .reply)))
+      → Same b older (Call.run budget buffer) (length (tickBytes (runEntry q0 b budget buffer .reply)))
   unfolding benchRun feedsSince ledger
   run-is-ticks b older budget buffer s h =
       let k = b .bench in by (k .at) (k .mark) (k .remainder) (k .work) (b .waiting) older (s .bench) (s .none) h
@@ -92,7 +92,7 @@ module _ (q0 : ℕ) (t : Travel) where
       by : (at : Point) (mark : Bool) (r : ℕ) (w : InWork) (l : List Block) (older : List Account) → BenchSound q0 t (benchOf at mark r w)
           → (isNothing w ≡ true → l ≡ []) → Agree q0 r w older
           → (let b : Book = record { bench = benchOf at mark r w; waiting = l } in
-          Same b older (Call.run budget buffer) (length (tickBytes (runEntry q0 t b budget buffer .reply))))
+          Same b older (Call.run budget buffer) (length (tickBytes (runEntry q0 b budget buffer .reply))))
       by at mark r InWork.nothing [] older s alone h = record { feeds = λ before. omega arith; accounts = untouched q0 _ older h }
       by at mark r InWork.nothing (x ∷ l) older s alone h = absurd (cons≢nil (alone refl))
       by at mark r (InWork.working j) l [] s alone h = absurd h

@@ -75,13 +75,13 @@ module _ (q0 : ℕ) (t : Travel) where
 
   -- a run's bytes, and the book that it leaves, are those of its ticks
   pub run-ticks : (b : Book) (budget buffer : ℕ) → Sound q0 t b
-      → (let e = runEntry q0 t b budget buffer in OneByOne b (tickBytes (e .reply)) (e .next))
+      → (let e = runEntry q0 b budget buffer in OneByOne b (tickBytes (e .reply)) (e .next))
   unfolding benchRun settled
   run-ticks b budget buffer s = by (b .bench .at) (b .bench .mark) (b .bench .remainder) (b .bench .work) (b .waiting) (s .none)
     where
       by : (at : Point) (mark : Bool) (r : ℕ) (w : InWork) (l : List Block) → (isNothing w ≡ true → l ≡ [])
           → (let b : Book = record { bench = benchOf at mark r w; waiting = l } in
-          let e = runEntry q0 t b budget buffer in
+          let e = runEntry q0 b budget buffer in
           OneByOne b (tickBytes (e .reply)) (e .next))
       by at mark r InWork.nothing [] alone = none _
       by at mark r InWork.nothing (x ∷ l) alone = absurd (cons≢nil (alone refl))
@@ -125,7 +125,7 @@ module _ (q0 : ℕ) (t : Travel) where
     working-run : (budget buffer : ℕ) (l : List Block)
         → (let k = benchOf at false r (InWork.working j) in
         let most = min budget buffer in
-        runEntry q0 t (record { bench = k; waiting = l }) budget buffer .reply
+        runEntry q0 (record { bench = k; waiting = l }) budget buffer .reply
         ≡ Reply.ran (reportOf (leb (jobTicksLeft q0 r j) most) (leb budget buffer)) (min most (jobTicksLeft q0 r j))
         (strip q0 most k .codes))
     unfolding benchRun
@@ -174,14 +174,14 @@ module _ (q0 : ℕ) (t : Travel) where
     -- full, the first that is true"
     pub run-report : (budget buffer : ℕ)
         → (let most = min budget buffer in
-        runEntry q0 t b budget buffer .reply
+        runEntry q0 b budget buffer .reply
         ≡ Reply.ran (reportOf (leb left most) (leb budget buffer)) (min most left) (strip q0 most (b .bench) .codes))
     run-report budget buffer =
         let most = min budget buffer in
         let k = b .bench in
         subst₂ (λ (m : Bool) (w : InWork).
         let now = benchOf (k .at) m (k .remainder) w in
-        runEntry q0 t (record { bench = now; waiting = b .waiting }) budget buffer .reply
+        runEntry q0 (record { bench = now; waiting = b .waiting }) budget buffer .reply
         ≡ Reply.ran (reportOf (leb left most) (leb budget buffer)) (min most left) (strip q0 most now .codes))
         (sym free) (sym work) (working-run (k .at) (k .remainder) j job-sound job-below budget buffer (b .waiting))
 
