@@ -8,7 +8,7 @@ use Rattle.plane.specs.declared.point.Point.{Point}
 use Rattle.circle.specs.declared.plane.Turn.{Turn}
 use Rattle.block.specs.declared.Block.{Block}
 use Rattle.block.specs.declared.Path.{Path}
-use Rattle.block.specs.Questions.{ask}
+use Rattle.whole.specs.Ask.{ask}
 use Rattle.letters.specs.declared.word.Word.{Word}
 use Rattle.letters.specs.declared.word.Words.{Words}
 use Rattle.words.specs.declared.line.Line.{Line}

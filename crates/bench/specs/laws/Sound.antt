@@ -17,7 +17,7 @@ use Rattle.arc.specs.laws.Work.{travel-near}
 use Rattle.block.specs.declared.Block.{Block}
 use Rattle.block.specs.declared.Path.{Path}
 use Rattle.block.specs.Questions.{feedRight, pathNo, loadNo}
-use Rattle.block.specs.laws.Asked.{answered}
+use Rattle.whole.specs.laws.Ask.{answered}
 use Rattle.line.specs.Line.{incrementX, incrementY, shortOf}
 use Rattle.work.specs.declared.Work.{Work}
 use Rattle.work.specs.Work.{Ready, Loadable, isNothing, workSound}

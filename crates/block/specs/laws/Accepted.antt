@@ -22,7 +22,7 @@ use Rattle.block.specs.declared.Path.{Path}
 use Rattle.block.specs.Block.{arcOf, cyclesAlong, blockCycles}
 use Rattle.block.specs.Questions.{offsetRight, feedRight, pathNo, loadNo}
 use Rattle.block.specs.Chain.{Accepted}
-use Rattle.block.specs.laws.Asked.{answered}
+use Rattle.whole.specs.laws.Ask.{answered}
 use Rattle.block.specs.laws.Begin.{begins}
 
 -- the questions 11 to 16, each answered by yes

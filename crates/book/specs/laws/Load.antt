@@ -20,7 +20,7 @@ use Rattle.block.specs.declared.Path.{Path}
 use Rattle.block.specs.Block.{arcOf}
 use Rattle.block.specs.Questions.{pathNo, loadNo}
 use Rattle.block.specs.laws.Accepted.{yes}
-use Rattle.block.specs.laws.Asked.{answered}
+use Rattle.whole.specs.laws.Ask.{answered}
 use Rattle.block.specs.laws.Begin.{OffsetRight, offset-right, start-on}
 use Rattle.book.specs.laws.Way.{PathRight}
 

@@ -13,7 +13,8 @@ use contract.Lifetimes.{Lfts}
 use Rattle.whole.specs.laws.Test.{both, joined}
 use Rattle.plane.specs.declared.point.Point.{Point}
 use Rattle.block.specs.declared.Block.{Block}
-use Rattle.block.specs.Questions.{ask, loadNo}
+use Rattle.whole.specs.Ask.{ask}
+use Rattle.block.specs.Questions.{loadNo}
 use Rattle.settings.specs.declared.Settings.{Settings}
 use Rattle.settings.specs.Settings.{capacityOf}
 use Rattle.machine.specs.declared.Machine.{Machine}

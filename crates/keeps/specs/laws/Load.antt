@@ -18,7 +18,7 @@ use Rattle.block.specs.declared.Block.{Block}
 use Rattle.block.specs.declared.Path.{Path}
 use Rattle.block.specs.Block.{arcOf}
 use Rattle.block.specs.Questions.{offsetRight, pathNo}
-use Rattle.block.specs.laws.Asked.{answered}
+use Rattle.whole.specs.laws.Ask.{answered}
 use Rattle.block.specs.laws.Begin.{begins}
 use Rattle.work.specs.Work.{workSound, workAlong, Loadable}
 use Rattle.work.specs.laws.Sound.{Feed, line-sound, arc-sound}

@@ -12,7 +12,7 @@ use Rattle.plane.specs.Travel.{withinOf}
 use Rattle.plane.specs.laws.Travel.{Within, Inside, within}
 use Rattle.arc.specs.Centre.{Wide}
 use Rattle.arc.specs.laws.Work.{axis-near}
-use Rattle.block.specs.laws.Asked.{answered}
+use Rattle.whole.specs.laws.Ask.{answered}
 use Rattle.settings.specs.declared.Settings.{Settings}
 use Rattle.settings.specs.Settings.{inRange, axisRight, travelRight, settingsNo, standardSettings}
 
