@@ -8,11 +8,13 @@ use Rattle.whole.specs.Ask.{ask}
 use Rattle.plane.specs.declared.point.Point.{Point}
 use Rattle.plane.specs.declared.travel.Travel.{Travel}
 use Rattle.plane.specs.Travel.{insideOf, visitsInside}
+use Rattle.plane.specs.Point.{Near}
+use Rattle.plane.specs.computed.Travel.{Wide}
 use Rattle.circle.specs.declared.plane.Offset.{Offset}
 use Rattle.circle.specs.Circle.{onCircle}
 use Rattle.line.specs.Line.{differ}
 use Rattle.arc.specs.declared.arc.Arc.{Arc}
-use Rattle.arc.specs.Centre.{Near, Wide, seenFrom}
+use Rattle.arc.specs.Centre.{seenFrom}
 use Rattle.arc.specs.Arc.{arcAfter, arcCycles}
 use Rattle.block.specs.declared.Block.{Block}
 use Rattle.block.specs.declared.Path.{Path}

@@ -5,7 +5,7 @@ use Prim.Native.Nat.{ℕ, _+_, _-_, _*_, _^_, _<_}
 use lib.Dec.{eqb}
 use Rattle.plane.specs.declared.point.Point.{Point}
 use Rattle.plane.specs.declared.travel.Travel.{Travel}
-use Rattle.plane.specs.Point.{equalPoint}
+use Rattle.plane.specs.Point.{equalPoint, Near}
 use Rattle.plane.specs.Travel.{insideOf}
 use Rattle.plane.specs.Byte.{cycleByte}
 use Rattle.line.specs.declared.line.Line.{Line}
@@ -20,7 +20,6 @@ use Rattle.block.specs.declared.Block.{Block}
 use Rattle.block.specs.declared.Path.{Path}
 use Rattle.block.specs.Block.{arcOf, blockWidth}
 use Rattle.block.specs.Questions.{feedRight, offsetRight}
-use Rattle.arc.specs.Centre.{Near}
 use Rattle.work.specs.declared.Work.{Work}
 use Rattle.work.specs.declared.Cycle.{Cycle}
 use Rattle.work.specs.declared.Advance.{Advance}

@@ -11,9 +11,9 @@ use Rattle.plane.specs.declared.point.Point.{Point}
 use Rattle.circle.specs.Charge.{diagonal}
 use Rattle.plane.specs.declared.travel.Travel.{Travel}
 use Rattle.plane.specs.Travel.{insideOf}
-use Rattle.plane.specs.laws.Travel.{inside}
-use Rattle.arc.specs.Centre.{Near, Wide}
-use Rattle.arc.specs.laws.Work.{travel-near}
+use Rattle.plane.specs.Point.{Near}
+use Rattle.plane.specs.computed.Travel.{Wide}
+use Rattle.plane.specs.laws.Travel.{inside, travel-near}
 use Rattle.block.specs.declared.Block.{Block}
 use Rattle.block.specs.declared.Path.{Path}
 use Rattle.block.specs.Questions.{feedRight, pathNo, loadNo}

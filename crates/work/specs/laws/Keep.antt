@@ -8,6 +8,7 @@ use borrow.Author.Tests.{eqb-false}
 use Rattle.plane.specs.declared.point.Point.{Point}
 use Rattle.plane.specs.declared.travel.Travel.{Travel}
 use Rattle.plane.specs.Point.{equalPoint}
+use Rattle.plane.specs.computed.Travel.{Wide}
 use Rattle.plane.specs.laws.Point.{equal-itself}
 use Rattle.plane.specs.laws.Travel.{Inside}
 use Rattle.line.specs.declared.line.Line.{Line}
@@ -16,7 +17,6 @@ use Rattle.line.specs.laws.Points.{point-inside}
 use Rattle.line.specs.laws.Work.{some-cycle, line-test}
 use Rattle.circle.specs.Charge.{diagonal}
 use Rattle.arc.specs.declared.arc.Arc.{Arc}
-use Rattle.arc.specs.Centre.{Wide}
 use Rattle.arc.specs.Arc.{arcAfter, arcStepped}
 use Rattle.arc.specs.laws.Work.{next-inside, on-arc, keeps}
 use Rattle.divider.specs.Divider.{fedOf}
