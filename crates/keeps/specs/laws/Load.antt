@@ -21,7 +21,8 @@ use Rattle.block.specs.Block.{arcOf}
 use Rattle.block.specs.Questions.{offsetRight, pathNo}
 use Rattle.whole.specs.laws.Ask.{answered}
 use Rattle.block.specs.laws.Begin.{begins}
-use Rattle.work.specs.Work.{workSound, workAlong, Loadable}
+use Rattle.work.specs.Work.{workSound, workAlong}
+use Rattle.work.specs.computed.Work.{Loadable}
 use Rattle.work.specs.laws.Sound.{Feed, line-sound, arc-sound}
 
 centre-inside : (p : Point) → Near 2000000 p → insideOf centres p ≡ true
