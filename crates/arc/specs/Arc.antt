@@ -9,12 +9,13 @@ use Rattle.plane.specs.declared.point.Point.{Point}
 use Rattle.plane.specs.declared.travel.Travel.{Travel}
 use Rattle.plane.specs.Pulse.{pulsesBetween}
 use Rattle.plane.specs.Travel.{insideOf, visitsInside}
+use Rattle.plane.specs.Point.{Near}
 use Rattle.circle.specs.Circle.{onCircle}
 use Rattle.circle.specs.Step.{afterOf}
 use Rattle.circle.specs.Count.{cyclesOf}
 use Rattle.arc.specs.declared.arc.Arc.{Arc}
 use Rattle.arc.specs.declared.arc.Stepped.{Stepped}
-use Rattle.arc.specs.Centre.{Near, seenFrom, backFrom}
+use Rattle.arc.specs.Centre.{seenFrom, backFrom}
 
 -- the point that the arc visits c cycles after it was at `at`
 unfoldable pub arcAfter : Arc → (at : Point) (c : ℕ) → Point

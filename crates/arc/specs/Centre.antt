@@ -1,5 +1,5 @@
 -- Positions seen from a centre: 01, Arcs, "Seen from the centre, (x, y) ..".
-use Prim.Native.Nat.{ℕ, _≤_}
+use Prim.Native.Nat.{_≤_}
 use lib.IntN.{natAbs, _+ℤ_, _-ℤ_}
 use Rattle.plane.specs.declared.point.Point.{Point}
 use Rattle.plane.specs.declared.travel.Travel.{Travel}
@@ -22,19 +22,7 @@ roomOf t centre =
       down = centre .y -ℤ t .y .lower;
     }
 
--- within ±bound
-pub record Near (bound : ℕ) (p : Point) : Type 0 where
-  pub x : natAbs (p .x) ≤ bound
-  pub y : natAbs (p .y) ≤ bound
-
--- ---- what the code asks, so that no sum or difference overflows
-
+-- what the code asks, so that no sum or difference overflows
 pub record Reach (o : Offset) : Type 0 where
   pub x : natAbs (o .x) ≤ 4000000
   pub y : natAbs (o .y) ≤ 4000000
-
-pub record Wide (t : Travel) : Type 0 where
-  pub x-lower : natAbs (t .x .lower) ≤ 1000000
-  pub x-upper : natAbs (t .x .upper) ≤ 1000000
-  pub y-lower : natAbs (t .y .lower) ≤ 1000000
-  pub y-upper : natAbs (t .y .upper) ≤ 1000000

@@ -1,6 +1,8 @@
 // Positions and travel seen from a centre, and back.
 ghost use mathlib.Core.Path.{_≡_};
-ghost use Rattle.arc.specs.Centre.{Near, Reach, Wide, seenFrom, backFrom, roomOf};
+ghost use Rattle.plane.specs.Point.{Near};
+ghost use Rattle.plane.specs.computed.Travel.{Wide};
+ghost use Rattle.arc.specs.Centre.{Reach, seenFrom, backFrom, roomOf};
 use circle::plane::Offset;
 use circle::plane::Room;
 use plane::point::Point;

@@ -1,26 +1,24 @@
 -- 01, "Questions, and the number when the answer is no": load's own questions, in the paper's order.
 use mathlib.Core.Path.{_≡_}
-use mathlib.Core.Bool.{Bool, true, false, _&&_, not}
+use mathlib.Core.Bool.{Bool, true, _&&_, not}
 use Prim.Native.Nat.{ℕ}
 use lib.Dec.{leb, eqb}
 use lib.IntN.{natAbs}
+use Rattle.whole.specs.Ask.{ask}
 use Rattle.plane.specs.declared.point.Point.{Point}
 use Rattle.plane.specs.declared.travel.Travel.{Travel}
 use Rattle.plane.specs.Travel.{insideOf, visitsInside}
+use Rattle.plane.specs.Point.{Near}
+use Rattle.plane.specs.computed.Travel.{Wide}
 use Rattle.circle.specs.declared.plane.Offset.{Offset}
 use Rattle.circle.specs.Circle.{onCircle}
 use Rattle.line.specs.Line.{differ}
 use Rattle.arc.specs.declared.arc.Arc.{Arc}
-use Rattle.arc.specs.Centre.{Near, Wide, seenFrom}
+use Rattle.arc.specs.Centre.{seenFrom}
 use Rattle.arc.specs.Arc.{arcAfter, arcCycles}
 use Rattle.block.specs.declared.Block.{Block}
 use Rattle.block.specs.declared.Path.{Path}
 use Rattle.block.specs.Block.{arcOf}
-
--- the next question where the answer is yes, else the number of this one; 0 says that no question was answered by no
-abbrev pub ask : (yes : Bool) (next number : ℕ) → ℕ
-ask true next number = next
-ask false next number = number
 
 -- "Is f in 1..q0? 11."
 abbrev pub feedRight : (q0 feed : ℕ) → Bool

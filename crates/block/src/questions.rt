@@ -2,7 +2,8 @@
 ghost use mathlib.Core.Path.{_≡_};
 ghost use mathlib.Core.Bool.{true};
 ghost use Rattle.plane.specs.Travel.{insideOf};
-ghost use Rattle.arc.specs.Centre.{Near, Wide};
+ghost use Rattle.plane.specs.Point.{Near};
+ghost use Rattle.plane.specs.computed.Travel.{Wide};
 ghost use Rattle.block.specs.Block.{arcOf};
 ghost use Rattle.block.specs.Questions.{Begins, feedRight, offsetRight, arcNo, pathNo, loadNo};
 use crate::Block;

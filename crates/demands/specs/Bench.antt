@@ -7,6 +7,7 @@ use lib.Signed.{_≤ℤ_}
 use Rattle.plane.specs.declared.point.Point.{Point}
 use Rattle.plane.specs.declared.travel.Range.{Range}
 use Rattle.plane.specs.declared.travel.Travel.{Travel}
+use Rattle.plane.specs.Point.{Near}
 use Rattle.circle.specs.Charge.{diagonal}
 use Rattle.circle.specs.declared.plane.Offset.{Offset}
 use Rattle.circle.specs.Circle.{Circle}
@@ -14,7 +15,7 @@ use Rattle.circle.specs.Next.{ToVisit}
 use Rattle.line.specs.declared.line.Line.{Line}
 use Rattle.line.specs.Line.{cyclesOf, pointOf}
 use Rattle.arc.specs.declared.arc.Arc.{Arc}
-use Rattle.arc.specs.Centre.{Near, seenFrom, backFrom}
+use Rattle.arc.specs.Centre.{seenFrom, backFrom}
 use Rattle.work.specs.declared.Work.{Work}
 use Rattle.settings.specs.declared.Settings.{Settings}
 use Rattle.settings.specs.Settings.{capacityOf}

@@ -5,12 +5,13 @@ use mathlib.Core.List.{List, [], _∷_, _++_}
 use Prim.Native.Nat.{ℕ, _+_, _-_, _*_, _^_, _≤_, _<_}
 use lib.Dec.{leb}
 use lib.ListN.{length, take, drop}
-use Rattle.row.specs.Buffer.{placed}
+use Rattle.row.specs.Buffer.{lineRoom, placed}
 use Rattle.row.specs.Lines.{headerLine, totalLine, refusedLine}
 use Rattle.work.specs.Work.{isNothing}
 use Rattle.bench.specs.declared.Bench.{Bench}
 use Rattle.bench.specs.Bench.{soundOf}
 use Rattle.settings.specs.declared.Settings.{Settings}
+use Rattle.reader.specs.Reader.{longestText}
 use Rattle.reader.specs.declared.Feed.{Feed}
 use Rattle.listing.specs.declared.Tally.{Tally}
 use Rattle.listing.specs.Tally.{mostBlockCycles, mostBlockTicks, listedOf}
@@ -46,7 +47,7 @@ rowsFrom t (l ∷ ls) = let g = listedOf t l in g .bytes ++ unless (g .over) (ro
 
 -- 01: "is the text at most 65,536 bytes (asked once, line 1)? 30."
 abbrev pub linesRest : Check → (text : List ℕ) → List ℕ
-linesRest c text = cond (leb (length text) 65536) (rowsFrom (c .tally) (linesOf (drop (c .at) text))) (refusedLine 1 30)
+linesRest c text = cond (leb (length text) longestText) (rowsFrom (c .tally) (linesOf (drop (c .at) text))) (refusedLine 1 30)
 
 abbrev pub restAt : Stage → Check → (text : List ℕ) → List ℕ
 restAt Stage.Header c text = headerLine ++ linesRest c text
@@ -66,14 +67,14 @@ abbrev pub FeedSmall : Feed → Type 0
 FeedSmall Feed.Unknown = Unit {0}
 FeedSmall (Feed.Known f) = f < 10 ^ 7
 
--- the machine is sound and at rest, and the counts are some that at most 65,537 lines can make
+-- the machine is sound and at rest, and the counts are some that the lines of a text and one more can make
 pub record Reached (at : ℕ) (t : Tally) : Type 0 where
   pub sound : soundOf (t .bench) ≡ true
   pub free : t .bench .held ≡ false
   pub idle : isNothing (t .bench .work) ≡ true
   pub feed : FeedSmall (t .reader .feed)
-  pub near : at ≤ 65537
-  pub lines : t .lines ≤ 65537
+  pub near : at ≤ longestText + 1
+  pub lines : t .lines ≤ longestText + 1
   pub blocks : t .blocks ≤ t .lines
   pub cycles : t .cycles ≤ mostBlockCycles * t .lines
   pub ticks : t .ticks ≤ mostBlockTicks * t .lines
@@ -95,7 +96,7 @@ stepsLeft Stage.Over at size = 0
 -- the next of what is to come, written from `at` on
 pub record Steps (c : Check) (text old : List ℕ) (at : ℕ) (s : Step) (new : List ℕ) : Type 0 where
   pub line : List ℕ
-  pub room : length line ≤ 160
+  pub room : length line ≤ lineRoom
   pub buffer : new ≡ placed line old at
   pub next : s .next ≡ at + length line
   pub bytes : line ++ restOf (s .check) text ≡ restOf c text
@@ -108,5 +109,5 @@ pub record Fills (c : Check) (text old : List ℕ) (f : Filled) (new : List ℕ)
   pub bytes : take (f .len) new ++ restOf (f .check) text ≡ restOf c text
   pub later : drop (f .len) new ≡ drop (f .len) old
   pub room : f .len ≤ length old
-  pub onward : 160 ≤ length old → isOver (f .check) ≡ false → 1 ≤ f .len
+  pub onward : lineRoom ≤ length old → isOver (f .check) ≡ false → 1 ≤ f .len
   pub keeps : Keeps c (f .check)

@@ -14,7 +14,7 @@ use Rattle.words.specs.computed.Meaning.{meaningOf}
 use Rattle.settings.specs.declared.Settings.{Settings}
 use Rattle.settings.specs.Settings.{capacityOf}
 use Rattle.reader.specs.declared.Reader.{Reader}
-use Rattle.reader.specs.Reader.{readerAfter, moving, lineNo, blockOf}
+use Rattle.reader.specs.Reader.{longestText, readerAfter, moving, lineNo, blockOf}
 use Rattle.reader.specs.Asked.{still}
 use Rattle.reader.specs.Reader.{unknown}
 use Rattle.job.specs.Text.{linesOf}
@@ -79,6 +79,6 @@ jobFrom s n at k (l ∷ ls) = onward n at (lineAsks s at k l) (λ at′ k′. jo
 -- "is the text at most 65,536 bytes (asked once, line 1)? 30." "A fresh machine stands at (0, 0)."
 unfoldable pub jobOf : Settings → (text : List ℕ) → Job
 jobOf s text =
-    cond (leb (length text) 65536)
+    cond (leb (length text) longestText)
     (jobFrom s 1 (record { x = pos 0; y = pos 0 }) unknown (linesOf text))
     (record { blocks = []; end = End.refused 1 30 })

@@ -5,8 +5,9 @@ ghost use Rattle.row.specs.Buffer.{hasRoom};
 ghost use Rattle.job.specs.Check.{Steps, Fills, startOf, isOver, lastOf};
 use bench::Bench;
 use listing::Tally;
-use listing::has_room;
 use listing::next_place;
+use reader::LONGEST_TEXT;
+use row::lines::has_room;
 use work::Work;
 
 // What comes next: the header, the row of the next text line, or nothing any more.
@@ -81,7 +82,7 @@ impl Check {
         ensures { λ r. ⌜ Steps self (now (text .entry)) (now (out .entry)) place r (now (out .exit)) ⌝ }
     {
         let tally = self.tally;
-        if 65_536 < text.len() {
+        if LONGEST_TEXT < text.len() {
             let refused = row::lines::refused(out, place, 1, 30);
             return self.last(next_place(refused, place));
         }

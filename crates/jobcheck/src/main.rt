@@ -7,6 +7,7 @@ use input::Input;
 use job::Check;
 use libc::STDIN_FILENO;
 use libc::STDOUT_FILENO;
+use reader::LONGEST_TEXT;
 use settings::standard;
 
 // What the check has to hand out is the listing, whatever the text.
@@ -37,7 +38,7 @@ fn write_listing(text: &[u8]) -> bool {
 // A job that cannot be read to its end has no listing: half of it is another job.
 fn main() {
     // One byte more than a text may have, so that a longer one is seen to be longer.
-    let mut text = [0u8; 65537];
+    let mut text = [0u8; LONGEST_TEXT + 1];
     let input = input::read(STDIN_FILENO, &mut text);
     match input {
         Input::Bytes(len) => {

@@ -6,6 +6,7 @@ use bench::Bench;
 use input::Input;
 use libc::STDIN_FILENO;
 use libc::STDOUT_FILENO;
+use reader::LONGEST_TEXT;
 use settings::standard;
 use tape::Tape;
 
@@ -36,7 +37,7 @@ fn write_ticks(text: &[u8]) -> bool {
 // A job that cannot be read to its end has no tick bytes: half of it is another job.
 fn main() {
     // One byte more than a text may have, so that a longer one is seen to be longer.
-    let mut text = [0u8; 65537];
+    let mut text = [0u8; LONGEST_TEXT + 1];
     let input = input::read(STDIN_FILENO, &mut text);
     match input {
         Input::Bytes(len) => {

@@ -17,6 +17,7 @@ use layout::number::refusal;
 use layout::number::word;
 use libc::STDIN_FILENO;
 use libc::STDOUT_FILENO;
+use reader::LONGEST_TEXT;
 use row::lines::Place;
 use row::numbers;
 use seek::Found;
@@ -201,8 +202,8 @@ fn answer(text: &[u8]) {
 
 // A job that cannot be read to its end is another job.
 fn main() {
-    // 19 digits, their LF, and the 65,537 bytes in which a text that is too long is seen to be so.
-    let mut text = [0u8; 65557];
+    // The digits, their LF, and one byte more than a text may have, so that a longer one is seen to be longer.
+    let mut text = [0u8; MOST_DIGITS + 1 + LONGEST_TEXT + 1];
     let input = input::read(STDIN_FILENO, &mut text);
     match input {
         Input::Bytes(len) => answer(&text[..len]),

@@ -7,14 +7,14 @@ use lib.Dec.{leb}
 use lib.ListN.{length}
 use Rattle.row.specs.declared.lines.Kind.{Kind}
 use Rattle.row.specs.declared.lines.Place.{Place}
-use Rattle.row.specs.Buffer.{hasRoom, placed}
+use Rattle.row.specs.Buffer.{lineRoom, hasRoom, placed}
 use Rattle.row.specs.Lines.{blockLine, refusedLine}
 use Rattle.work.specs.declared.Work.{Work}
 use Rattle.bench.specs.declared.Bench.{Bench}
 use Rattle.finish.specs.Finish.{finishOf}
 use Rattle.reader.specs.declared.Reader.{Reader}
 use Rattle.reader.specs.declared.«text_line».Read.{Read}
-use Rattle.reader.specs.Reader.{unknown}
+use Rattle.reader.specs.Reader.{longestText, unknown}
 use Rattle.reader.specs.TextLine.{readLineOf}
 use Rattle.listing.specs.declared.Tally.{Tally}
 use Rattle.listing.specs.declared.Listed.{Listed}
@@ -29,9 +29,9 @@ pub record Given : Type 0 where
   pub over : Bool
   pub tally : Tally
 
--- the code's answer, and the buffer after it: the row stands from `at` on, and no row is longer than 160 bytes
+-- the code's answer, and the buffer after it: the row stands from `at` on, and no row is longer than `lineRoom`
 pub record Gives (g : Given) (old : List ℕ) (at : ℕ) (r : Listed) (new : List ℕ) : Type 0 where
-  pub short : length (g .bytes) ≤ 160
+  pub short : length (g .bytes) ≤ lineRoom
   pub buffer : new ≡ placed (g .bytes) old at
   pub next : r .next ≡ at + length (g .bytes)
   pub over : r .over ≡ g .over
@@ -49,10 +49,10 @@ mostBlockCycles = 8000000
 abbrev pub mostBlockTicks : ℕ
 mostBlockTicks = 11280000000000
 
--- so the totals of the at most 65,536 lines of a text fit in 64 bits
+-- a text has no more lines than bytes, so its totals fit in 64 bits
 unfoldable pub countsRight : Tally → Bool
 countsRight t =
-    leb (t .lines) 65536
+    leb (t .lines) longestText
     && (leb (t .blocks) (t .lines) && (leb (t .cycles) (mostBlockCycles * t .lines) && leb (t .ticks) (mostBlockTicks * t .lines)))
 
 abbrev pub kindOf : Work → Kind
@@ -84,7 +84,7 @@ listedWith t k m Read.Nothing =
 listedWith t k m (Read.Loaded bits) = blockListed t k m bits
 listedWith t k m (Read.Refused number) = record { bytes = refusedLine (t .lines + 1) number; over = true; tally = t }
 
--- a tally that no text of 65,536 bytes can reach gets no row
+-- a tally that no text can reach gets no row
 unfoldable pub listedOf : Tally → (line : List ℕ) → Given
 listedOf t line =
     let r = readLineOf (t .reader) (t .bench) line in

@@ -2,23 +2,33 @@
 // by value beside the row, as the machine does. Blocks are not walked: each is finished by the closed forms.
 ghost use mathlib.Core.Path.{_≡_};
 ghost use mathlib.Core.Bool.{true};
-ghost use Prim.Native.Nat.{_+_, _≤_};
+ghost use Prim.Native.Nat.{_≤_};
 ghost use lib.ListN.{length};
-ghost use lib.Dec.{leb};
 ghost use Rattle.bench.specs.Bench.{soundOf};
 ghost use Rattle.words.specs.computed.Scan.{firstLine};
 ghost use Rattle.row.specs.Lines.{totalLine};
-ghost use Rattle.row.specs.Buffer.{hasRoom, bufferAfter, placeAfter};
+ghost use Rattle.row.specs.Buffer.{lineRoom, hasRoom, bufferAfter, placeAfter};
 ghost use Rattle.listing.specs.Tally.{Gives, countsRight, kindOf, nextPlace, startOf, blockListed};
 ghost use Rattle.listing.specs.Tally.{Reads, bytesRead, unreadOf, passedOf};
 use bench::Bench;
 use finish::finish;
+use reader::LONGEST_TEXT;
 use reader::Reader;
 use reader::text_line::Read;
 use reader::text_line::read_first;
 use row::lines::Kind;
 use row::lines::Place;
+use row::lines::has_room;
 use work::Work;
+
+// A text has no more lines than bytes.
+const MOST_LINES: u64 = LONGEST_TEXT as u64;
+
+// No block has more cycles,
+const MOST_BLOCK_CYCLES: u64 = 8_000_000;
+
+// nor more ticks.
+pub const MOST_BLOCK_TICKS: u64 = 11_280_000_000_000;
 
 pub struct Tally {
     pub reader: Reader,
@@ -51,16 +61,6 @@ fn kind_of(work: Work) -> Kind
     }
 }
 
-// Whether a buffer of this length has room for any row from `at` on.
-pub fn has_room(len: usize, at: usize) -> bool
-    ensures { λ r. ⌜ r ≡ leb (at + 160) len ⌝ }
-{
-    if len < 160 {
-        return false;
-    }
-    at <= len - 160
-}
-
 // The place after a line; the line's own where it was not written.
 pub fn next_place(place: Place, at: usize) -> usize
     ensures { λ r. ⌜ r ≡ nextPlace place at ⌝ }
@@ -87,20 +87,20 @@ impl Tally {
         }
     }
 
-    // Whether the counts are some that a text of 65,536 bytes can reach: then those after the next line fit too.
+    // Whether the counts are some that a text can reach: then those after the next line fit too.
     fn counts_right(self) -> bool
         ensures { λ r. ⌜ r ≡ countsRight self ⌝ }
     {
-        if 65_536 < self.lines {
+        if MOST_LINES < self.lines {
             return false;
         }
         if self.lines < self.blocks {
             return false;
         }
-        if 8_000_000 * self.lines < self.cycles {
+        if MOST_BLOCK_CYCLES * self.lines < self.cycles {
             return false;
         }
-        self.ticks <= 11_280_000_000_000 * self.lines
+        self.ticks <= MOST_BLOCK_TICKS * self.lines
     }
 
     // Nothing read, and nothing written.
@@ -221,7 +221,7 @@ impl Tally {
     pub fn total(self, out: &mut [u8], at: usize) -> Place
         ensures buffer { λ r. ⌜ now (out .exit) ≡ bufferAfter (totalLine (self .blocks) (self .cycles) (self .ticks)) (now (out .entry)) at ⌝ }
         ensures place { λ r. ⌜ r ≡ placeAfter (totalLine (self .blocks) (self .cycles) (self .ticks)) (now (out .entry)) at ⌝ }
-        ensures short { λ r. ⌜ length (totalLine (self .blocks) (self .cycles) (self .ticks)) ≤ 160 ⌝ }
+        ensures short { λ r. ⌜ length (totalLine (self .blocks) (self .cycles) (self .ticks)) ≤ lineRoom ⌝ }
     {
         row::lines::total(out, at, self.blocks, self.cycles, self.ticks)
     }

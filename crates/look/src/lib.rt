@@ -2,7 +2,7 @@
 // point by closed forms, and so does each one that waits, so the cost grows with the blocks on the way and not with the ticks.
 ghost use mathlib.Core.Path.{_≡_};
 ghost use mathlib.Core.Bool.{true};
-ghost use Rattle.arc.specs.Centre.{Near};
+ghost use Rattle.plane.specs.Point.{Near};
 ghost use Rattle.finish.specs.Finish.{worksOf};
 ghost use Rattle.machine.specs.Machine.{soundOf};
 ghost use Rattle.look.specs.Look.{refusing, tickingOf, aheadOf, passOf, wayOf};

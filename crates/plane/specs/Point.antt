@@ -1,5 +1,7 @@
 -- A position is a pair of whole numbers; the way from one to another goes axis by axis.
 use mathlib.Core.Bool.{Bool, _&&_}
+use Prim.Native.Nat.{ℕ, _≤_}
+use lib.IntN.{natAbs}
 use Rattle.whole.specs.Equal.{equalZ}
 use Rattle.whole.specs.Sign.{differenceOf}
 use Rattle.plane.specs.declared.point.Point.{Point}
@@ -11,3 +13,8 @@ incrementsOf from to = record { x = differenceOf (from .x) (to .x); y = differen
 -- a test of equality that computes
 abbrev pub equalPoint : (p q : Point) → Bool
 equalPoint p q = equalZ (p .x) (q .x) && equalZ (p .y) (q .y)
+
+-- within ±bound
+pub record Near (bound : ℕ) (p : Point) : Type 0 where
+  pub x : natAbs (p .x) ≤ bound
+  pub y : natAbs (p .y) ≤ bound

@@ -5,7 +5,7 @@ ghost use mathlib.Core.Bool.{true, _&&_};
 ghost use lib.Dec.{eqb};
 ghost use Prim.Native.Nat.{_≤_, _<_};
 ghost use Rattle.plane.specs.Travel.{insideOf};
-ghost use Rattle.arc.specs.Centre.{Wide};
+ghost use Rattle.plane.specs.computed.Travel.{Wide};
 ghost use Rattle.block.specs.Chain.{chainEnd, chainCycles};
 ghost use Rattle.queue.specs.Queue.{waiting, queueSound, emptyQueue, pushedOf, firstOf, poppedOf};
 ghost use Rattle.queue.specs.Test.{takenOff};

@@ -8,7 +8,7 @@ use Rattle.plane.specs.declared.point.Point.{Point}
 use Rattle.circle.specs.declared.plane.Turn.{Turn}
 use Rattle.block.specs.declared.Block.{Block}
 use Rattle.block.specs.declared.Path.{Path}
-use Rattle.block.specs.Questions.{ask}
+use Rattle.whole.specs.Ask.{ask}
 use Rattle.letters.specs.declared.word.Word.{Word}
 use Rattle.letters.specs.declared.word.Words.{Words}
 use Rattle.words.specs.declared.line.Line.{Line}
@@ -36,6 +36,14 @@ abbrev pub readerAfter : Reader → Words → Reader
 readerAfter k ws = record { motion = motionAfter (k .motion) (ws .g); feed = feedAfter (k .feed) (ws .f) }
 
 -- ---- the questions
+
+-- "is the text at most 65,536 bytes (asked once, line 1)? 30."
+abbrev pub longestText : ℕ
+longestText = 65536
+
+-- "Is the line at most 80 bytes without its LF (byte 10)? 31."
+abbrev pub longestLine : ℕ
+longestLine = 80
 
 -- "Is G 1, 2 or 3? 34."
 abbrev pub motionRight : Word → Bool
@@ -82,7 +90,7 @@ centreRight m ws = cond (isArc m) (not (placed ws) || centred ws) (not (centred 
 -- from 31 on, "each question over the whole line before the next"; k is the reader after the line
 unfoldable pub lineNo : (p : ℕ) → Reader → (bytes : ℕ) → Line → ℕ
 lineNo p k bytes l =
-    ask (leb bytes 80)
+    ask (leb bytes longestLine)
     (ask (l .formed)
     (ask (l .once)
     (ask (motionRight (l .words .g))

@@ -9,6 +9,7 @@ ghost use Rattle.reader.specs.Asked.{still, asked, blockAsked, askedOf};
 ghost use Rattle.reader.specs.declared.asked.ToLoad.the-variants.{Refused};
 ghost use Rattle.reader.specs.laws.Asked.{brokenNo};
 ghost use Rattle.reader.specs.laws.Small.{Writable};
+use crate::LONGEST_LINE;
 use crate::Reader;
 use crate::command::block_of;
 use crate::command::reader_after;
@@ -106,10 +107,10 @@ pub fn ask_first(k: Reader, scale: u64, place: Point, text: &[u8]) -> AskedFirst
 }
 
 // The number that bytes with an LF among them get: they are no line of words.
-fn broken_no(bytes: usize) -> u64
+fn broken_no(bytes: u64) -> u64
     ensures { λ r. ⌜ r ≡ brokenNo bytes ⌝ }
 {
-    if bytes <= 80 { 32 } else { 31 }
+    if bytes <= LONGEST_LINE { 32 } else { 31 }
 }
 
 // What a line alone asks. It is its own first line, where it has no LF.
@@ -119,7 +120,7 @@ pub fn ask_line(k: Reader, scale: u64, place: Point, line: &[u8]) -> Asked
 {
     let first = ask_first(k, scale, place, line);
     if first.bytes < line.len() {
-        return refused(k, broken_no(line.len()));
+        return refused(k, broken_no(line.len() as u64));
     }
     first.asked
 }

@@ -10,6 +10,12 @@ pub mod text_line;
 use circle::plane::Turn;
 pub use command::motion_of;
 
+// Bytes; question 30, which whoever reads a whole text asks.
+pub const LONGEST_TEXT: usize = 65_536;
+
+// Bytes without the LF; question 31.
+const LONGEST_LINE: u64 = 80;
+
 // The G and the F that are known.
 pub enum Motion {
     Unknown,

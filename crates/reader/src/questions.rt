@@ -3,6 +3,7 @@ ghost use mathlib.Core.Path.{_≡_};
 ghost use Rattle.reader.specs.Reader.{motionRight, onPulse, allOnPulse, placed, centred, moving, motionKnown, feedKnown, allKnown, isArc, centreRight, lineNo};
 ghost use Rattle.reader.specs.laws.Small.{Small, SmallWords};
 use crate::Feed;
+use crate::LONGEST_LINE;
 use crate::Motion;
 use crate::Reader;
 use letters::word::Word;
@@ -139,7 +140,7 @@ pub fn line_no(scale: u64, k: Reader, bytes: u64, l: Line) -> u64
     requires { ⌜ SmallWords scale (l .words) ⌝ }
     ensures { λ r. ⌜ r ≡ lineNo scale k bytes l ⌝ }
 {
-    if 80 < bytes {
+    if LONGEST_LINE < bytes {
         return 31;
     }
     if !l.formed {

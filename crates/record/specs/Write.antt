@@ -9,7 +9,8 @@ use lib.Seq.{paste}
 use Rattle.plane.specs.declared.point.Point.{Point}
 use Rattle.block.specs.declared.Block.{Block}
 use Rattle.work.specs.declared.Work.{Work}
-use Rattle.work.specs.Work.{Loadable, begunOf}
+use Rattle.work.specs.Work.{begunOf}
+use Rattle.work.specs.computed.Work.{Loadable}
 use Rattle.bench.specs.declared.Bench.{Bench}
 use Rattle.bench.specs.Bench.{movedOf}
 use Rattle.queue.specs.declared.Waiting.{Waiting}

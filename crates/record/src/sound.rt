@@ -2,7 +2,7 @@
 ghost use mathlib.Core.Path.{_≡_};
 ghost use mathlib.Core.Bool.{true};
 ghost use Rattle.plane.specs.Travel.{insideOf};
-ghost use Rattle.arc.specs.Centre.{Wide};
+ghost use Rattle.plane.specs.computed.Travel.{Wide};
 ghost use Rattle.bench.specs.Bench.{soundOf};
 ghost use Rattle.layout.specs.Words.{at};
 ghost use Rattle.record.specs.Words.{soundWords};

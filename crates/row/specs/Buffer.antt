@@ -7,9 +7,13 @@ use lib.Dec.{leb}
 use Rattle.row.specs.declared.lines.Place.{Place}
 use Rattle.row.specs.declared.lines.Place.the-variants.{Next, NoRoom}
 
--- room for every line of the listing, whichever is written: 160 bytes from the place on
+-- the bytes that hold every line of the listing
+abbrev pub lineRoom : ℕ
+lineRoom = 160
+
+-- room for every line of the listing, whichever is written, from the place on
 abbrev pub hasRoom : (buffer : List ℕ) (at : ℕ) → Bool
-hasRoom buffer at = leb (at + 160) (length buffer)
+hasRoom buffer at = leb (at + lineRoom) (length buffer)
 
 -- what stood before the place, the line, and what stood after it
 unfoldable pub placed : (line buffer : List ℕ) (at : ℕ) → List ℕ

@@ -1,9 +1,10 @@
 // The four lines of the listing, each whole, from a place of a lent buffer on. Where the buffer is too short, it stays as it is.
 use crate::push;
 ghost use mathlib.Core.Path.{_≡_};
-ghost use Prim.Native.Nat.{_-_};
+ghost use Prim.Native.Nat.{_+_, _-_};
+ghost use lib.Dec.{leb};
 ghost use Rattle.row.specs.Lines.{kindLetter, headerLine, blockLine, totalLine, refusedLine};
-ghost use Rattle.row.specs.Buffer.{bufferAfter, placeAfter};
+ghost use Rattle.row.specs.Buffer.{lineRoom, bufferAfter, placeAfter};
 
 // 160 bytes hold every line of the listing: none takes more than 128.
 pub const ROOM: usize = 160;
@@ -37,6 +38,13 @@ fn left(len: usize, at: usize) -> usize
     ensures { λ r. ⌜ r ≡ len - at ⌝ }
 {
     if len < at { 0 } else { len - at }
+}
+
+// Whether a buffer of this length has room for every line from a place on.
+pub fn has_room(len: usize, at: usize) -> bool
+    ensures { λ r. ⌜ r ≡ leb (at + lineRoom) len ⌝ }
+{
+    ROOM <= left(len, at)
 }
 
 pub fn header(out: &mut [u8], at: usize) -> Place

@@ -9,8 +9,8 @@ use Rattle.plane.specs.declared.point.Point.{Point}
 use Rattle.plane.specs.declared.travel.Travel.{Travel}
 use Rattle.plane.specs.Byte.{cyclesMarked}
 use Rattle.plane.specs.Travel.{insideOf}
+use Rattle.plane.specs.computed.Travel.{Wide}
 use Rattle.circle.specs.Charge.{diagonal}
-use Rattle.arc.specs.Centre.{Wide}
 use Rattle.work.specs.declared.Work.{Work}
 use Rattle.work.specs.declared.Advance.{Advance}
 use Rattle.work.specs.Work.{isNothing, workSound, advanceOf}

@@ -13,7 +13,7 @@ use Rattle.bench.specs.Run.{runOf}
 use Rattle.ahead.specs.Ahead.{tickingOf}
 use Rattle.reader.specs.declared.Reader.{Reader}
 use Rattle.reader.specs.declared.«text_line».Read.{Read}
-use Rattle.reader.specs.Reader.{unknown}
+use Rattle.reader.specs.Reader.{longestText, unknown}
 use Rattle.reader.specs.TextLine.{readLineOf}
 use Rattle.job.specs.Text.{linesOf}
 use Rattle.job.specs.Calls.{enough}
@@ -57,4 +57,4 @@ seekFrom blocks lines n m k (l ∷ ls) =
 unfoldable pub seekOf : Settings → (text : List ℕ) (n : ℕ) → Sought
 seekOf s text n =
     let m = makeOf s .bench in
-    cond (leb (length text) 65536) (seekFrom 0 0 n m unknown (linesOf text)) (answer (Found.Refused 30) 0 1 n m)
+    cond (leb (length text) longestText) (seekFrom 0 0 n m unknown (linesOf text)) (answer (Found.Refused 30) 0 1 n m)

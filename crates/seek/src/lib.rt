@@ -8,6 +8,7 @@ ghost use Rattle.seek.specs.laws.Search.{Counted, Tested, startOf, passe
 use ahead::after_ticks;
 use bench::Bench;
 use finish::finish;
+use reader::LONGEST_TEXT;
 use reader::Reader;
 use reader::text_line::Read;
 use reader::text_line::ReadLine;
@@ -165,7 +166,7 @@ pub fn seek(settings: Settings, text: &[u8], ticks: u64) -> Sought
     ensures { λ r. ⌜ r ≡ seekOf settings (now (text .entry)) ticks ⌝ }
 {
     let mut search = Search::start(settings, ticks);
-    if 65_536 < text.len() {
+    if LONGEST_TEXT < text.len() {
         let begun = search.sought;
         let bench = begun.bench;
         let long = search.refused(bench, 30);

@@ -6,7 +6,7 @@ use lib.IntN.{pos, negsuc}
 use Rattle.plane.specs.declared.travel.Range.{Range}
 use Rattle.plane.specs.declared.travel.Travel.{Travel}
 use Rattle.plane.specs.Travel.{withinOf}
-use Rattle.block.specs.Questions.{ask}
+use Rattle.whole.specs.Ask.{ask}
 use Rattle.settings.specs.declared.Settings.{Settings}
 
 -- 01, Feed divider: "Capacity q0 = 60 × w."

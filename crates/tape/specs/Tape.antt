@@ -12,7 +12,7 @@ use Rattle.bench.specs.Run.{runOf}
 use Rattle.reader.specs.declared.Reader.{Reader}
 use Rattle.reader.specs.declared.«text_line».Read.{Read}
 use Rattle.reader.specs.TextLine.{readLineOf}
-use Rattle.reader.specs.Reader.{unknown}
+use Rattle.reader.specs.Reader.{longestText, unknown}
 use Rattle.job.specs.Text.{linesOf}
 use Rattle.job.specs.Calls.{enough}
 use Rattle.job.specs.Check.{unless}
@@ -37,7 +37,7 @@ bytesFrom m k (l ∷ ls) = let r = readLineOf k m l in unless (isRefused (r .ans
 
 -- "is the text at most 65,536 bytes (asked once, line 1)? 30."
 abbrev pub linesBytes : Bench → Reader → (at : ℕ) (text : List ℕ) → List ℕ
-linesBytes m k at text = cond (leb (length text) 65536) (bytesFrom m k (linesOf (drop at text))) []
+linesBytes m k at text = cond (leb (length text) longestText) (bytesFrom m k (linesOf (drop at text))) []
 
 -- from a machine made fresh with these settings
 unfoldable pub tickBytesOf : Settings → (text : List ℕ) → List ℕ

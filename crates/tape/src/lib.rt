@@ -3,12 +3,11 @@ ghost use mathlib.Core.Path.{_≡_};
 ghost use mathlib.Core.Bool.{false};
 ghost use Rattle.tape.specs.Tape.{NextLine, Fills, isRefused, startOf, endedOf, atMachine};
 use bench::Bench;
+use listing::MOST_BLOCK_TICKS;
+use reader::LONGEST_TEXT;
 use reader::Reader;
 use reader::text_line::Read;
 use reader::text_line::read_first;
-
-// A budget that no block exceeds, so that a run goes to the block's end or fills its buffer.
-const ENOUGH: u64 = 11_280_000_000_000;
 
 pub struct Tape {
     // All is handed out.
@@ -75,7 +74,7 @@ impl Tape {
         requires { ⌜ self .over ≡ false ⌝ }
         ensures { λ r. ⌜ NextLine self (now (text .entry)) r ⌝ }
     {
-        if 65_536 < text.len() {
+        if LONGEST_TEXT < text.len() {
             return self.ended();
         }
         let at = self.at;
@@ -110,7 +109,8 @@ impl Tape {
         let mut tape = self;
         while !tape.over {
             let bench = tape.bench;
-            let ran = bench.run(ENOUGH, out);
+            // No block exceeds this budget: the run goes to the block's end or fills its buffer.
+            let ran = bench.run(MOST_BLOCK_TICKS, out);
             if 0 < ran.ticks {
                 let after = ran.bench;
                 return Filled {

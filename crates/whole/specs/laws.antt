@@ -9,3 +9,4 @@ pub mod Bounded
 pub mod Test
 pub mod Float
 pub mod Quotient
+pub mod Ask

@@ -1,7 +1,6 @@
 -- 01, Job and machine: "What is in work is nothing, a line with its numbers or an arc with its numbers."
-use mathlib.Core.Path.{_≡_}
 use mathlib.Core.Bool.{Bool, true, false, cond, _&&_}
-use Prim.Native.Nat.{ℕ, _+_, _-_, _*_, _^_, _<_}
+use Prim.Native.Nat.{ℕ, _+_, _-_, _*_}
 use lib.Dec.{eqb}
 use Rattle.plane.specs.declared.point.Point.{Point}
 use Rattle.plane.specs.declared.travel.Travel.{Travel}
@@ -9,18 +8,17 @@ use Rattle.plane.specs.Point.{equalPoint}
 use Rattle.plane.specs.Travel.{insideOf}
 use Rattle.plane.specs.Byte.{cycleByte}
 use Rattle.line.specs.declared.line.Line.{Line}
-use Rattle.line.specs.Line.{differ, lineOf, shortOf, lineAt, steppedOf}
+use Rattle.line.specs.Line.{differ, lineOf, lineAt, steppedOf}
 use Rattle.arc.specs.declared.arc.Arc.{Arc}
-use Rattle.arc.specs.Arc.{OnArc, arcAt, arcCycles, arcStepped}
+use Rattle.arc.specs.Arc.{arcAt, arcCycles, arcStepped}
 use Rattle.arc.specs.Charge.{arcCharge, arcChargesIn}
-use Rattle.circle.specs.Charge.{straight, diagonal}
+use Rattle.circle.specs.Charge.{straight}
 use Rattle.divider.specs.declared.Fed.{Fed}
 use Rattle.divider.specs.Divider.{fedOf, addedAt, lastTick}
 use Rattle.block.specs.declared.Block.{Block}
 use Rattle.block.specs.declared.Path.{Path}
 use Rattle.block.specs.Block.{arcOf, blockWidth}
-use Rattle.block.specs.Questions.{feedRight, offsetRight}
-use Rattle.arc.specs.Centre.{Near}
+use Rattle.block.specs.Questions.{feedRight}
 use Rattle.work.specs.declared.Work.{Work}
 use Rattle.work.specs.declared.Cycle.{Cycle}
 use Rattle.work.specs.declared.Advance.{Advance}
@@ -87,9 +85,9 @@ cyclesLeft at (Work.Line l) = l .cycles - l .done
 cyclesLeft at (Work.Arc a) = arcCycles a at
 
 -- what the next cycle is charged: 02 §2, "a straight arc step is charged 1,000 and a diagonal one 1,414. .. Line cycles are charged 1,000."
--- Nothing in work has no cycle; the larger charge stands there because no sound remainder reaches it.
+-- Nothing in work has no cycle, and no tick is asked of it: any charge from `straight` to `diagonal` would do.
 abbrev pub chargeOf : (at : Point) → Work → ℕ
-chargeOf at Work.Nothing = diagonal
+chargeOf at Work.Nothing = straight
 chargeOf at (Work.Line l) = straight
 chargeOf at (Work.Arc a) = arcCharge a at
 
@@ -132,12 +130,6 @@ advanceBy at w f =
 unfoldable pub advanceOf : (q0 : ℕ) (at : Point) (remainder : ℕ) → Work → Advance
 advanceOf q0 at r w = advanceBy at w (fedOf (dueOf q0 at w) (addedOf w) r)
 
--- what the code of a tick asks: a line or an arc at its point, and a sum that fits
-abbrev pub Ready : (at : Point) (remainder : ℕ) → Work → Type 0
-Ready at r Work.Nothing = r < 2 ^ 64
-Ready at r (Work.Line l) = (lineAt l at ≡ true) × (r + addedAt (l .feed) < 2 ^ 64)
-Ready at r (Work.Arc a) = OnArc a at × (r + addedAt (a .feed) < 2 ^ 64)
-
 -- ---- a block comes into work
 
 -- 01, The book of a history: "the block comes into work with c 0, and the answer is its register width"
@@ -147,8 +139,3 @@ workAlong start b (Path.Arc turn centre) = Work.Arc (arcOf start b turn centre)
 
 unfoldable pub begunOf : (start : Point) → Block → Begun
 begunOf start b = record { work = workAlong start b (b .path); width = blockWidth start b }
-
--- what the code asks: increments and offsets that its products hold
-abbrev pub Loadable : (start : Point) → Block → Path → Type 0
-Loadable start b Path.Line = shortOf start (b .end) ≡ true
-Loadable start b (Path.Arc turn centre) = Near 1000000 start × (offsetRight centre ≡ true)

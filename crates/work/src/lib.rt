@@ -2,19 +2,22 @@
 // The functions take the few numbers that they need and no machine, so that a tick copies little.
 ghost use mathlib.Core.Path.{_≡_};
 ghost use mathlib.Core.Bool.{true};
-ghost use Prim.Native.Nat.{_+_, _*_, _^_, _≤_, _<_};
+ghost use Prim.Native.Nat.{_≤_};
 ghost use Rattle.plane.specs.Travel.{insideOf};
+ghost use Rattle.plane.specs.computed.Travel.{Wide};
 ghost use Rattle.line.specs.Line.{lineAt};
-ghost use Rattle.arc.specs.Centre.{Wide};
 ghost use Rattle.arc.specs.Arc.{OnArc};
-ghost use Rattle.work.specs.Work.{Loadable, Ready, isNothing, lineSound, arcSound, workSound, lineCycle, arcCycle, advanceOf, begunOf};
+ghost use Rattle.divider.specs.Divider.{fedOf};
+ghost use Rattle.work.specs.Work.{isNothing, lineSound, arcSound, workSound, lineCycle, arcCycle, cycleOf, feedOf, chargeOf, dueOf, addedOf, advanceOf};
+ghost use Rattle.work.specs.Work.{begunOf};
+ghost use Rattle.work.specs.computed.Work.{Cycling, Ready, Loadable};
 use arc::arc::Arc;
 use block::Block;
 use block::Path;
 use block::questions::arc_of;
-use circle::step::DIAGONAL;
 use circle::step::STRAIGHT;
 use divider::FEED_SCALE;
+use divider::Fed;
 use divider::add_feed;
 use line::line::Line;
 use plane::byte::cycle_byte;
@@ -148,84 +151,85 @@ fn arc_cycle(at: Point, a: Arc) -> Cycle
     }
 }
 
+// The cycle of what is in work; callers ask first whether there is something.
+fn work_cycle(at: Point, work: Work) -> Cycle
+    requires { ⌜ Cycling at work ⌝ }
+    ensures { λ r. ⌜ r ≡ cycleOf at work ⌝ }
+{
+    match work {
+        Work::Nothing => Cycle {
+            at: at,
+            byte: 0,
+            work: Work::Nothing,
+        },
+        Work::Line(l) => line_cycle(at, l),
+        Work::Arc(a) => arc_cycle(at, a),
+    }
+}
+
 // ---- a working tick
 
-fn line_tick(capacity: u64, at: Point, remainder: u64, l: Line) -> Advance
-    requires { ⌜ (lineAt l at ≡ true) × (remainder + 1000 * l .feed < 2 ^ 64) × (capacity ≤ 1200000000) ⌝ }
-    ensures { λ r. ⌜ r ≡ advanceOf capacity at remainder (Work.Line l) ⌝ }
+fn feed_number(work: Work) -> u64
+    ensures { λ r. ⌜ r ≡ feedOf work ⌝ }
 {
-    let f = add_feed(STRAIGHT * capacity, FEED_SCALE * l.feed, remainder);
-    if f.cycle {
-        let c = line_cycle(at, l);
-        let here = c.at;
-        let work = c.work;
-        return Advance {
-            at: here,
-            remainder: f.remainder,
-            byte: c.byte,
-            work: work,
-        };
-    }
-    Advance {
-        at: at,
-        remainder: f.remainder,
-        byte: 0,
-        work: Work::Line(l),
+    match work {
+        Work::Nothing => 0,
+        Work::Line(l) => l.feed,
+        Work::Arc(a) => a.feed,
     }
 }
 
-fn arc_tick(capacity: u64, at: Point, remainder: u64, a: Arc) -> Advance
-    requires { ⌜ OnArc a at × (remainder + 1000 * a .feed < 2 ^ 64) × (capacity ≤ 1200000000) ⌝ }
-    ensures { λ r. ⌜ r ≡ advanceOf capacity at remainder (Work.Arc a) ⌝ }
+// What the next cycle is charged.
+fn charge(at: Point, work: Work) -> u64
+    requires { ⌜ Cycling at work ⌝ }
+    ensures { λ r. ⌜ r ≡ chargeOf at work ⌝ }
 {
-    let added = FEED_SCALE * a.feed;
+    match work {
+        Work::Nothing => STRAIGHT,
+        Work::Line(_) => STRAIGHT,
+        Work::Arc(a) => a.charge(at),
+    }
+}
+
+// The divider's tick: the remainder after it, and whether a cycle is due.
+fn feed(capacity: u64, at: Point, remainder: u64, work: Work) -> Fed
+    requires { ⌜ Ready at remainder work × (capacity ≤ 1200000000) ⌝ }
+    ensures { λ r. ⌜ r ≡ fedOf (dueOf capacity at work) (addedOf work) remainder ⌝ }
+{
+    let added = FEED_SCALE * feed_number(work);
     let sum = remainder + added;
-    // No step is charged less, so most ticks need not look at the next one.
+    // No cycle is charged less, so most ticks need not look at the next one.
     if sum < STRAIGHT * capacity {
-        return Advance {
-            at: at,
+        return Fed {
             remainder: sum,
-            byte: 0,
-            work: Work::Arc(a),
+            cycle: false,
         };
     }
-    let f = add_feed(a.charge(at) * capacity, added, remainder);
-    if f.cycle {
-        let c = arc_cycle(at, a);
-        let here = c.at;
-        let work = c.work;
-        return Advance {
-            at: here,
-            remainder: f.remainder,
-            byte: c.byte,
-            work: work,
-        };
-    }
-    Advance {
-        at: at,
-        remainder: f.remainder,
-        byte: 0,
-        work: Work::Arc(a),
-    }
+    add_feed(charge(at, work) * capacity, added, remainder)
 }
 
-// One working tick of what is in work.
+// One working tick of what is in work; callers ask first whether there is something.
 pub fn work_tick(capacity: u64, at: Point, remainder: u64, work: Work) -> Advance
     requires { ⌜ Ready at remainder work × (capacity ≤ 1200000000) ⌝ }
     ensures { λ r. ⌜ r ≡ advanceOf capacity at remainder work ⌝ }
 {
-    match work {
-        Work::Nothing => {
-            let f = add_feed(DIAGONAL * capacity, 0, remainder);
-            Advance {
-                at: at,
-                remainder: f.remainder,
-                byte: 0,
-                work: Work::Nothing,
-            }
-        }
-        Work::Line(l) => line_tick(capacity, at, remainder, l),
-        Work::Arc(a) => arc_tick(capacity, at, remainder, a),
+    let f = feed(capacity, at, remainder, work);
+    if f.cycle {
+        let c = work_cycle(at, work);
+        let here = c.at;
+        let next = c.work;
+        return Advance {
+            at: here,
+            remainder: f.remainder,
+            byte: c.byte,
+            work: next,
+        };
+    }
+    Advance {
+        at: at,
+        remainder: f.remainder,
+        byte: 0,
+        work: work,
     }
 }
 

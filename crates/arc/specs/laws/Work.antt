@@ -4,15 +4,17 @@ use mathlib.Core.Bool.{true}
 use Prim.Native.Nat.{ℕ, suc, _≤_}
 use native.Mathlib.Omega.{arith}
 use lib.IntN.{ℤ, pos, negsuc, natAbs}
-use Rattle.whole.specs.laws.Order.{_≼_, abs-is}
+use Rattle.whole.specs.laws.Order.{_≼_}
 use Rattle.whole.specs.laws.Test.{both, joined}
 use Rattle.plane.specs.declared.point.Point.{Point}
 use Rattle.plane.specs.declared.travel.Travel.{Travel}
 use Rattle.plane.specs.Travel.{insideOf, visitsInside}
-use Rattle.plane.specs.laws.Travel.{Inside, inside, visits, visits-test}
+use Rattle.plane.specs.Point.{Near}
+use Rattle.plane.specs.computed.Travel.{Wide}
+use Rattle.plane.specs.laws.Travel.{Inside, inside, visits, visits-test, travel-near}
 use Rattle.circle.specs.Circle.{onCircle}
 use Rattle.arc.specs.declared.arc.Arc.{Arc}
-use Rattle.arc.specs.Centre.{Near, Wide, seenFrom}
+use Rattle.arc.specs.Centre.{seenFrom}
 use Rattle.arc.specs.Arc.{OnArc, arcAfter, arcCycles, arcAt, centres}
 use Rattle.arc.specs.laws.Step.{Circles, cycles-bounds, arc-end, more-cycles, next-circles, after-next}
 
@@ -23,17 +25,6 @@ bounded b (negsuc a) l h = omega arith
 
 pub centre-near : {p : Point} → insideOf centres p ≡ true → Near 2000000 p
 centre-near {p} e = let i = inside e in record { x = bounded 1999999 (p .x) (i .x .above) (i .x .below); y = bounded 1999999 (p .y) (i .y .above) (i .y .below) }
-
--- a point in a travel that is wide enough for 01
-pub axis-near : (lower upper z : ℤ) → natAbs lower ≤ 1000000 → natAbs upper ≤ 1000000 → lower ≼ z → z ≼ upper → natAbs z ≤ 1000000
-axis-near lower upper (pos a) h k l m = omega (arith, abs-is upper)
-axis-near lower upper (negsuc a) h k l m = omega (arith, abs-is lower)
-
-pub travel-near : {t : Travel} {p : Point} → Wide t → Inside t p → Near 1000000 p
-travel-near {t} {p} w i = record {
-  x = axis-near (t .x .lower) (t .x .upper) (p .x) (w .x-lower) (w .x-upper) (i .x .above) (i .x .below);
-  y = axis-near (t .y .lower) (t .y .upper) (p .y) (w .y-lower) (w .y-upper) (i .y .above) (i .y .below);
-}
 
 -- ---- the test
 

@@ -11,16 +11,17 @@ use Rattle.plane.specs.declared.point.Point.{Point}
 use Rattle.circle.specs.Charge.{diagonal}
 use Rattle.plane.specs.declared.travel.Travel.{Travel}
 use Rattle.plane.specs.Travel.{insideOf}
-use Rattle.plane.specs.laws.Travel.{inside}
-use Rattle.arc.specs.Centre.{Near, Wide}
-use Rattle.arc.specs.laws.Work.{travel-near}
+use Rattle.plane.specs.Point.{Near}
+use Rattle.plane.specs.computed.Travel.{Wide}
+use Rattle.plane.specs.laws.Travel.{inside, travel-near}
 use Rattle.block.specs.declared.Block.{Block}
 use Rattle.block.specs.declared.Path.{Path}
 use Rattle.block.specs.Questions.{feedRight, pathNo, loadNo}
-use Rattle.block.specs.laws.Asked.{answered}
+use Rattle.whole.specs.laws.Ask.{answered}
 use Rattle.line.specs.Line.{incrementX, incrementY, shortOf}
 use Rattle.work.specs.declared.Work.{Work}
-use Rattle.work.specs.Work.{Ready, Loadable, isNothing, workSound}
+use Rattle.work.specs.Work.{isNothing, workSound}
+use Rattle.work.specs.computed.Work.{Ready, Loadable}
 use Rattle.work.specs.laws.Keep.{ready as work-ready}
 use Rattle.run.specs.Run.{SoundIn}
 use Rattle.settings.specs.declared.Settings.{Settings}
@@ -50,10 +51,10 @@ sound-test i = joined (eq-eqb _ 0 (i .settings)) (joined (i .in-travel) (joined 
 
 -- ---- what the code of a tick asks
 
-pub ready : {s : Settings} {at : Point} {r : ℕ} {w : Work} → Sound s at r w → Ready at r w × (capacityOf s ≤ 1200000000)
-ready {s} {w = w} i =
+pub ready : {s : Settings} {at : Point} {r : ℕ} {w : Work} → Sound s at r w → isNothing w ≡ false → Ready at r w × (capacityOf s ≤ 1200000000)
+ready {s} {w = w} i busy =
     let c = settings-right s (i .settings) in (
-      work-ready (capacityOf s) (s .travel) w (c .wide) (omega (arith, c .clock-most))
+      work-ready (capacityOf s) (s .travel) w busy (c .wide) (omega (arith, c .clock-most))
           (record { inside = inside (i .in-travel); below = i .below; sound = i .work }),
       omega (arith, c .clock-most),
     )

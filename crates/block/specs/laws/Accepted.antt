@@ -10,19 +10,19 @@ use Rattle.whole.specs.laws.Test.{both, joined}
 use Rattle.plane.specs.declared.point.Point.{Point}
 use Rattle.plane.specs.declared.travel.Travel.{Travel}
 use Rattle.plane.specs.Travel.{insideOf}
-use Rattle.plane.specs.laws.Travel.{inside}
+use Rattle.plane.specs.Point.{Near}
+use Rattle.plane.specs.computed.Travel.{Wide}
+use Rattle.plane.specs.laws.Travel.{inside, travel-near}
 use Rattle.line.specs.Line.{incrementX, incrementY, shortOf}
 use Rattle.line.specs.laws.Cycles.{cycles-bound, cycles-some, differ-apart}
 use Rattle.arc.specs.Arc.{OnArc}
-use Rattle.arc.specs.Centre.{Near, Wide}
-use Rattle.arc.specs.laws.Work.{travel-near}
 use Rattle.arc.specs.laws.Step.{cycles-bounds}
 use Rattle.block.specs.declared.Block.{Block}
 use Rattle.block.specs.declared.Path.{Path}
 use Rattle.block.specs.Block.{arcOf, cyclesAlong, blockCycles}
 use Rattle.block.specs.Questions.{offsetRight, feedRight, pathNo, loadNo}
 use Rattle.block.specs.Chain.{Accepted}
-use Rattle.block.specs.laws.Asked.{answered}
+use Rattle.whole.specs.laws.Ask.{answered}
 use Rattle.block.specs.laws.Begin.{begins}
 
 -- the questions 11 to 16, each answered by yes

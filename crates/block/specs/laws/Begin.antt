@@ -14,12 +14,12 @@ use Rattle.whole.specs.laws.Test.{both, joined}
 use Rattle.plane.specs.declared.point.Point.{Point}
 use Rattle.plane.specs.declared.travel.Travel.{Travel}
 use Rattle.plane.specs.Travel.{insideOf}
-use Rattle.plane.specs.laws.Travel.{inside}
+use Rattle.plane.specs.computed.Travel.{Wide}
+use Rattle.plane.specs.laws.Travel.{inside, travel-near}
 use Rattle.circle.specs.declared.plane.Offset.{Offset}
 use Rattle.circle.specs.declared.plane.Turn.{Turn}
 use Rattle.circle.specs.Circle.{onCircle}
-use Rattle.arc.specs.Centre.{Wide, seenFrom, backFrom}
-use Rattle.arc.specs.laws.Work.{travel-near}
+use Rattle.arc.specs.Centre.{seenFrom, backFrom}
 use Rattle.block.specs.declared.Block.{Block}
 use Rattle.block.specs.Block.{squareOf, arcOf}
 use Rattle.block.specs.Questions.{Begins, offsetRight}

@@ -11,7 +11,7 @@ use Rattle.whole.specs.laws.Test.{both, joined}
 use Rattle.plane.specs.declared.point.Point.{Point}
 use Rattle.plane.specs.declared.travel.Travel.{Travel}
 use Rattle.plane.specs.Travel.{insideOf}
-use Rattle.arc.specs.Centre.{Wide}
+use Rattle.plane.specs.computed.Travel.{Wide}
 use Rattle.block.specs.declared.Block.{Block}
 use Rattle.block.specs.Block.{blockCycles}
 use Rattle.block.specs.Questions.{loadNo}

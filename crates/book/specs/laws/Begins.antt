@@ -8,9 +8,9 @@ use native.Mathlib.Nat.{mul-le-mul-right, lt-of-not-le, not-le-of-lt, lt-suc-sel
 use native.Mathlib.Omega.{arith}
 use Rattle.plane.specs.declared.point.Point.{Point}
 use Rattle.plane.specs.declared.travel.Travel.{Travel}
+use Rattle.plane.specs.computed.Travel.{Wide}
 use Rattle.plane.specs.laws.Travel.{Inside}
 use Rattle.circle.specs.Charge.{straight}
-use Rattle.arc.specs.Centre.{Wide}
 use Rattle.divider.specs.Divider.{lastTick}
 use Rattle.divider.specs.laws.Ticks.{total}
 use Rattle.divider.specs.laws.Last.{Reaches, end-tick, end-enough, last-is-end}

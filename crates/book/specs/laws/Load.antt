@@ -8,19 +8,20 @@ use Rattle.whole.specs.laws.Order.{abs-add}
 use Rattle.plane.specs.declared.point.Point.{Point}
 use Rattle.plane.specs.declared.travel.Travel.{Travel}
 use Rattle.plane.specs.Travel.{insideOf}
-use Rattle.plane.specs.laws.Travel.{Within, Inside, inside, inside-test}
+use Rattle.plane.specs.Point.{Near}
+use Rattle.plane.specs.computed.Travel.{Wide}
+use Rattle.plane.specs.laws.Travel.{Within, Inside, inside, inside-test, travel-near}
 use Rattle.circle.specs.declared.plane.Offset.{Offset}
 use Rattle.line.specs.laws.Cycles.{differ-apart}
 use Rattle.arc.specs.declared.arc.Arc.{Arc}
-use Rattle.arc.specs.Centre.{Near, Wide, backFrom}
+use Rattle.arc.specs.Centre.{backFrom}
 use Rattle.arc.specs.Arc.{centres}
-use Rattle.arc.specs.laws.Work.{travel-near}
 use Rattle.block.specs.declared.Block.{Block}
 use Rattle.block.specs.declared.Path.{Path}
 use Rattle.block.specs.Block.{arcOf}
 use Rattle.block.specs.Questions.{pathNo, loadNo}
 use Rattle.block.specs.laws.Accepted.{yes}
-use Rattle.block.specs.laws.Asked.{answered}
+use Rattle.whole.specs.laws.Ask.{answered}
 use Rattle.block.specs.laws.Begin.{OffsetRight, offset-right, start-on}
 use Rattle.book.specs.laws.Way.{PathRight}
 

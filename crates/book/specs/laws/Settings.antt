@@ -2,8 +2,8 @@
 use Prim.Native.Nat.{ℕ, _≤_}
 use lib.IntN.{pos}
 use Rattle.plane.specs.declared.travel.Travel.{Travel}
+use Rattle.plane.specs.computed.Travel.{Wide}
 use Rattle.plane.specs.laws.Travel.{Inside}
-use Rattle.arc.specs.Centre.{Wide}
 
 pub record SettingsRight (q0 : ℕ) (t : Travel) : Type 0 where
   pub some : 1 ≤ q0

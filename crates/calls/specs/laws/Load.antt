@@ -8,7 +8,7 @@ use lib.IntN.{ℤ}
 use Rattle.whole.specs.laws.Test.{both}
 use Rattle.plane.specs.declared.point.Point.{Point}
 use Rattle.plane.specs.Travel.{insideOf}
-use Rattle.arc.specs.Centre.{Wide}
+use Rattle.plane.specs.computed.Travel.{Wide}
 use Rattle.block.specs.declared.Block.{Block}
 use Rattle.block.specs.Questions.{loadNo}
 use Rattle.work.specs.declared.Work.{Work}

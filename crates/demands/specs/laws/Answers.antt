@@ -10,7 +10,8 @@ use lib.ListN.{length, take}
 use denote.Ref.{RefT, now}
 use contract.Lifetimes.{Lfts}
 use Rattle.block.specs.declared.Block.{Block}
-use Rattle.block.specs.Questions.{ask, loadNo}
+use Rattle.whole.specs.Ask.{ask}
+use Rattle.block.specs.Questions.{loadNo}
 use Rattle.queue.specs.Queue.{emptyQueue}
 use Rattle.work.specs.declared.Work.{Work}
 use Rattle.work.specs.Work.{isNothing, advanceOf}

@@ -4,7 +4,7 @@ use mathlib.Core.Bool.{Bool, true, false, false≢true}
 use mathlib.Core.Logic.{inl, inr, _↔_}
 use Prim.Native.Nat.{ℕ, zero, suc}
 use native.Mathlib.Omega.{arith}
-use Rattle.block.specs.Questions.{ask}
+use Rattle.whole.specs.Ask.{ask}
 use Rattle.book.specs.Book.{Reply}
 use Rattle.demands.specs.Asked.{Questions, none, question, andThen, FirstNo, AllYes, AsAsked}
 

@@ -12,7 +12,9 @@ use Rattle.plane.specs.declared.point.Point.{Point}
 use Rattle.plane.specs.declared.travel.Range.{Range}
 use Rattle.plane.specs.declared.travel.Travel.{Travel}
 use Rattle.plane.specs.Travel.{insideOf, visitsInside}
-use Rattle.plane.specs.laws.Travel.{Within, Inside, within, within-test, inside, inside-test, visits, visits-test}
+use Rattle.plane.specs.Point.{Near}
+use Rattle.plane.specs.computed.Travel.{Wide}
+use Rattle.plane.specs.laws.Travel.{Within, Inside, within, within-test, inside, inside-test, visits, visits-test, travel-near}
 use Rattle.circle.specs.Circle.{Circle}
 use Rattle.circle.specs.laws.Circle.{on-circle-to, on-circle-of}
 use Rattle.circle.specs.laws.Walk.{walk-of, walk-to, ends, ends-cycles}
@@ -21,9 +23,9 @@ use Rattle.line.specs.Line.{differ}
 use Rattle.line.specs.laws.Cycles.{cycles-apart, apart-differ, differ-apart}
 use Rattle.line.specs.laws.Work.{some-cycle}
 use Rattle.arc.specs.declared.arc.Arc.{Arc}
-use Rattle.arc.specs.Centre.{Near, Wide, seenFrom}
+use Rattle.arc.specs.Centre.{seenFrom}
 use Rattle.arc.specs.Arc.{arcAfter, arcCycles, centres}
-use Rattle.arc.specs.laws.Work.{centre-near, travel-near}
+use Rattle.arc.specs.laws.Work.{centre-near}
 use Rattle.work.specs.declared.Work.{Work}
 use Rattle.work.specs.Work.{workSound}
 use Rattle.work.specs.laws.Sound.{line-work, line-sound, arc-work, arc-sound}

@@ -13,7 +13,8 @@ use contract.Lifetimes.{Lfts}
 use Rattle.whole.specs.laws.Test.{both, joined}
 use Rattle.plane.specs.declared.point.Point.{Point}
 use Rattle.block.specs.declared.Block.{Block}
-use Rattle.block.specs.Questions.{ask, loadNo}
+use Rattle.whole.specs.Ask.{ask}
+use Rattle.block.specs.Questions.{loadNo}
 use Rattle.settings.specs.declared.Settings.{Settings}
 use Rattle.settings.specs.Settings.{capacityOf}
 use Rattle.machine.specs.declared.Machine.{Machine}
@@ -30,7 +31,7 @@ use Rattle.reader.specs.declared.Motion.{Motion}
 use Rattle.reader.specs.declared.Reader.{Reader}
 use Rattle.reader.specs.declared.asked.ToLoad.{ToLoad}
 use Rattle.reader.specs.declared.«text_line».Read.{Read}
-use Rattle.reader.specs.Reader.{readerAfter, motionRight, onPulse, allOnPulse, placed, centred, moving, allKnown, isArc, centreRight, lineNo, blockOf}
+use Rattle.reader.specs.Reader.{longestLine, readerAfter, motionRight, onPulse, allOnPulse, placed, centred, moving, allKnown, isArc, centreRight, lineNo, blockOf}
 use Rattle.reader.specs.Asked.{still, askedWith, askedOf}
 use Rattle.textline.specs.declared.ReadLine.{ReadLine}
 use Rattle.textline.specs.TextLine.{reads, loaded, takes, takenOf}
@@ -146,7 +147,7 @@ unfolding lineNo
 word-verdict k scale bytes l means =
     let ws = l .words in
     let once = own-once bytes l means in
-    asked (leb (length bytes) 80) 30 (leb-true _ 80, le-leb _ 80) (λ _.
+    asked (leb (length bytes) longestLine) 30 (leb-true _ longestLine, le-leb _ longestLine) (λ _.
     asked (l .formed) 31 (formed-is bytes l means) (λ _.
     asked (l .once) 32 (λ e. once-is ws .0 (sym once ∙ e), λ f. once ∙ once-is ws .1 f) (λ _.
     asked (motionRight (ws .g)) 33 (motion-is ws) (λ _.

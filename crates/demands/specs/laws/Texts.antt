@@ -24,7 +24,7 @@ use Rattle.words.specs.Meaning.{Means}
 use Rattle.words.specs.computed.Meaning.{meaningOf}
 use Rattle.words.specs.laws.Meaning.{meaning-means}
 use Rattle.reader.specs.declared.Reader.{Reader}
-use Rattle.reader.specs.Reader.{unknown, readerAfter, moving, lineNo}
+use Rattle.reader.specs.Reader.{longestText, unknown, readerAfter, moving, lineNo}
 use Rattle.reader.specs.Asked.{still}
 use Rattle.job.specs.declared.Stage.{Stage}
 use Rattle.job.specs.declared.Check.{Check}
@@ -140,19 +140,19 @@ lines-once s {at = at} {k = k} (LinesMean.block {bytes = bytes} l means y e late
 module _ (s : Settings) (text : List ℕ) where
   text-means : (let j = jobOf s text in TextMeans s text (j .blocks) (j .end))
   unfolding jobOf
-  text-means = by (leb (length text) 65536) refl
+  text-means = by (leb (length text) longestText) refl
     where
-      by : (short : Bool) → leb (length text) 65536 ≡ short
+      by : (short : Bool) → leb (length text) longestText ≡ short
           → (let j = cond short (jobFrom s 1 (record { x = pos 0; y = pos 0 }) unknown (linesOf text))
           (record { blocks = []; end = End.refused 1 30 }) in
           TextMeans s text (j .blocks) (j .end))
-      by true e = TextMeans.read (leb-true (length text) 65536 e) (lines-mean s 1 (record { x = pos 0; y = pos 0 }) unknown (linesOf text))
-      by false e = TextMeans.long (leb-false (length text) 65536 e)
+      by true e = TextMeans.read (leb-true (length text) longestText e) (lines-mean s 1 (record { x = pos 0; y = pos 0 }) unknown (linesOf text))
+      by false e = TextMeans.long (leb-false (length text) longestText e)
 
   text-once : {made : List Made} {end : End} → TextMeans s text made end → jobOf s text ≡ record { blocks = made; end = end }
   unfolding jobOf
-  text-once (TextMeans.long h) = rw (lt-leb (length text) 65536 h)
-  text-once (TextMeans.read h lines) = rw (le-leb (length text) 65536 h) (lines-once s lines)
+  text-once (TextMeans.long h) = rw (lt-leb (length text) longestText h)
+  text-once (TextMeans.read h lines) = rw (le-leb (length text) longestText h) (lines-once s lines)
 
 -- ---- the listing
 

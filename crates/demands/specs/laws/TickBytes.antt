@@ -31,7 +31,7 @@ use Rattle.finish.specs.laws.Record.{AtWork, AtRest, at-work, finishes, ticks-m
 use Rattle.finish.specs.laws.Loaded.{loaded-at-work}
 use Rattle.reader.specs.declared.Reader.{Reader}
 use Rattle.reader.specs.declared.«text_line».ReadLine.{ReadLine}
-use Rattle.reader.specs.Reader.{unknown}
+use Rattle.reader.specs.Reader.{longestText, unknown}
 use Rattle.job.specs.Text.{linesOf}
 use Rattle.job.specs.Job.{Asks, Made, End, onward, jobFrom, jobOf}
 use Rattle.job.specs.Calls.{enough}
@@ -108,7 +108,7 @@ lines-tick (l ∷ ls) n m k i = by-line m n k ls i (lines-tick ls) (line-asks m 
 text-ticks : (s : Settings) → settingsNo s ≡ 0 → (text : List ℕ)
     → BlocksTick (alone (freshOf s)) (jobOf s text .blocks) (tickBytesOf s text)
 unfolding tickBytesOf jobOf freshOf
-text-ticks s passed text = by (leb (length text) 65536)
+text-ticks s passed text = by (leb (length text) longestText)
   where
     by : (short : Bool)
         → BlocksTick (alone (freshOf s))

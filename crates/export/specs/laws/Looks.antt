@@ -8,7 +8,7 @@ use lib.IntN.{ℤ, pos, negsuc}
 use lib.ListN.{length, drop}
 use lib.Seq.{drop-drop}
 use borrow.Author.Tests.{le-leb, lt-leb}
-use Rattle.arc.specs.Centre.{Near}
+use Rattle.plane.specs.Point.{Near}
 use Rattle.queue.specs.declared.Queue.{Queue}
 use Rattle.work.specs.declared.Advance.{Advance}
 use Rattle.work.specs.Work.{isNothing, cyclesLeft, advanceOf}

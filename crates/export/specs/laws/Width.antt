@@ -20,7 +20,8 @@ use Rattle.block.specs.declared.Path.{Path}
 use Rattle.block.specs.Block.{arcOf, widthAlong, blockWidth}
 use Rattle.block.specs.laws.Begin.{offset-right, square-some, square-most}
 use Rattle.block.specs.Questions.{loadNo}
-use Rattle.work.specs.Work.{Loadable, begunOf}
+use Rattle.work.specs.Work.{begunOf}
+use Rattle.work.specs.computed.Work.{Loadable}
 use Rattle.work.specs.laws.Left.{accepted-loadable}
 use Rattle.settings.specs.Settings.{capacityOf}
 use Rattle.bench.specs.declared.Answer.{Answer}

@@ -11,7 +11,7 @@ use Rattle.bench.specs.Bench.{movedOf, freshOf}
 use Rattle.finish.specs.laws.Record.{AtRest}
 use Rattle.reader.specs.declared.Reader.{Reader}
 use Rattle.reader.specs.declared.«text_line».ReadLine.{ReadLine}
-use Rattle.reader.specs.Reader.{unknown}
+use Rattle.reader.specs.Reader.{longestText, unknown}
 use Rattle.job.specs.Text.{linesOf}
 use Rattle.job.specs.Job.{Asks, Job, onward, jobFrom, jobOf}
 use Rattle.job.specs.Calls.{Cuts, afterRead, callsFrom, cutsOf}
@@ -42,8 +42,8 @@ calls-tell [] n m k i low = refl
 calls-tell (l ∷ ls) n m k i low = by-line m n k ls i low (calls-tell ls) (line-asks m k (i .sound) (i .idle) l)
 
 -- so of a whole text that question 30 lets through, from a machine made fresh
-pub job-told : (s : Settings) → settingsNo s ≡ 0 → (text : List ℕ) → length text ≤ 65536
+pub job-told : (s : Settings) → settingsNo s ≡ 0 → (text : List ℕ) → length text ≤ longestText
     → callsFrom 1 (freshOf s) unknown (linesOf text) ≡ told (freshOf s) (jobOf s text)
 unfolding jobOf freshOf
 job-told s passed text short =
-    rw (le-leb (length text) 65536 short) (calls-tell (linesOf text) 1 (freshOf s) unknown (fresh-rests s passed) (fresh-low s passed))
+    rw (le-leb (length text) longestText short) (calls-tell (linesOf text) 1 (freshOf s) unknown (fresh-rests s passed) (fresh-low s passed))

@@ -7,7 +7,7 @@ use native.Mathlib.Omega.{arith}
 use lib.ListN.{length, take, drop, length-append}
 use lib.Seq.{length-take-le, drop-drop}
 use borrow.Author.Tests.{leb-true}
-use Rattle.row.specs.Buffer.{hasRoom}
+use Rattle.row.specs.Buffer.{lineRoom, hasRoom}
 use Rattle.row.specs.laws.Buffer.{placed-length, placed-front, placed-rest}
 use Rattle.job.specs.declared.Check.{Check}
 use Rattle.job.specs.declared.Step.{Step}
@@ -26,12 +26,12 @@ pub filling-start : (c : Check) (text old : List ℕ) → Filling c text old old
 filling-start c text old = record { bytes = refl; later = refl; room = omega arith; long = refl; keeps = λ r. r }
 
 module _ {c : Check} {text old new : List ℕ} {check : Check} {len : ℕ} (f : Filling c text old new check len) where
-  pub filling-done : (160 ≤ length old → isOver check ≡ false → 1 ≤ len) → Fills c text old (record { len = len; check = check }) new
+  pub filling-done : (lineRoom ≤ length old → isOver check ≡ false → 1 ≤ len) → Fills c text old (record { len = len; check = check }) new
   filling-done onward = record { bytes = f .bytes; later = f .later; room = f .room; onward = onward; keeps = f .keeps }
 
   pub filling-on : hasRoom new len ≡ true → {s : Step} {new′ : List ℕ} → Steps check text new len s new′ → Filling c text old new′ (s .check) (s .next)
   filling-on free {s} {new′} t =
-      let fits : len + length (t .line) ≤ length new = omega (arith, t .room, leb-true (len + 160) (length new) free) in
+      let fits : len + length (t .line) ≤ length new = omega (arith, t .room, leb-true (len + lineRoom) (length new) free) in
       rw (t .next, t .buffer)
       (record {
         bytes =
@@ -57,7 +57,7 @@ less-to-come len new next false e room onward =
 abbrev pub toCome : Check → (text : List ℕ) → ℕ
 toCome c text = cond (isOver c) 0 (suc (length (restOf c text)))
 
-pub fill-less : {c : Check} {text old new : List ℕ} {f : Filled} → Fills c text old f new → 160 ≤ length old → length new ≡ length old → isOver c ≡ false
+pub fill-less : {c : Check} {text old new : List ℕ} {f : Filled} → Fills c text old f new → lineRoom ≤ length old → length new ≡ length old → isOver c ≡ false
     → toCome (f .check) text < toCome c text
 fill-less {text = text} {new = new} {f = f} fill room long going =
     rw going (less-to-come (f .len) new (restOf (f .check) text) (isOver (f .check)) (fill .bytes) (omega (arith, fill .room)) (fill .onward room))

@@ -15,7 +15,7 @@ use Rattle.finish.specs.laws.Record.{AtRest}
 use Rattle.bench.specs.Bench.{freshOf}
 use Rattle.keeps.specs.laws.Make.{fresh-sound}
 use lib.IntN.{pos}
-use Rattle.reader.specs.Reader.{unknown}
+use Rattle.reader.specs.Reader.{longestText, unknown}
 use Rattle.listing.specs.Tally.{startOf as tallyStart}
 use Rattle.job.specs.Text.{lineOr, linesOf}
 use Rattle.job.specs.Job.{Made, End, jobFrom, jobOf}
@@ -49,9 +49,9 @@ last-is q0 ms (End.refused n number) = refl
 -- from a machine made fresh
 pub listing-is : (s : Settings) → settingsNo s ≡ 0 → (text : List ℕ) → restOf (startOf (freshOf s)) text ≡ listingOf s text
 unfolding restOf startOf tallyStart listingOf jobOf freshOf rows
-listing-is s passed text = ap (λ (rest : List ℕ). headerLine ++ rest) (by (leb (length text) 65536) refl)
+listing-is s passed text = ap (λ (rest : List ℕ). headerLine ++ rest) (by (leb (length text) longestText) refl)
   where
-    by : (short : Bool) → leb (length text) 65536 ≡ short
+    by : (short : Bool) → leb (length text) longestText ≡ short
         → cond short (rowsFrom (tallyStart (freshOf s)) (linesOf text)) (refusedLine 1 30)
         ≡ (let j = cond short (jobFrom s 1 (record { x = pos 0; y = pos 0 }) unknown (linesOf text)) (record { blocks = []; end = End.refused 1 30 }) in
         rows 1 (j .blocks) ++ lastLine (capacityOf s) (j .blocks) (j .end))
@@ -59,6 +59,6 @@ listing-is s passed text = ap (λ (rest : List ℕ). headerLine ++ rest) (by (le
         let j = jobFrom s 1 (record { x = pos 0; y = pos 0 }) unknown (linesOf text) in
         lists (linesOf text) (tallyStart (freshOf s)) (fresh-rests s passed) (fresh-low s passed)
         (record { lines = omega arith; blocks = omega arith; cycles = omega arith; ticks = omega arith })
-        (omega (arith, lines-few text, leb-true (length text) 65536 e))
+        (omega (arith, lines-few text, leb-true (length text) longestText e))
         ∙ ap (λ (last : List ℕ). rows 1 (j .blocks) ++ last) (last-is (capacityOf s) (j .blocks) (j .end))
     by false e = refl

@@ -2,7 +2,7 @@
 use mathlib.Core.Path.{_≡_, refl}
 use mathlib.Core.Bool.{Bool, true, false, cond}
 use mathlib.Core.List.{List}
-use Prim.Native.Nat.{ℕ, zero, suc, _^_, _≤_, _<_}
+use Prim.Native.Nat.{ℕ, zero, suc, _+_, _^_, _≤_, _<_}
 use native.Mathlib.Omega.{arith}
 use lib.ListN.{length}
 use Rattle.letters.specs.declared.word.Word.{Word}
@@ -19,7 +19,7 @@ use Rattle.reader.specs.declared.asked.ToLoad.{ToLoad}
 use Rattle.reader.specs.declared.asked.Asked.{Asked}
 use Rattle.reader.specs.declared.«text_line».Read.{Read}
 use Rattle.reader.specs.declared.«text_line».ReadLine.{ReadLine}
-use Rattle.reader.specs.Reader.{readerAfter, feedAfter, lineNo}
+use Rattle.reader.specs.Reader.{longestText, readerAfter, feedAfter, lineNo}
 use Rattle.reader.specs.Asked.{askedWith, askedOf}
 use Rattle.reader.specs.TextLine.{reads, loaded, takes, takenOf, readLineOf}
 use Rattle.reader.specs.laws.Small.{line-writable}
@@ -93,7 +93,7 @@ feed-read k m line h = by (soundOf m)
 
 -- ---- a line
 
-module _ (t : Tally) {at next : ℕ} (r : Reached at t) (near : next ≤ 65537) where
+module _ (t : Tally) {at next : ℕ} (r : Reached at t) (near : next ≤ longestText + 1) where
   rests : AtRest (t .bench)
   rests = record { sound = r .sound; free = r .free; idle = r .idle }
 

@@ -14,6 +14,7 @@ use Rattle.settings.specs.Settings.{capacityOf}
 use Rattle.bench.specs.Bench.{movedOf}
 use Rattle.bench.specs.Calls.{loadOf}
 use Rattle.finish.specs.laws.Record.{AtRest, cycles-most, ticks-most}
+use Rattle.reader.specs.Reader.{longestText}
 use Rattle.reader.specs.declared.Reader.{Reader}
 use Rattle.reader.specs.declared.«text_line».ReadLine.{ReadLine}
 use Rattle.reader.specs.TextLine.{readLineOf}
@@ -64,7 +65,7 @@ module _ (t : Tally) (k : Reader) (b : Block) (i : AtRest (t .bench)) (low : Low
   unfolding blockListed movedOf
   block-given = rw (ended (t .bench) i b ok, kind-loaded)
 
-  counted : Counts t → t .lines + 1 ≤ 65536 → Counts next
+  counted : Counts t → t .lines + 1 ≤ longestText → Counts next
   counted c most =
       let e = ended (t .bench) i b ok in
       let few = rw e at (cycles-most (loadOf (t .bench) b .bench)) in
@@ -88,10 +89,10 @@ module _ (t : Tally) (k : Reader) (b : Block) (i : AtRest (t .bench)) (low : Low
 -- ---- any line
 
 abbrev pub Lists : List (List ℕ) → Tally → Type 0
-Lists ls t = AtRest (t .bench) → Low (t .bench) → Counts t → t .lines + length ls ≤ 65536
+Lists ls t = AtRest (t .bench) → Low (t .bench) → Counts t → t .lines + length ls ≤ longestText
     → rowsFrom t ls ≡ listingAfter t (jobFrom (t .bench .settings) (t .lines + 1) (t .bench .at) (t .reader) ls)
 
-by-line : (t : Tally) (ls : List (List ℕ)) → AtRest (t .bench) → Low (t .bench) → Counts t → t .lines + suc (length ls) ≤ 65536
+by-line : (t : Tally) (ls : List (List ℕ)) → AtRest (t .bench) → Low (t .bench) → Counts t → t .lines + suc (length ls) ≤ longestText
     → ((t′ : Tally) → Lists ls t′)
     → {a : Asks} {r : ReadLine} → Read-as (t .bench) (t .reader) a r
     → (let g = listedWith t (r .reader) (r .bench) (r .answer) in g .bytes ++ unless (g .over) (rowsFrom (g .tally) ls))

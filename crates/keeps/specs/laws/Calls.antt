@@ -10,7 +10,7 @@ use Rattle.plane.specs.declared.travel.Travel.{Travel}
 use Rattle.plane.specs.laws.Travel.{inside, inside-test}
 use Rattle.block.specs.declared.Block.{Block}
 use Rattle.block.specs.Questions.{feedRight, loadNo}
-use Rattle.block.specs.laws.Asked.{answered}
+use Rattle.whole.specs.laws.Ask.{answered}
 use Rattle.work.specs.declared.Work.{Work}
 use Rattle.work.specs.Work.{isNothing, workSound, advanceOf, begunOf}
 use Rattle.work.specs.laws.Keep.{SoundAt, keeps-sound}

@@ -9,18 +9,20 @@ use Rattle.whole.specs.laws.Test.{both}
 use Rattle.plane.specs.declared.point.Point.{Point}
 use Rattle.plane.specs.declared.travel.Travel.{Travel}
 use Rattle.plane.specs.Travel.{insideOf}
+use Rattle.plane.specs.Point.{Near}
+use Rattle.plane.specs.computed.Travel.{Wide}
 use Rattle.plane.specs.laws.Travel.{Within, inside, inside-test}
 use Rattle.line.specs.laws.Cycles.{cycles-some, differ-apart}
 use Rattle.line.specs.laws.Points.{point-start}
 use Rattle.arc.specs.Arc.{centres}
-use Rattle.arc.specs.Centre.{Near, Wide}
 use Rattle.block.specs.declared.Block.{Block}
 use Rattle.block.specs.declared.Path.{Path}
 use Rattle.block.specs.Block.{arcOf}
 use Rattle.block.specs.Questions.{offsetRight, pathNo}
-use Rattle.block.specs.laws.Asked.{answered}
+use Rattle.whole.specs.laws.Ask.{answered}
 use Rattle.block.specs.laws.Begin.{begins}
-use Rattle.work.specs.Work.{workSound, workAlong, Loadable}
+use Rattle.work.specs.Work.{workSound, workAlong}
+use Rattle.work.specs.computed.Work.{Loadable}
 use Rattle.work.specs.laws.Sound.{Feed, line-sound, arc-sound}
 
 centre-inside : (p : Point) → Near 2000000 p → insideOf centres p ≡ true

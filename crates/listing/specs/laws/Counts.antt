@@ -5,11 +5,12 @@ use Prim.Native.Nat.{ℕ, _+_, _*_, _^_, _≤_, _<_}
 use native.Mathlib.Omega.{arith}
 use borrow.Author.Tests.{leb-true, le-leb}
 use Rattle.whole.specs.laws.Test.{both, joined}
+use Rattle.reader.specs.Reader.{longestText}
 use Rattle.listing.specs.declared.Tally.{Tally}
 use Rattle.listing.specs.Tally.{mostBlockCycles, mostBlockTicks, countsRight}
 
 pub record Counts (t : Tally) : Type 0 where
-  pub lines : t .lines ≤ 65536
+  pub lines : t .lines ≤ longestText
   pub blocks : t .blocks ≤ t .lines
   pub cycles : t .cycles ≤ mostBlockCycles * t .lines
   pub ticks : t .ticks ≤ mostBlockTicks * t .lines

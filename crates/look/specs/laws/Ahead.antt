@@ -8,9 +8,8 @@ use lib.IntN.{ℤ, pos, _+ℤ_, _-ℤ_}
 use borrow.Author.Tests.{leb-true, le-leb, lt-leb}
 use Rattle.whole.specs.laws.Difference.{ring, var, num, _⊕_, _⊖_}
 use Rattle.plane.specs.declared.point.Point.{Point}
-use Rattle.plane.specs.laws.Travel.{inside}
-use Rattle.arc.specs.Centre.{Near}
-use Rattle.arc.specs.laws.Work.{travel-near}
+use Rattle.plane.specs.Point.{Near}
+use Rattle.plane.specs.laws.Travel.{inside, travel-near}
 use Rattle.settings.specs.laws.Right.{settings-right}
 use Rattle.bench.specs.laws.Sound.{sound as bench-parts}
 use Rattle.machine.specs.declared.Machine.{Machine}

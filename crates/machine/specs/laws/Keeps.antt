@@ -10,7 +10,7 @@ use Rattle.plane.specs.declared.travel.Travel.{Travel}
 use Rattle.block.specs.declared.Block.{Block}
 use Rattle.block.specs.Questions.{loadNo}
 use Rattle.block.specs.Chain.{chainEnd}
-use Rattle.block.specs.laws.Asked.{answered}
+use Rattle.whole.specs.laws.Ask.{answered}
 use Rattle.queue.specs.declared.Queue.{Queue}
 use Rattle.queue.specs.Queue.{emptyQueue, firstOf, poppedOf}
 use Rattle.queue.specs.laws.Sound.{QueueSound, queue-sound, empty-sound, none-sound, push-sound, first-sound}

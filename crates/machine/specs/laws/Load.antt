@@ -13,7 +13,7 @@ use Rattle.block.specs.declared.Block.{Block}
 use Rattle.block.specs.Block.{blockCycles}
 use Rattle.block.specs.Questions.{loadNo}
 use Rattle.block.specs.Chain.{chainEnd, chainCycles, rootOf, Accepted}
-use Rattle.block.specs.laws.Asked.{answered}
+use Rattle.whole.specs.laws.Ask.{answered}
 use Rattle.block.specs.laws.Chain.{cycles-more, chain-end-inside, chain-cycles-most}
 use Rattle.block.specs.laws.Accepted.{cycles-range}
 use Rattle.queue.specs.Queue.{waiting, pushedOf, waitingAt}

@@ -7,8 +7,8 @@ use lib.Dec.{T}
 use borrow.Author.Tests.{lt-ltb, le-ltb}
 use Rattle.plane.specs.declared.travel.Travel.{Travel}
 use Rattle.plane.specs.Travel.{insideOf}
+use Rattle.plane.specs.computed.Travel.{Wide}
 use Rattle.plane.specs.laws.Travel.{inside, inside-test}
-use Rattle.arc.specs.Centre.{Wide}
 use Rattle.work.specs.Work.{isNothing, cyclesLeft, endOf, advanceOf}
 use Rattle.work.specs.Rest.{Countable, rootIn}
 use Rattle.work.specs.laws.Rest.{countable}

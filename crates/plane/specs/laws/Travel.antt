@@ -5,13 +5,15 @@ use Prim.Native.Nat.{ℕ, zero, suc, _≤_, _<_}
 use native.Mathlib.Nat.{eq-or-lt-of-le, le-of-suc-le-suc}
 use native.Mathlib.Omega.{arith}
 use mathlib.Core.Bool.{true}
-use lib.IntN.{ℤ}
-use Rattle.whole.specs.laws.Order.{_≼_, leZ-true, ≼-leZ}
+use lib.IntN.{ℤ, pos, negsuc, natAbs}
+use Rattle.whole.specs.laws.Order.{_≼_, abs-is, leZ-true, ≼-leZ}
 use Rattle.whole.specs.laws.Test.{both, joined}
 use Rattle.plane.specs.declared.point.Point.{Point}
 use Rattle.plane.specs.declared.travel.Range.{Range}
 use Rattle.plane.specs.declared.travel.Travel.{Travel}
+use Rattle.plane.specs.Point.{Near}
 use Rattle.plane.specs.Travel.{withinOf, insideOf, visitsInside}
+use Rattle.plane.specs.computed.Travel.{Wide}
 
 pub record Within (r : Range) (v : ℤ) : Type 0 where
   pub above : r .lower ≼ v
@@ -37,6 +39,17 @@ inside e = let b = both e in record { x = within (b .0); y = within (b .1) }
 pub inside-test : {t : Travel} {p : Point} → Inside t p → insideOf t p ≡ true
 unfolding insideOf
 inside-test i = joined (within-test (i .x)) (within-test (i .y))
+
+-- a point in a travel that is wide enough for 01
+pub axis-near : (lower upper z : ℤ) → natAbs lower ≤ 1000000 → natAbs upper ≤ 1000000 → lower ≼ z → z ≼ upper → natAbs z ≤ 1000000
+axis-near lower upper (pos a) h k l m = omega (arith, abs-is upper)
+axis-near lower upper (negsuc a) h k l m = omega (arith, abs-is lower)
+
+pub travel-near : {t : Travel} {p : Point} → Wide t → Inside t p → Near 1000000 p
+travel-near {t} {p} w i = record {
+  x = axis-near (t .x .lower) (t .x .upper) (p .x) (w .x-lower) (w .x-upper) (i .x .above) (i .x .below);
+  y = axis-near (t .y .lower) (t .y .upper) (p .y) (w .y-lower) (w .y-upper) (i .y .above) (i .y .below);
+}
 
 -- every visited point, one by one
 pub visits : (t : Travel) (path : ℕ → Point) (n : ℕ) → visitsInside t path n ≡ true → (c : ℕ) → 1 ≤ c → c ≤ n → Inside t (path c)

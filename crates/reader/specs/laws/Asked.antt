@@ -13,7 +13,7 @@ use Rattle.words.specs.computed.Scan.{firstLine}
 use Rattle.words.specs.laws.Meaning.{meaning-broken}
 use Rattle.reader.specs.declared.Reader.{Reader}
 use Rattle.reader.specs.declared.asked.ToLoad.{ToLoad}
-use Rattle.reader.specs.Reader.{readerAfter, lineNo}
+use Rattle.reader.specs.Reader.{longestLine, readerAfter, lineNo}
 use Rattle.reader.specs.Asked.{asked, askedWith, askedOf}
 
 pub asked-refused : (p : ℕ) (k k′ : Reader) (place : Point) (ws : Words) (n : ℕ) → (n ≡ 0 → ⊥)
@@ -23,12 +23,12 @@ asked-refused p k k′ place ws (suc n) some = refl
 
 -- the number that bytes with an LF get
 abbrev pub brokenNo : (bytes : ℕ) → ℕ
-brokenNo bytes = cond (leb bytes 80) 32 31
+brokenNo bytes = cond (leb bytes longestLine) 32 31
 
 pub asked-broken : (p : ℕ) (k : Reader) (place : Point) (bytes : List ℕ) → length (firstLine bytes) < length bytes
     → asked (ToLoad.Refused (brokenNo (length bytes))) k ≡ askedOf p k place (length bytes) (meaningOf bytes)
 unfolding askedOf lineNo
-asked-broken p k place bytes lf = rw (← meaning-broken bytes lf) (by (leb (length bytes) 80))
+asked-broken p k place bytes lf = rw (← meaning-broken bytes lf) (by (leb (length bytes) longestLine))
   where
     by : (short : Bool)
         → asked (ToLoad.Refused (cond short 32 31)) k

@@ -12,8 +12,9 @@ use Rattle.whole.specs.laws.Test.{joined}
 use Rattle.plane.specs.declared.point.Point.{Point}
 use Rattle.plane.specs.declared.travel.Travel.{Travel}
 use Rattle.plane.specs.Travel.{insideOf}
+use Rattle.plane.specs.computed.Travel.{Wide}
 use Rattle.circle.specs.laws.Count.{quarter-bound}
-use Rattle.arc.specs.Centre.{Wide, seenFrom}
+use Rattle.arc.specs.Centre.{seenFrom}
 use Rattle.block.specs.declared.Block.{Block}
 use Rattle.block.specs.Chain.{chainAccepted, rootOf, Accepted}
 use Rattle.block.specs.laws.Accepted.{yes}

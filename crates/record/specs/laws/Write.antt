@@ -18,7 +18,8 @@ use Rattle.queue.specs.laws.Waiting.{pop-places}
 use Rattle.line.specs.declared.line.Line.{Line}
 use Rattle.arc.specs.declared.arc.Arc.{Arc}
 use Rattle.work.specs.declared.Work.{Work}
-use Rattle.work.specs.Work.{isNothing, Loadable, begunOf}
+use Rattle.work.specs.Work.{isNothing, begunOf}
+use Rattle.work.specs.computed.Work.{Loadable}
 use Rattle.work.specs.laws.Left.{nothing-is, accepted-loadable}
 use Rattle.bench.specs.declared.Bench.{Bench}
 use Rattle.bench.specs.Bench.{movedOf}

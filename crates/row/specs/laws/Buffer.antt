@@ -10,23 +10,23 @@ use mir.Syntax.{w64}
 use mir.Val.{Fits, SFits}
 use Rattle.row.specs.declared.lines.Kind.{Kind}
 use Rattle.row.specs.Lines.{headerLine, blockLine, totalLine, refusedLine}
-use Rattle.row.specs.Buffer.{placed}
+use Rattle.row.specs.Buffer.{lineRoom, placed}
 use Rattle.row.specs.laws.Lines.{block-length, total-length, refused-length}
 
--- ---- 160 bytes hold every line
+-- ---- there is room for every line
 
-pub header-short : length headerLine ≤ 160
+pub header-short : length headerLine ≤ lineRoom
 header-short = omega arith
 
 pub block-short : (block textLine : ℕ) (kind : Kind) (cycles : ℕ) (x y : ℤ) (bits : ℕ)
     → Fits w64 block → Fits w64 textLine → Fits w64 cycles → SFits w64 x → SFits w64 y → Fits w64 bits
-    → length (blockLine block textLine kind cycles x y bits) ≤ 160
+    → length (blockLine block textLine kind cycles x y bits) ≤ lineRoom
 block-short block textLine kind cycles x y bits b l c p q w = omega (arith, block-length block textLine kind cycles x y bits b l c p q w)
 
-pub total-short : (blocks cycles ticks : ℕ) → Fits w64 blocks → Fits w64 cycles → Fits w64 ticks → length (totalLine blocks cycles ticks) ≤ 160
+pub total-short : (blocks cycles ticks : ℕ) → Fits w64 blocks → Fits w64 cycles → Fits w64 ticks → length (totalLine blocks cycles ticks) ≤ lineRoom
 total-short blocks cycles ticks b c t = omega (arith, total-length blocks cycles ticks b c t)
 
-pub refused-short : (textLine number : ℕ) → Fits w64 textLine → Fits w64 number → length (refusedLine textLine number) ≤ 160
+pub refused-short : (textLine number : ℕ) → Fits w64 textLine → Fits w64 number → length (refusedLine textLine number) ≤ lineRoom
 refused-short textLine number l n = omega (arith, refused-length textLine number l n)
 
 -- ---- the buffer after a line that fits

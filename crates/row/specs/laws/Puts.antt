@@ -10,7 +10,7 @@ use lib.Seq.{paste, paste-zero, take-length, length-take-le, append-snoc}
 use lib.Seq.{set-split, set-append-left, take-set-le, take-set-lt, take-suc-set, drop-set-lt}
 use borrow.Author.Tests.{le-leb, lt-leb}
 use Rattle.row.specs.declared.lines.Place.the-variants.{Next, NoRoom}
-use Rattle.row.specs.Buffer.{placed, bufferAfter, placeAfter}
+use Rattle.row.specs.Buffer.{lineRoom, placed, bufferAfter, placeAfter}
 use Rattle.row.specs.laws.Buffer.{placed-length, placed-join}
 
 -- new is old with the line at a place; the next place is after the line, at most k further on, and within the buffer
@@ -92,9 +92,9 @@ puts-text s old new at i h e copied =
 -- ---- a whole line
 
 module _ (old : List ℕ) (at : ℕ) where
-  pub with-room : {line new : List ℕ} {next k : ℕ} → at + 160 ≤ length old → Puts line k old at new next
+  pub with-room : {line new : List ℕ} {next k : ℕ} → at + lineRoom ≤ length old → Puts line k old at new next
       → (new ≡ bufferAfter line old at) × (Next next ≡ placeAfter line old at)
-  with-room h p = rw (le-leb (at + 160) (length old) h) (p .buffer, ap Next (p .place))
+  with-room h p = rw (le-leb (at + lineRoom) (length old) h) (p .buffer, ap Next (p .place))
 
-  pub without-room : (line : List ℕ) → length old < at + 160 → (old ≡ bufferAfter line old at) × (NoRoom ≡ placeAfter line old at)
-  without-room line h = rw (lt-leb (at + 160) (length old) h) (refl, refl)
+  pub without-room : (line : List ℕ) → length old < at + lineRoom → (old ≡ bufferAfter line old at) × (NoRoom ≡ placeAfter line old at)
+  without-room line h = rw (lt-leb (at + lineRoom) (length old) h) (refl, refl)

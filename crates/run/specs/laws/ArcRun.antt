@@ -6,13 +6,12 @@ use Prim.Native.Nat.{ℕ, _+_, _-_, _*_, _^_, _≤_, _<_}
 use native.Mathlib.Omega.{arith}
 use lib.ListN.{set}
 use Rattle.plane.specs.declared.point.Point.{Point}
-use Rattle.plane.specs.Point.{equalPoint}
+use Rattle.plane.specs.Point.{equalPoint, Near}
 use Rattle.plane.specs.Byte.{bothCodes, withMarks, cycleByte}
 use Rattle.circle.specs.Charge.{moveCharge}
 use Rattle.arc.specs.declared.arc.Arc.{Arc}
 use Rattle.arc.specs.declared.stepper.Tracer.{Tracer}
 use Rattle.arc.specs.declared.stepper.Traced.{Traced}
-use Rattle.arc.specs.Centre.{Near}
 use Rattle.arc.specs.Arc.{OnArc, arcStepped}
 use Rattle.arc.specs.Stepper.{arcTracer, tracedOf, tracerAt, Tracing}
 use Rattle.arc.specs.Charge.{arcCharge}

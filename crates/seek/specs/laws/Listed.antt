@@ -19,7 +19,7 @@ use Rattle.finish.specs.laws.Record.{AtRest}
 use Rattle.ahead.specs.Ahead.{tickingOf}
 use Rattle.reader.specs.declared.Reader.{Reader}
 use Rattle.reader.specs.declared.«text_line».ReadLine.{ReadLine}
-use Rattle.reader.specs.Reader.{unknown}
+use Rattle.reader.specs.Reader.{longestText, unknown}
 use Rattle.job.specs.Text.{linesOf}
 use Rattle.job.specs.Job.{Made, End, Asks, onward, jobFrom, jobOf}
 use Rattle.job.specs.Calls.{enough}
@@ -108,7 +108,7 @@ lines-listed (l ∷ ls) blocks lines n m k i = by-line blocks lines n m k ls i (
 pub seek-listed : (s : Settings) → settingsNo s ≡ 0 → (text : List ℕ) (n : ℕ)
     → (let a = seekOf s text n in Among (a .found) 0 (a .block) (a .line) (jobOf s text .blocks))
 unfolding seekOf jobOf makeOf freshOf
-seek-listed s passed text n = rw passed (by (leb (length text) 65536))
+seek-listed s passed text n = rw passed (by (leb (length text) longestText))
   where
     by : (short : Bool)
         → Listed (cond short (seekFrom 0 0 n (freshOf s) unknown (linesOf text)) (answer (Found.Refused 30) 0 1 n (freshOf s))) 0

@@ -14,7 +14,7 @@ use Rattle.ahead.specs.Ahead.{tickingOf}
 use Rattle.reader.specs.declared.Reader.{Reader}
 use Rattle.reader.specs.declared.«text_line».Read.{Read}
 use Rattle.reader.specs.declared.«text_line».ReadLine.{ReadLine}
-use Rattle.reader.specs.Reader.{unknown}
+use Rattle.reader.specs.Reader.{longestText, unknown}
 use Rattle.reader.specs.TextLine.{readLineOf}
 use Rattle.job.specs.Calls.{enough}
 use Rattle.seek.specs.declared.Found.{Found}
@@ -26,7 +26,7 @@ use Rattle.seek.specs.Seek.{answer, afterBlock, afterLine, seekFrom}
 
 -- the counts before a line have room for it
 abbrev pub Counted : Search → Type 0
-Counted s = (s .sought .block ≤ s .sought .line) × (s .sought .line ≤ 65536)
+Counted s = (s .sought .block ≤ s .sought .line) × (s .sought .line ≤ longestText)
 
 -- a line that made a block left a sound record
 abbrev pub Tested : ReadLine → Type 0

@@ -9,6 +9,7 @@ use lib.Seq.{drop-drop}
 use borrow.Author.Tests.{le-leb, lt-leb}
 use Rattle.words.specs.computed.Scan.{firstLine}
 use Rattle.settings.specs.declared.Settings.{Settings}
+use Rattle.reader.specs.Reader.{longestText}
 use Rattle.reader.specs.declared.«text_line».ReadLine.{ReadLine}
 use Rattle.reader.specs.TextLine.{readLineOf}
 use Rattle.job.specs.Text.{linesOf}
@@ -24,14 +25,14 @@ module _ (c : Settings) (n : ℕ) where
   unfolding startOf
   start-counted is = rw is (omega arith, omega arith)
 
-  pub seek-long : (text : List ℕ) → 65536 < length text
+  pub seek-long : (text : List ℕ) → longestText < length text
       → refusedOf (startOf c n) (startOf c n .sought .bench) 30 .sought ≡ seekOf c text n
   unfolding seekOf startOf
-  seek-long text long = rw (lt-leb (length text) 65536 long)
+  seek-long text long = rw (lt-leb (length text) longestText long)
 
-  pub seek-short : (text : List ℕ) → length text ≤ 65536 → toFind (startOf c n) (linesOf text) ≡ seekOf c text n
+  pub seek-short : (text : List ℕ) → length text ≤ longestText → toFind (startOf c n) (linesOf text) ≡ seekOf c text n
   unfolding seekOf startOf
-  seek-short text short = rw (le-leb (length text) 65536 short)
+  seek-short text short = rw (le-leb (length text) longestText short)
 
 -- the lines before `at` are read, and what is left of the text holds the answer
 pub record Seeking (text : List ℕ) (answer : Sought) (s : Search) (at : ℕ) : Type 0 where
@@ -40,9 +41,9 @@ pub record Seeking (text : List ℕ) (answer : Sought) (s : Search) (at : ℕ) :
   pub none : s .sought .left ≡ 0
   pub blocks : s .sought .block ≤ s .sought .line
   pub lines : s .sought .line ≤ at
-  pub short : length text ≤ 65536
+  pub short : length text ≤ longestText
 
-pub seeking-start : (c : Settings) (n : ℕ) (text : List ℕ) {s : Search} → s ≡ startOf c n → length text ≤ 65536
+pub seeking-start : (c : Settings) (n : ℕ) (text : List ℕ) {s : Search} → s ≡ startOf c n → length text ≤ longestText
     → Seeking text (toFind s (linesOf text)) s 0
 unfolding startOf
 seeking-start c n text is short =

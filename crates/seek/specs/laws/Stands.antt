@@ -29,7 +29,7 @@ use Rattle.ahead.specs.Ahead.{tickingOf}
 use Rattle.ahead.specs.laws.Sums.{Leads, leads-none, leads-both}
 use Rattle.reader.specs.declared.Reader.{Reader}
 use Rattle.reader.specs.declared.«text_line».ReadLine.{ReadLine}
-use Rattle.reader.specs.Reader.{unknown}
+use Rattle.reader.specs.Reader.{longestText, unknown}
 use Rattle.job.specs.Text.{linesOf}
 use Rattle.job.specs.Job.{Asks, jobOf}
 use Rattle.job.specs.Listing.{allTicks}
@@ -158,7 +158,7 @@ module _ (s : Settings) (passed : settingsNo s ≡ 0) (text : List ℕ) (n : ℕ
 
   text-stands : Stands (record { x = pos 0; y = pos 0 }) n (tickBytesOf s text) result
   unfolding seekOf tickBytesOf makeOf freshOf
-  text-stands = rw passed (by (leb (length text) 65536))
+  text-stands = rw passed (by (leb (length text) longestText))
     where
       by : (short : Bool)
           → Stands (record { x = pos 0; y = pos 0 }) n (cond short (bytesFrom (freshOf s) unknown (linesOf (drop 0 text))) [])

@@ -13,7 +13,7 @@ use Rattle.bench.specs.Run.{runOf}
 use Rattle.ahead.specs.Ahead.{tickingOf}
 use Rattle.reader.specs.declared.Reader.{Reader}
 use Rattle.reader.specs.declared.«text_line».Read.{Read}
-use Rattle.reader.specs.Reader.{unknown}
+use Rattle.reader.specs.Reader.{longestText, unknown}
 use Rattle.reader.specs.TextLine.{readLineOf}
 use Rattle.job.specs.Text.{linesOf}
 use Rattle.job.specs.Calls.{enough}
@@ -50,7 +50,7 @@ lines-few (l ∷ ls) blocks lines n m k =
 
 pub few-ticks : (s : Settings) (text : List ℕ) (n : ℕ) → seekOf s text n .ticks ≤ n
 unfolding seekOf
-few-ticks s text n = by (leb (length text) 65536)
+few-ticks s text n = by (leb (length text) longestText)
   where
     by : (short : Bool)
         → (let m = makeOf s .bench in

@@ -9,10 +9,9 @@ use lib.IntN.{pos, negsuc, natAbs}
 use Rattle.whole.specs.laws.Test.{both}
 use Rattle.plane.specs.declared.travel.Range.{Range}
 use Rattle.plane.specs.Travel.{withinOf}
-use Rattle.plane.specs.laws.Travel.{Within, Inside, within}
-use Rattle.arc.specs.Centre.{Wide}
-use Rattle.arc.specs.laws.Work.{axis-near}
-use Rattle.block.specs.laws.Asked.{answered}
+use Rattle.plane.specs.computed.Travel.{Wide}
+use Rattle.plane.specs.laws.Travel.{Within, Inside, within, axis-near}
+use Rattle.whole.specs.laws.Ask.{answered}
 use Rattle.settings.specs.declared.Settings.{Settings}
 use Rattle.settings.specs.Settings.{inRange, axisRight, travelRight, settingsNo, standardSettings}
 

@@ -8,6 +8,7 @@ use lib.ListN.{length, drop, length-drop, drop-of-length-le}
 use lib.Seq.{drop-drop}
 use borrow.Author.Tests.{le-leb, lt-leb}
 use Rattle.bench.specs.declared.Bench.{Bench}
+use Rattle.reader.specs.Reader.{longestText}
 use Rattle.reader.specs.declared.«text_line».ReadLine.{ReadLine}
 use Rattle.reader.specs.TextLine.{readLineOf}
 use Rattle.words.specs.computed.Scan.{firstLine}
@@ -23,13 +24,13 @@ module _ (t : Tape) (text : List ℕ) (going : t .over ≡ false) where
   unfolding restOf
   last none = record { rest = sym none; fewer = rw going (omega arith) }
 
-  pub next-long : 65536 < length text → NextLine t text (endedOf t)
-  next-long long = last (rw (lt-leb (length text) 65536 long))
+  pub next-long : longestText < length text → NextLine t text (endedOf t)
+  next-long long = last (rw (lt-leb (length text) longestText long))
 
-  module _ (short : length text ≤ 65536) where
+  module _ (short : length text ≤ longestText) where
     pub next-none : length text ≤ t .at → NextLine t text (endedOf t)
     unfolding bytesFrom linesOf
-    next-none end = last (rw (le-leb (length text) 65536 short, drop-of-length-le text end))
+    next-none end = last (rw (le-leb (length text) longestText short, drop-of-length-le text end))
 
     module _ {r : ReadLine} {end : ℕ} (more : t .at < length text) (found : end ≡ t .at + length (firstLine (drop (t .at) text)))
         (read : r ≡ readLineOf (t .reader) (t .bench) (firstLine (drop (t .at) text))) where
@@ -41,7 +42,7 @@ module _ (t : Tape) (text : List ℕ) (going : t .over ≡ false) where
       cut : linesBytes (t .bench) (t .reader) (t .at) text
           ≡ unless (isRefused (r .answer)) (runThen (r .bench) (λ (m : Bench). bytesFrom m (r .reader) (linesOf (drop (end + 1) text))))
       unfolding bytesFrom
-      cut = rw (le-leb (length text) 65536 short, lines-next (drop (t .at) text) (rw (length-drop (t .at) text) (omega arith)), after, read)
+      cut = rw (le-leb (length text) longestText short, lines-next (drop (t .at) text) (rw (length-drop (t .at) text) (omega arith)), after, read)
 
       pub next-refused : isRefused (r .answer) ≡ true → NextLine t text (endedOf t)
       next-refused e = last (cut ∙ rw e)
@@ -49,5 +50,5 @@ module _ (t : Tape) (text : List ℕ) (going : t .over ≡ false) where
       pub next-read : isRefused (r .answer) ≡ false → NextLine t text (record { over = false; at = end + 1; reader = r .reader; bench = r .bench })
       unfolding restOf
       next-read e =
-          let few = le-leb (length text) 65536 short in
+          let few = le-leb (length text) longestText short in
           record { rest = rw few (sym (rw (few, e) at cut)); fewer = rw going (omega (arith, found)) }

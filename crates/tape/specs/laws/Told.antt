@@ -20,7 +20,7 @@ use Rattle.bench.specs.laws.Run.{ticks-are}
 use Rattle.finish.specs.laws.Record.{AtRest}
 use Rattle.reader.specs.declared.Reader.{Reader}
 use Rattle.reader.specs.declared.«text_line».ReadLine.{ReadLine}
-use Rattle.reader.specs.Reader.{unknown}
+use Rattle.reader.specs.Reader.{longestText, unknown}
 use Rattle.job.specs.Text.{linesOf}
 use Rattle.job.specs.Job.{Made, End, Asks, onward, jobFrom, jobOf}
 use Rattle.job.specs.Calls.{enough}
@@ -91,7 +91,7 @@ lines-told (l ∷ ls) n m k i low = by-line m n k ls i low (lines-told ls) (line
 -- of a whole text, from a machine made fresh
 pub bytes-told : (s : Settings) → settingsNo s ≡ 0 → (text : List ℕ) → Counts (capacityOf s) 0 (jobOf s text .blocks) (tickBytesOf s text)
 unfolding tickBytesOf jobOf freshOf
-bytes-told s passed text = by (leb (length text) 65536)
+bytes-told s passed text = by (leb (length text) longestText)
   where
     by : (short : Bool)
         → Counts (capacityOf s) 0 (cond short (jobFrom s 1 (record { x = pos 0; y = pos 0 }) unknown (linesOf text)) (record { blocks = []; end = End.refused 1 30 }) .blocks)

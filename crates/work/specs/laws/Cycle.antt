@@ -1,7 +1,7 @@
 -- A cycle and a tick, put together from what the code's calls give.
-use mathlib.Core.Path.{_≡_, refl, ap, _∙_}
+use mathlib.Core.Path.{_≡_, ap, _∙_}
 use mathlib.Core.Bool.{Bool, true, false}
-use Prim.Native.Nat.{ℕ, _*_, _≤_}
+use Prim.Native.Nat.{ℕ, _≤_}
 use lib.Dec.{eqb}
 use Rattle.plane.specs.declared.point.Point.{Point}
 use Rattle.plane.specs.Point.{equalPoint}
@@ -10,7 +10,6 @@ use Rattle.plane.specs.Byte.{cycleByte}
 use Rattle.line.specs.declared.line.Line.{Line}
 use Rattle.line.specs.declared.line.Stepped.{Stepped}
 use Rattle.line.specs.Line.{steppedOf}
-use Rattle.circle.specs.Charge.{diagonal}
 use Rattle.arc.specs.declared.arc.Arc.{Arc}
 use Rattle.arc.specs.declared.arc.Stepped.{Stepped as ArcStep}
 use Rattle.arc.specs.Arc.{arcStepped}
@@ -59,13 +58,3 @@ module _ (q0 : ℕ) (at : Point) (r : ℕ) (w : Work) {f : Fed} (fed : f ≡ fed
     where
       left : record { at = at; remainder = f .remainder; byte = 0; work = w } ≡ advanceBy at w f
       left = rw left-over
-
--- with nothing in work a cycle is none
-pub tick-nothing : (q0 : ℕ) (at : Point) (r : ℕ) {f : Fed} → f ≡ fedOf (diagonal * q0) 0 r
-    → record { at = at; remainder = f .remainder; byte = 0; work = Work.Nothing } ≡ advanceOf q0 at r Work.Nothing
-unfolding advanceOf cycleOf
-tick-nothing q0 at r {f} fed = either (f .cycle) ∙ ap (advanceBy at Work.Nothing) fed
-  where
-    either : (b : Bool) → record { at = at; remainder = f .remainder; byte = 0; work = Work.Nothing } ≡ advanceBy at Work.Nothing (record { remainder = f .remainder; cycle = b })
-    either true = refl
-    either false = refl

@@ -8,6 +8,7 @@ use borrow.Author.Tests.{eqb-false}
 use Rattle.plane.specs.declared.point.Point.{Point}
 use Rattle.plane.specs.declared.travel.Travel.{Travel}
 use Rattle.plane.specs.Point.{equalPoint}
+use Rattle.plane.specs.computed.Travel.{Wide}
 use Rattle.plane.specs.laws.Point.{equal-itself}
 use Rattle.plane.specs.laws.Travel.{Inside}
 use Rattle.line.specs.declared.line.Line.{Line}
@@ -16,13 +17,13 @@ use Rattle.line.specs.laws.Points.{point-inside}
 use Rattle.line.specs.laws.Work.{some-cycle, line-test}
 use Rattle.circle.specs.Charge.{diagonal}
 use Rattle.arc.specs.declared.arc.Arc.{Arc}
-use Rattle.arc.specs.Centre.{Wide}
 use Rattle.arc.specs.Arc.{arcAfter, arcStepped}
 use Rattle.arc.specs.laws.Work.{next-inside, on-arc, keeps}
 use Rattle.divider.specs.Divider.{fedOf}
 use Rattle.divider.specs.laws.Ticks.{tick, stays-below}
 use Rattle.work.specs.declared.Work.{Work}
-use Rattle.work.specs.Work.{workSound, following, lineCycle, arcCycle, cycleOf, feedOf, dueOf, addedOf, advanceBy, advanceOf, Ready}
+use Rattle.work.specs.Work.{isNothing, workSound, following, lineCycle, arcCycle, cycleOf, feedOf, dueOf, addedOf, advanceBy, advanceOf}
+use Rattle.work.specs.computed.Work.{Ready}
 use Rattle.work.specs.laws.Charge.{due-range}
 use Rattle.work.specs.laws.Sound.{LineWork, line-work, line-sound, ArcWork, arc-work, arc-sound}
 
@@ -40,11 +41,11 @@ module _ (q0 : ℕ) (t : Travel) where
   feed-most at (Work.Arc a) e = arc-work e .feed .most
 
   -- what a tick of what is sound asks
-  pub ready : {at : Point} {r : ℕ} (w : Work) → Wide t → q0 ≤ 1200000000 → SoundAt q0 t at r w → Ready at r w
+  pub ready : {at : Point} {r : ℕ} (w : Work) → isNothing w ≡ false → Wide t → q0 ≤ 1200000000 → SoundAt q0 t at r w → Ready at r w
   unfolding workSound
-  ready Work.Nothing wide small s = omega (arith, s .below)
-  ready (Work.Line l) wide small s = let i = line-work (s .sound) in (line-test (i .line), omega (arith, s .below, i .feed .most))
-  ready (Work.Arc a) wide small s = let i = arc-work (s .sound) in (on-arc (i .arc) wide (s .inside), omega (arith, s .below, i .feed .most))
+  ready Work.Nothing busy wide small s = absurd (subst T busy tt)
+  ready (Work.Line l) busy wide small s = let i = line-work (s .sound) in (line-test (i .line), omega (arith, s .below, i .feed .most))
+  ready (Work.Arc a) busy wide small s = let i = arc-work (s .sound) in (on-arc (i .arc) wide (s .inside), omega (arith, s .below, i .feed .most))
 
   -- ---- a cycle that does not end its block leaves a line or an arc in work
 

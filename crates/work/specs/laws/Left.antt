@@ -22,7 +22,8 @@ use Rattle.block.specs.Block.{arcOf, cyclesAlong, blockCycles}
 use Rattle.block.specs.Chain.{rootAlong, rootOf, Accepted}
 use Rattle.block.specs.laws.Accepted.{path-ready, Ready}
 use Rattle.work.specs.declared.Work.{Work}
-use Rattle.work.specs.Work.{isNothing, workSound, cyclesLeft, endOf, workAlong, begunOf, Loadable}
+use Rattle.work.specs.Work.{isNothing, workSound, cyclesLeft, endOf, workAlong, begunOf}
+use Rattle.work.specs.computed.Work.{Loadable}
 use Rattle.work.specs.Rest.{Countable, rootIn, Rooted}
 use Rattle.work.specs.laws.Sound.{line-work, arc-work}
 

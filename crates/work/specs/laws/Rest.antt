@@ -7,6 +7,7 @@ use lib.Dec.{T, eqb}
 use Rattle.plane.specs.declared.point.Point.{Point}
 use Rattle.plane.specs.declared.travel.Travel.{Travel}
 use Rattle.plane.specs.Point.{equalPoint}
+use Rattle.plane.specs.computed.Travel.{Wide}
 use Rattle.plane.specs.laws.Travel.{Inside}
 use Rattle.line.specs.declared.line.Line.{Line}
 use Rattle.line.specs.Line.{pointOf, steppedOf}
@@ -14,7 +15,6 @@ use Rattle.line.specs.laws.Cycles.{cycles-bound}
 use Rattle.circle.specs.declared.plane.Offset.{Offset}
 use Rattle.circle.specs.Charge.{stepCharge, chargesIn}
 use Rattle.arc.specs.declared.arc.Arc.{Arc}
-use Rattle.arc.specs.Centre.{Wide}
 use Rattle.arc.specs.Arc.{arcAfter, arcStepped}
 use Rattle.arc.specs.Charge.{arcCharge, arcChargesIn}
 use Rattle.arc.specs.laws.Step.{seen-after, after-none, after-next}

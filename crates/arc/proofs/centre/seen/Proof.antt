@@ -1,7 +1,7 @@
 -- `seen` is right because its differences are small.
 use Rattle.whole.specs.laws.Bounded.{Code, at, _⊟_, exact, subs}
-use Rattle.arc.specs.Centre.{Near}
 use Rattle.plane.specs.declared.point.Point.{Point}
+use Rattle.plane.specs.Point.{Near}
 use Rattle.arc.proofs.centre.seen.Statement.{statement}
 use Rattle.arc.proofs.centre.seen.Tie as tie
 

@@ -22,7 +22,9 @@ capacity-requires : tie.Need-capacity-requires
 capacity-requires c κs = sound (c .before .before .before .before .before .pre) .settings
 
 work-tick-requires : tie.Need-work-tick-requires
-work-tick-requires c κs = rw (c .capacity .ensures) (ready (sound (c .before .before .before .before .before .before .pre)))
+work-tick-requires c κs =
+    let e = c .before in
+    rw (c .capacity .ensures) (ready (sound (e .before .before .before .before .before .pre)) (sym (e .before .is-nothing .ensures) ∙ e .if2 .left))
 
 moved-requires : tie.Need-moved-requires
 moved-requires c κs = search needs

@@ -4,11 +4,11 @@ use mathlib.Core.Path.{_≡_, sym, _∙_}
 use mathlib.Core.Bool.{true}
 use native.Mathlib.Omega.{arith}
 use borrow.Author.Tests.{not-true, not-false}
-use Rattle.plane.specs.laws.Travel.{inside}
+use Rattle.plane.specs.Point.{Near}
+use Rattle.plane.specs.laws.Travel.{inside, travel-near}
 use Rattle.circle.specs.Circle.{onCircle}
-use Rattle.arc.specs.Centre.{Near, seenFrom}
+use Rattle.arc.specs.Centre.{seenFrom}
 use Rattle.arc.specs.Arc.{OnArc}
-use Rattle.arc.specs.laws.Work.{travel-near}
 use Rattle.block.proofs.questions.arc_no.Statement.{statement}
 use Rattle.block.proofs.questions.arc_no.Tie as tie
 

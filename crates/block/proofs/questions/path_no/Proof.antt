@@ -3,9 +3,8 @@ use borrow.Author.Needs.{needs}
 use mathlib.Core.Path.{_≡_, sym, ap, _∙_}
 use mathlib.Core.Bool.{Bool, true, not}
 use borrow.Author.Tests.{not-true, not-false}
-use Rattle.plane.specs.laws.Travel.{inside}
+use Rattle.plane.specs.laws.Travel.{inside, travel-near}
 use Rattle.line.specs.Line.{differ}
-use Rattle.arc.specs.laws.Work.{travel-near}
 use Rattle.block.specs.Questions.{offsetRight}
 use Rattle.block.specs.laws.Begin.{begins}
 use Rattle.block.proofs.questions.path_no.Statement.{statement}

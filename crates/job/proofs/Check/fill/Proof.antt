@@ -1,4 +1,5 @@
 -- Invariant of `fill`: what the buffer has got and what is still to come are what was to come at first. Each step leaves fewer.
+use Rattle.row.specs.Buffer.{lineRoom}
 use Rattle.job.proofs.Check.fill.Statement.{statement}
 use Rattle.job.proofs.Check.fill.Tie as tie
 use Rattle.job.proofs.Check.fill.Reads as reads
@@ -6,7 +7,6 @@ use Rattle.job.proofs.Check.fill.Lts as lts
 use Rattle.job.proofs.Check.is_over.Reads as is-over-reads
 use Rattle.job.proofs.Check.settled.Reads as settled-reads
 use Rattle.job.proofs.Check.step.Reads as step-reads
-use Rattle.listing.proofs.has_room.Reads as has-room-reads
 use mathlib.Core.Path.{sym, _∙_}
 use mathlib.Core.Bool.{true≢false}
 use native.Mathlib.Omega.{arith}
@@ -58,7 +58,7 @@ same-length-2 c = c .before .before .loop .inv .long
 returns-2 : tie.Need-returns-2 Inv-loop μ-loop
 returns-2 c =
     let l = c .before .before .loop in
-    filling-done (l .inv) (λ room going. omega (arith, l .inv .long, leb-false (l .len + 160) (length (l .out)) (sym (c .before .has-room .ensures) ∙ c .if1 .left)))
+    filling-done (l .inv) (λ room going. omega (arith, l .inv .long, leb-false (l .len + lineRoom) (length (l .out)) (sym (c .before .has-room .ensures) ∙ c .if1 .left)))
 
 pub fill-spec : {M : Type 1} → statement M
 fill-spec =

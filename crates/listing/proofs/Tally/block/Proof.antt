@@ -18,7 +18,7 @@ use mathlib.Core.List.{List}
 use Prim.Native.Nat.{ℕ}
 use lib.ListN.{length}
 use Rattle.row.specs.Lines.{blockLine}
-use Rattle.row.specs.Buffer.{bufferAfter, placeAfter}
+use Rattle.row.specs.Buffer.{lineRoom, bufferAfter, placeAfter}
 use Rattle.row.specs.laws.Buffer.{block-short}
 use Rattle.finish.specs.laws.Record.{cycles-most, ticks-most}
 use Rattle.listing.specs.Tally.{blockListed}
@@ -36,7 +36,7 @@ line c =
     let f = c .before .before .before .before .before .before .before .before .before .finish .result in
     blockLine (s .self .blocks + 1) (s .self .lines + 1) (c .before .before .before .kind-of .result) (f .cycles) (f .bench .at .x) (f .bench .at .y) (s .bits)
 
-line-short : (c : tie.After-block) → length (line c) ≤ 160
+line-short : (c : tie.After-block) → length (line c) ≤ lineRoom
 line-short c =
     let s = c .before .before .before .before .before .before .before .before .before .before .before .args in
     let f = c .before .before .before .before .before .before .before .before .before .finish .result in

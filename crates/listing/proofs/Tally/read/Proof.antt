@@ -10,7 +10,6 @@ use Rattle.listing.proofs.Tally.read.Reads as reads
 use Rattle.listing.proofs.Tally.read.Lts as lts
 use Rattle.listing.proofs.Tally.block.Reads as block-reads
 use Rattle.listing.proofs.Tally.counts_right.Reads as counts-right-reads
-use Rattle.listing.proofs.has_room.Reads as has-room-reads
 use Rattle.listing.proofs.next_place.Reads as next-place-reads
 use Rattle.reader.proofs.text_line.read_first.Reads as read-first-reads
 use Rattle.row.proofs.lines.refused.Reads as refused-reads

@@ -9,7 +9,7 @@ use native.Mathlib.Omega.{arith}
 use lib.ListN.{length, take, drop}
 use borrow.Author.Tests.{not-true, not-false}
 use Rattle.plane.specs.Travel.{insideOf}
-use Rattle.arc.specs.Centre.{Wide}
+use Rattle.plane.specs.computed.Travel.{Wide}
 use Rattle.block.specs.laws.Accepted.{yes}
 use Rattle.queue.specs.Test.{holds}
 use Rattle.queue.specs.laws.Places.{unmap}

@@ -4,12 +4,12 @@ use mathlib.Core.Path.{_≡_, sym, _∙_}
 use mathlib.Core.Bool.{true}
 use borrow.Author.Tests.{not-true, not-false, lt-leb, le-leb}
 use lib.Dec.{leb}
-use Rattle.reader.specs.Reader.{motionRight, allOnPulse, allKnown, lineNo}
+use Rattle.reader.specs.Reader.{longestLine, motionRight, allOnPulse, allKnown, lineNo}
 use Rattle.reader.proofs.questions.line_no.Statement.{statement}
 use Rattle.reader.proofs.questions.line_no.Tie as tie
 
 -- the answers of the questions before
-short : (c : tie.Else1) → leb (c .before .args .bytes) 80 ≡ true
+short : (c : tie.Else1) → leb (c .before .args .bytes) longestLine ≡ true
 short c = le-leb _ _ (c .if1 .left)
 
 formed : (c : tie.Else2) → c .before .before .before .args .l .formed ≡ true

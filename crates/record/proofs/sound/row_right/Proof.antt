@@ -8,7 +8,7 @@ use Prim.Native.Nat.{_-_, _≤_}
 use native.Mathlib.Omega.{arith}
 use denote.Ref.{now}
 use Rattle.plane.specs.Travel.{insideOf}
-use Rattle.arc.specs.Centre.{Wide}
+use Rattle.plane.specs.computed.Travel.{Wide}
 use Rattle.block.specs.laws.Accepted.{yes}
 use Rattle.queue.specs.laws.Test.{fits-has}
 use Rattle.record.specs.Right.{rowRight}

@@ -7,13 +7,13 @@ use borrow.Author.Tests.{not-true, not-false}
 use Rattle.whole.specs.laws.Test.{refuted}
 use Rattle.plane.specs.declared.point.Point.{Point}
 use Rattle.plane.specs.Travel.{insideOf}
-use Rattle.plane.specs.laws.Travel.{inside, inside-test}
+use Rattle.plane.specs.laws.Travel.{inside, inside-test, travel-near}
 use Rattle.circle.specs.declared.plane.Offset.{Offset}
 use Rattle.circle.specs.Circle.{onCircle}
 use Rattle.arc.specs.declared.arc.Arc.{Arc}
 use Rattle.arc.specs.Centre.{seenFrom}
 use Rattle.arc.specs.Arc.{OnArc, arcAt, centres}
-use Rattle.arc.specs.laws.Work.{arc-at, centre-near, travel-near, end-inside}
+use Rattle.arc.specs.laws.Work.{arc-at, centre-near, end-inside}
 use Rattle.arc.proofs.arc.Arc.is_at.Statement.{statement}
 use Rattle.arc.proofs.arc.Arc.is_at.Tie as tie
 

@@ -3,7 +3,7 @@ use mathlib.Core.Path.{_≡_, refl}
 use mathlib.Core.Bool.{Bool, true, false}
 use Prim.Native.Nat.{ℕ, suc}
 use native.Mathlib.Omega.{arith}
-use Rattle.block.specs.Questions.{ask}
+use Rattle.whole.specs.Ask.{ask}
 
 pub answered : {yes : Bool} {next : ℕ} (number : ℕ) → ask yes next (suc number) ≡ 0 → (yes ≡ true) × (next ≡ 0)
 answered {yes = true} number e = (refl, e)
