@@ -120,7 +120,8 @@ pub fn fresh(settings: Settings) -> Bench
 }
 
 impl Bench {
-    // The only place beside `fresh` that writes a record.
+    // The only place beside `fresh` that writes a record; public for what moves a bench without ticks (finish, ahead, look) or puts a queue
+    // behind it (machine).
     pub fn moved(self, at: Point, remainder: u64, work: Work) -> Bench
         ensures { λ r. ⌜ r ≡ movedOf self at remainder work ⌝ }
     {

@@ -5,7 +5,7 @@ ghost use Rattle.layout.specs.Words.{settingsOf};
 ghost use Rattle.machine.specs.Calls.{loadOf};
 ghost use Rattle.record.specs.Words.{encodeOf, over, machineIn};
 ghost use Rattle.calls.specs.Calls.{Call, tells, toldOf, madeOf, tellsRun, toldRunOf};
-ghost use Rattle.calls.specs.Asked.{Asking};
+ghost use Rattle.calls.specs.Asked.{Asking, marks};
 use crate::answer::answer_number;
 use crate::answer::report_number;
 use crate::answer::tick_number;
@@ -58,24 +58,26 @@ pub fn tick(words: &mut [i64; 134]) -> i64
 
 // ---- hold, release, stop
 
-pub fn hold(words: &mut [i64; 134]) -> i64
-    ensures { λ r. ⌜ tells r (now (words .exit)) ≡ toldOf (now (words .entry)) Call.hold ⌝ }
+fn marked(words: &mut [i64; 134], held: bool) -> i64
+    ensures { λ r. ⌜ tells r (now (words .exit)) ≡ toldOf (now (words .entry)) (marks held) ⌝ }
 {
     if !is_sound(words) {
         return -9;
     }
-    store_mark(words, true);
+    store_mark(words, held);
     0
+}
+
+pub fn hold(words: &mut [i64; 134]) -> i64
+    ensures { λ r. ⌜ tells r (now (words .exit)) ≡ toldOf (now (words .entry)) Call.hold ⌝ }
+{
+    marked(words, true)
 }
 
 pub fn release(words: &mut [i64; 134]) -> i64
     ensures { λ r. ⌜ tells r (now (words .exit)) ≡ toldOf (now (words .entry)) Call.release ⌝ }
 {
-    if !is_sound(words) {
-        return -9;
-    }
-    store_mark(words, false);
-    0
+    marked(words, false)
 }
 
 pub fn stop(words: &mut [i64; 134]) -> i64

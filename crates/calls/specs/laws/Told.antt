@@ -1,6 +1,6 @@
 -- A call by whether the words are those of a sound record.
 use mathlib.Core.Path.{_≡_, refl, ap, _∙_}
-use mathlib.Core.Bool.{true, false}
+use mathlib.Core.Bool.{Bool, true, false}
 use mathlib.Core.List.{List}
 use Prim.Native.Nat.{ℕ, _-_, _≤_}
 use lib.IntN.{ℤ, pos, negsuc}
@@ -29,6 +29,7 @@ use Rattle.record.specs.laws.Write.{told-sound}
 use Rattle.record.specs.laws.Later.{tick-later, run-later}
 use Rattle.calls.specs.Calls.{answerNumber, tickNumber, reportNumber, Call, tells, callOf, refused, toldOf, tellsRun}
 use Rattle.calls.specs.Calls.{toldRunOf}
+use Rattle.calls.specs.Asked.{marks}
 
 pub told-refused : (ws : List ℤ) → soundWords ws ≡ false → (call : Call) → refused ws ≡ toldOf ws call
 unfolding toldOf
@@ -44,13 +45,10 @@ module _ (ws : List ℤ) (t : soundWords ws ≡ true) where
   unfolding toldOf
   told-call call = rw t
 
-  pub hold-told : tells (pos 0) (over (encodeOf (markOf (machineIn ws) true)) ws) ≡ toldOf ws Call.hold
-  unfolding callOf holdOf
-  hold-told = rw (told-sound ws t) at (told-call Call.hold)
-
-  pub release-told : tells (pos 0) (over (encodeOf (markOf (machineIn ws) false)) ws) ≡ toldOf ws Call.release
-  unfolding callOf releaseOf
-  release-told = rw (told-sound ws t) at (told-call Call.release)
+  pub mark-told : (held : Bool) → tells (pos 0) (over (encodeOf (markOf (machineIn ws) held)) ws) ≡ toldOf ws (marks held)
+  unfolding callOf holdOf releaseOf
+  mark-told true = rw (told-sound ws t) at (told-call Call.hold)
+  mark-told false = rw (told-sound ws t) at (told-call Call.release)
 
   pub stop-told : tells (pos 0) (over (encodeOf (idleOf (machineIn ws))) ws) ≡ toldOf ws Call.stop
   unfolding callOf stopOf machineIn

@@ -1,10 +1,10 @@
--- `release` is right because words of a sound record change in their mark alone.
+-- `marked` is right because words of a sound record change in their mark alone.
 use borrow.Author.Needs.{needs}
 use borrow.Author.Tests.{not-true, not-false}
 use mathlib.Core.Path.{sym, _∙_}
-use Rattle.calls.specs.laws.Told.{told-refused, release-told}
-use Rattle.calls.proofs.release.Statement.{statement}
-use Rattle.calls.proofs.release.Tie as tie
+use Rattle.calls.specs.laws.Told.{told-refused, mark-told}
+use Rattle.calls.proofs.marked.Statement.{statement}
+use Rattle.calls.proofs.marked.Tie as tie
 
 is-sound-requires : tie.Need-is-sound-requires
 is-sound-requires c κs = search needs
@@ -18,7 +18,7 @@ store-mark-requires c κs = let e = c .before in sym (e .before .is-sound .ensur
 returns-2 : tie.Need-returns-2
 returns-2 c =
     let e = c .before .before in
-    simp (c .store-mark .ensures) (release-told _ (sym (e .before .is-sound .ensures) ∙ not-false _ (e .if1 .left)))
+    simp (c .store-mark .ensures) (mark-told _ (sym (e .before .is-sound .ensures) ∙ not-false _ (e .if1 .left)) _)
 
-pub release-spec : {M : Type 1} → statement M
-release-spec = tie.close (tie.spec is-sound-requires returns store-mark-requires returns-2)
+pub marked-spec : {M : Type 1} → statement M
+marked-spec = tie.close (tie.spec is-sound-requires returns store-mark-requires returns-2)
