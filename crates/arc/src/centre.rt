@@ -2,7 +2,7 @@
 ghost use mathlib.Core.Path.{_≡_};
 ghost use Rattle.arc.specs.Centre.{Near, Reach, Wide, seenFrom, backFrom, roomOf};
 use circle::plane::Offset;
-use circle::plane::Room;
+use clearance::Room;
 use plane::point::Point;
 use plane::travel::Travel;
 

@@ -7,7 +7,7 @@ use lib.Dec.{eqb}
 use Rattle.plane.specs.declared.point.Point.{Point}
 use Rattle.plane.specs.declared.travel.Travel.{Travel}
 use Rattle.plane.specs.Travel.{insideOf}
-use Rattle.circle.specs.Count.{quarterOf}
+use Rattle.circle.specs.computed.Count.{quarterOf}
 use Rattle.line.specs.Line.{cyclesOf}
 use Rattle.arc.specs.Centre.{Wide}
 use Rattle.block.specs.declared.Block.{Block}
