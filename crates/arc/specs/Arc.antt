@@ -11,8 +11,8 @@ use Rattle.plane.specs.Pulse.{pulsesBetween}
 use Rattle.plane.specs.Travel.{insideOf, visitsInside}
 use Rattle.plane.specs.Point.{Near}
 use Rattle.circle.specs.Circle.{onCircle}
-use Rattle.circle.specs.Step.{afterOf}
-use Rattle.circle.specs.Count.{cyclesOf}
+use Rattle.circle.specs.computed.Step.{afterOf}
+use Rattle.circle.specs.computed.Count.{cyclesOf}
 use Rattle.arc.specs.declared.arc.Arc.{Arc}
 use Rattle.arc.specs.declared.arc.Stepped.{Stepped}
 use Rattle.arc.specs.Centre.{seenFrom, backFrom}
@@ -25,7 +25,8 @@ arcAfter a at c = backFrom (a .centre) (afterOf (a .square) (a .turn) (seenFrom 
 unfoldable pub arcCycles : Arc → (at : Point) → ℕ
 arcCycles a at = cyclesOf (a .square) (a .turn) (seenFrom (a .centre) at) (seenFrom (a .centre) (a .end))
 
--- "Each load also answers the register width ..: the fewest bits that hold .. for an arc its m on an axis." The circle point on an axis is the nearest root of N.
+-- "Each load also answers the register width ..: the fewest bits that hold .. for an arc its m on an axis." The circle point on an axis is
+-- the nearest root of N.
 unfoldable pub arcWidth : Arc → ℕ
 arcWidth a = widthOf (nearestRoot (a .square))
 
@@ -33,8 +34,8 @@ arcWidth a = widthOf (nearestRoot (a .square))
 abbrev pub centres : Travel
 centres = record { x = record { lower = negsuc 1999999; upper = pos 2000000 }; y = record { lower = negsuc 1999999; upper = pos 2000000 } }
 
--- 01, Job and machine: an arc in work has "N in 1..2,000,000,000,000, point and end both circle points of N about a centre within ±2,000,000, and
--- every point still to visit in travel". `onCircle` has the bounds of N.
+-- 01, Job and machine: an arc in work has "N in 1..2,000,000,000,000, point and end both circle points of N about a centre within
+-- ±2,000,000, and every point still to visit in travel". `onCircle` has the bounds of N.
 unfoldable pub arcAt : Travel → Arc → (at : Point) → Bool
 arcAt t a at =
     insideOf centres (a .centre)

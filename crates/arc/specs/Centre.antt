@@ -4,7 +4,7 @@ use lib.IntN.{natAbs, _+ℤ_, _-ℤ_}
 use Rattle.plane.specs.declared.point.Point.{Point}
 use Rattle.plane.specs.declared.travel.Travel.{Travel}
 use Rattle.circle.specs.declared.plane.Offset.{Offset}
-use Rattle.circle.specs.declared.plane.Room.{Room}
+use Rattle.clearance.specs.declared.Room.{Room}
 
 abbrev pub seenFrom : (centre at : Point) → Offset
 seenFrom centre at = record { x = at .x -ℤ centre .x; y = at .y -ℤ centre .y }

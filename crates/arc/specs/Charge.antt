@@ -1,8 +1,10 @@
 -- 02 §2, "Arcs cut too fast at 45 degrees": what the cycles of an arc in work are charged.
 use Prim.Native.Nat.{ℕ}
 use Rattle.plane.specs.declared.point.Point.{Point}
-use Rattle.circle.specs.declared.charge.Span.{Span}
-use Rattle.circle.specs.Charge.{stepCharge, chargesIn, mostPaid}
+use Rattle.circle.specs.computed.Charge.{stepCharge}
+use Rattle.charges.specs.declared.Span.{Span}
+use Rattle.charges.specs.Paid.{mostPaid}
+use Rattle.charges.specs.computed.Sum.{chargesIn}
 use Rattle.arc.specs.declared.arc.Arc.{Arc}
 use Rattle.arc.specs.declared.arc.ArcPaid.{ArcPaid}
 use Rattle.arc.specs.Centre.{seenFrom}

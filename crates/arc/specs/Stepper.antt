@@ -10,8 +10,9 @@ use Rattle.circle.specs.declared.plane.Turn.{Turn}
 use Rattle.circle.specs.declared.step.Move.{Move}
 use Rattle.circle.specs.declared.step.Move.the-variants.{Rise, Slant, Fall}
 use Rattle.circle.specs.declared.step.Stepper.{Stepper}
-use Rattle.circle.specs.Step.{offset, seen, turned}
-use Rattle.circle.specs.Stepper.{enterOf, leaveOf, moveOf, advanceOf, quadrantPulse, pulseOf, Entered}
+use Rattle.circle.specs.Circle.{offset}
+use Rattle.circle.specs.computed.Step.{seen, turned}
+use Rattle.circle.specs.computed.Stepper.{enterOf, leaveOf, moveOf, advanceOf, quadrantPulse, pulseOf, Entered}
 use Rattle.arc.specs.declared.arc.Arc.{Arc}
 use Rattle.arc.specs.declared.stepper.Tracer.{Tracer}
 use Rattle.arc.specs.declared.stepper.Traced.{Traced}

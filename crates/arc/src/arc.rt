@@ -6,14 +6,14 @@ ghost use Rattle.plane.specs.Travel.{insideOf, visitsInside};
 ghost use Rattle.plane.specs.Point.{Near};
 ghost use Rattle.plane.specs.computed.Travel.{Wide};
 ghost use Rattle.circle.specs.Circle.{onCircle};
-ghost use Rattle.circle.specs.Count.{quarterOf};
+ghost use Rattle.circle.specs.computed.Count.{quarterOf};
 ghost use Rattle.arc.specs.Centre.{seenFrom};
 ghost use Rattle.arc.specs.Charge.{arcCharge, arcSpanOf, arcPaidOf};
 ghost use Rattle.arc.specs.Arc.{OnArc, arcAfter, arcCycles, arcWidth, arcAt, arcStepped, centres};
 use crate::centre::back;
 use crate::centre::room;
 use crate::centre::seen;
-use circle::charge::Span;
+use charges::Span;
 use circle::plane::Turn;
 use circle::plane::on_circle;
 use plane::point::Point;
@@ -76,7 +76,7 @@ impl Arc {
         let centre = self.centre;
         let end = self.end;
         let turn = self.turn;
-        circle::travel::stays_inside(
+        clearance::stays_inside(
             room(travel, centre),
             self.square,
             turn,
@@ -132,7 +132,7 @@ impl Arc {
         let centre = self.centre;
         let end = self.end;
         let turn = self.turn;
-        circle::count::span(self.square, turn, seen(centre, at), seen(centre, end))
+        charges::sum::span(self.square, turn, seen(centre, at), seen(centre, end))
     }
 
     // The cycles of that span alone, from those of a quarter turn, which the caller knows: no root is taken.
@@ -169,7 +169,7 @@ impl Arc {
     {
         let centre = self.centre;
         let turn = self.turn;
-        let r = circle::paid::paid(self.square, turn, seen(centre, at), most, sum);
+        let r = charges::search::paid(self.square, turn, seen(centre, at), most, sum);
         let there = r.at;
         ArcPaid {
             cycles: r.cycles,

@@ -4,7 +4,7 @@ ghost use Rattle.plane.specs.Point.{Near};
 ghost use Rattle.plane.specs.computed.Travel.{Wide};
 ghost use Rattle.arc.specs.Centre.{Reach, seenFrom, backFrom, roomOf};
 use circle::plane::Offset;
-use circle::plane::Room;
+use clearance::Room;
 use plane::point::Point;
 use plane::travel::Travel;
 

@@ -8,7 +8,7 @@ use Rattle.plane.specs.declared.point.Point.{Point}
 use Rattle.plane.specs.declared.travel.Travel.{Travel}
 use Rattle.plane.specs.Travel.{insideOf}
 use Rattle.plane.specs.computed.Travel.{Wide}
-use Rattle.circle.specs.Count.{quarterOf}
+use Rattle.circle.specs.computed.Count.{quarterOf}
 use Rattle.line.specs.Line.{cyclesOf}
 use Rattle.block.specs.declared.Block.{Block}
 use Rattle.block.specs.declared.Path.{Path}

@@ -1,10 +1,13 @@
 -- The circle points of N, seen from the centre, and the distance of a point from the circle.
 use mathlib.Core.Bool.{Bool, _&&_}
-use Prim.Native.Nat.{ℕ, _+_, _*_, _<_, max}
+use Prim.Native.Nat.{ℕ, _+_, _*_, max}
 use lib.Dec.{leb, ltb}
 use lib.IntN.{ℤ, pos, negℤ, natAbs, _+ℤ_, _-ℤ_, _*ℤ_}
 use lib.Signed.{_≤ℤ_, _<ℤ_}
 use Rattle.circle.specs.declared.plane.Offset.{Offset}
+
+abbrev pub offset : ℤ → ℤ → Offset
+offset x y = record { x = x; y = y }
 
 abbrev pub square : ℤ → ℤ
 square z = z *ℤ z
@@ -24,13 +27,8 @@ pub record Circle (N : ℕ) (p : Offset) : Type 0 where
   pub low : negℤ (pos (larger p)) ≤ℤ excess N p
   pub high : excess N p <ℤ pos (larger p)
 
--- "That is the nearest point along the longer coordinate; no ties occur." x is the longer magnitude. The circle has c there, with c² = N - y²,
--- and every other z lies farther from c than x does: c is on x's side of the middle (x + z) / 2. A z of the other sign is farther still.
-pub record Nearest (N x y : ℕ) : Type 0 where
-  pub beyond : (z : ℕ) → x < z → 4 * N < (x + z) * (x + z) + 4 * (y * y)
-  pub before : (z : ℕ) → z < x → (x + z) * (x + z) + 4 * (y * y) < 4 * N
-
--- "less than t half pulses means that 4 × F - t², where positive, has a square below 16 × t² × N, and -4 × F - t², where positive, one below 16 × t² × (x² + y²)."
+-- "less than t half pulses means that 4 × F - t², where positive, has a square below 16 × t² × N, and -4 × F - t², where positive, one
+-- below 16 × t² × (x² + y²)."
 abbrev pub past : ℕ → ℤ → ℤ
 past t f = pos 4 *ℤ f -ℤ pos (t * t)
 

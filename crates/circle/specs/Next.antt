@@ -1,4 +1,5 @@
--- Document 01's order of the circle points, "put without angles", and its walk. `laws/Next.antt` and `laws/Walk.antt` prove what computes them.
+-- Document 01's order of the circle points, "put without angles", and its walk. `laws/Next.antt` and `laws/Walk.antt` prove what
+-- computes them.
 use mathlib.Core.Path.{_≡_}
 use Prim.Native.Nat.{ℕ, zero, suc, _≤_, _<_}
 use lib.IntN.{ℤ, pos, _-ℤ_, _*ℤ_}

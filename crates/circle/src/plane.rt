@@ -4,7 +4,7 @@ ghost use mathlib.Core.Path.{_≡_};
 ghost use Prim.Native.Nat.{_≤_, _<_, _^_, max};
 ghost use lib.IntN.{natAbs};
 ghost use Rattle.circle.specs.Circle.{largestN, circleTest, onCircle};
-ghost use Rattle.circle.specs.Step.{seen};
+ghost use Rattle.circle.specs.computed.Step.{seen};
 
 const LARGEST_N: u64 = 2_000_000_000_000;
 
@@ -18,14 +18,6 @@ pub struct Offset {
 pub enum Turn {
     Clockwise,
     Counterclockwise,
-}
-
-// How far travel reaches from the centre on each side; negative where the centre is outside.
-pub struct Room {
-    pub right: i64,
-    pub up: i64,
-    pub left: i64,
-    pub down: i64,
 }
 
 fn larger(a: u64, b: u64) -> u64

@@ -9,10 +9,10 @@ ghost use mathlib.Core.Path.{_≡_};
 ghost use mathlib.Core.Bool.{true};
 ghost use Prim.Native.Nat.{_<_};
 ghost use Rattle.circle.specs.Circle.{onCircle};
-ghost use Rattle.circle.specs.Step.{nextQuadrant, stepOf};
-ghost use Rattle.circle.specs.Stepper.{Entered, enterOf, moveOf, moved, settled, advanceOf, cycledOf, leaveOf};
-ghost use Rattle.circle.specs.Charge.{moveCharge, stepCharge};
-ghost use Rattle.circle.specs.Asked.{Movable};
+ghost use Rattle.circle.specs.computed.Step.{nextQuadrant, stepOf};
+ghost use Rattle.circle.specs.computed.Stepper.{Entered, enterOf, moveOf, moved, settled, advanceOf, cycledOf, leaveOf};
+ghost use Rattle.circle.specs.computed.Charge.{moveCharge, stepCharge};
+ghost use Rattle.circle.specs.computed.Asked.{Movable};
 
 const BIAS: u64 = 2_000_000;
 

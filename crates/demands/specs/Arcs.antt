@@ -13,9 +13,8 @@ use Rattle.plane.specs.Pulse.{shiftedOf, pulsesBetween}
 use Rattle.plane.specs.Byte.{cycleByte, cyclesMarked, endMark}
 use Rattle.circle.specs.declared.plane.Offset.{Offset}
 use Rattle.circle.specs.declared.plane.Turn.{Turn}
-use Rattle.circle.specs.Circle.{square, Circle}
+use Rattle.circle.specs.Circle.{square, Circle, offset}
 use Rattle.circle.specs.Next.{Next, Walk, Ends}
-use Rattle.circle.specs.Step.{offset}
 use Rattle.arc.specs.declared.arc.Arc.{Arc}
 use Rattle.arc.specs.Centre.{seenFrom}
 use Rattle.block.specs.declared.Block.{Block}

@@ -9,7 +9,7 @@ use denote.Ref.{RefT, now}
 use contract.Lifetimes.{Lfts}
 use Rattle.plane.specs.Byte.{cyclesMarked}
 use Rattle.work.specs.declared.Work.{Work}
-use Rattle.circle.specs.Charge.{mostPaid}
+use Rattle.charges.specs.Paid.{mostPaid}
 use Rattle.work.specs.Work.{addedOf, cyclesLeft, chargesFor, chargesLeft, endOf}
 use Rattle.settings.specs.Settings.{capacityOf}
 use Rattle.bench.specs.declared.Bench.{Bench}

@@ -2,7 +2,7 @@
 use Prim.Native.Nat.{ℕ, _≤_}
 use Rattle.plane.specs.declared.point.Point.{Point}
 use Rattle.circle.specs.Circle.{largestN}
-use Rattle.circle.specs.Count.{quarterOf}
+use Rattle.circle.specs.computed.Count.{quarterOf}
 use Rattle.arc.specs.Arc.{OnArc}
 use Rattle.work.specs.declared.Work.{Work}
 use Rattle.work.specs.declared.rest.Left.{Left}

@@ -14,9 +14,9 @@ use Rattle.plane.specs.Travel.{visitsInside}
 use Rattle.circle.specs.declared.plane.Offset.{Offset}
 use Rattle.circle.specs.declared.plane.Turn.{Turn}
 use Rattle.circle.specs.declared.plane.Turn.the-variants.{Clockwise, Counterclockwise}
-use Rattle.circle.specs.Circle.{excess, onCircle}
-use Rattle.circle.specs.Step.{offset, afterOf}
-use Rattle.circle.specs.Count.{cyclesOf as cycles}
+use Rattle.circle.specs.Circle.{excess, onCircle, offset}
+use Rattle.circle.specs.computed.Step.{afterOf}
+use Rattle.circle.specs.computed.Count.{cyclesOf as cycles}
 use Rattle.divider.specs.Divider.{addedAt, endTick, lastTick}
 use Rattle.arc.specs.declared.arc.Arc.{Arc}
 use Rattle.arc.specs.Arc.{arcAfter, arcCycles}

@@ -2,11 +2,11 @@
 use mathlib.Core.Path.{_≡_}
 use mathlib.Core.Bool.{true}
 use mathlib.Core.Logic.{_↔_}
-use Prim.Native.Nat.{ℕ}
+use Prim.Native.Nat.{ℕ, _≤_}
 use native.Mathlib.Omega.{arith}
 use lib.IntN.{ℤ, negℤ, _+ℤ_, _-ℤ_}
 use lib.Signed.{_≤ℤ_}
-use Rattle.whole.specs.laws.Difference.{up, down, parts, negated, added}
+use Rattle.whole.specs.laws.Difference.{parts, negated, added}
 use Rattle.whole.specs.laws.Order.{_≼_, from-≤ℤ, to-≤ℤ}
 use Rattle.whole.specs.laws.Test.{same-test}
 use Rattle.plane.specs.declared.point.Point.{Point}
@@ -16,17 +16,18 @@ use Rattle.plane.specs.laws.Travel.{Inside, visits, visits-test}
 use Rattle.circle.specs.declared.plane.Offset.{Offset}
 use Rattle.circle.specs.Circle.{Circle}
 use Rattle.circle.specs.Next.{ToVisit}
-use Rattle.circle.specs.Step.{afterOf}
-use Rattle.circle.specs.Count.{cyclesOf}
-use Rattle.circle.specs.Travel.{staysInside}
-use Rattle.circle.specs.Travel as seen-travel
-use Rattle.circle.specs.laws.Circle.{on-circle-to}
-use Rattle.circle.specs.laws.Inside.{stays-inside}
+use Rattle.circle.specs.computed.Step.{afterOf}
+use Rattle.circle.specs.computed.Count.{cyclesOf}
 use Rattle.circle.specs.laws.Walk.{walk-of, walk-to, ends, ends-cycles}
+use Rattle.clearance.specs.declared.Room.{Room}
+use Rattle.clearance.specs.Inside.{Inside as InRoom}
+use Rattle.clearance.specs.computed.Travel.{staysInside}
+use Rattle.clearance.specs.laws.Inside.{stays-inside}
 use Rattle.arc.specs.declared.arc.Arc.{Arc}
 use Rattle.arc.specs.Centre.{seenFrom, backFrom, roomOf}
 use Rattle.arc.specs.Arc.{OnArc, arcAfter, arcCycles}
 use Rattle.arc.specs.laws.Centre.{back-seen}
+use Rattle.arc.specs.laws.Step.{circles, circle-here, circle-there}
 
 -- ---- in travel, seen from the centre and on the table
 
@@ -41,16 +42,17 @@ above-side : (c o l : ℤ) → negℤ o ≤ℤ (c -ℤ l) → l ≼ c +ℤ o
 above-side c o l h = omega (arith, from-≤ℤ h, negated (parts o), added (parts c) (parts o), added (parts c) (negated (parts l)))
 
 side-above : (c o l : ℤ) → l ≼ c +ℤ o → negℤ o ≤ℤ (c -ℤ l)
-side-above c o l h = to-≤ℤ (negℤ o) (c -ℤ l) (omega (arith, negated (parts o), added (parts c) (parts o), added (parts c) (negated (parts l))))
+side-above c o l h =
+    to-≤ℤ (negℤ o) (c -ℤ l) (omega (arith, negated (parts o), added (parts c) (parts o), added (parts c) (negated (parts l))))
 
 module _ (t : Travel) (c : Point) (o : Offset) where
-  pub on-table : seen-travel.Inside (roomOf t c) o → Inside t (backFrom c o)
+  pub on-table : InRoom (roomOf t c) o → Inside t (backFrom c o)
   on-table i = record {
     x = record { above = above-side (c .x) (o .x) (t .x .lower) (i .left); below = below-side (c .x) (o .x) (t .x .upper) (i .right) };
     y = record { above = above-side (c .y) (o .y) (t .y .lower) (i .down); below = below-side (c .y) (o .y) (t .y .upper) (i .up) };
   }
 
-  pub from-centre : Inside t (backFrom c o) → seen-travel.Inside (roomOf t c) o
+  pub from-centre : Inside t (backFrom c o) → InRoom (roomOf t c) o
   from-centre i = record {
     right = side-below (c .x) (o .x) (t .x .upper) (i .x .below);
     up = side-below (c .y) (o .y) (t .y .upper) (i .y .below);
@@ -61,19 +63,23 @@ module _ (t : Travel) (c : Point) (o : Offset) where
 -- ---- the test without a walk says that every point still to visit is in travel
 
 module _ (a : Arc) (at : Point) (on : OnArc a at) where
-  circle-here : Circle (a .square) (seenFrom (a .centre) at)
-  circle-here = on-circle-to (a .square) _ (on .on) .circle
+  on-here : Circle (a .square) (seenFrom (a .centre) at)
+  on-here = circle-here a at (circles on)
 
-  circle-there : Circle (a .square) (seenFrom (a .centre) (a .end))
-  circle-there = on-circle-to (a .square) _ (on .end-on) .circle
+  on-there : Circle (a .square) (seenFrom (a .centre) (a .end))
+  on-there = circle-there a at (circles on)
 
   pub stays-visits : (t : Travel) → Inside t at
-      → staysInside (roomOf t (a .centre)) (a .square) (a .turn) (seenFrom (a .centre) at) (seenFrom (a .centre) (a .end)) ≡ visitsInside t (arcAfter a at) (arcCycles a at)
+      → staysInside (roomOf t (a .centre)) (a .square) (a .turn) (seenFrom (a .centre) at) (seenFrom (a .centre) (a .end))
+      ≡ visitsInside t (arcAfter a at) (arcCycles a at)
   unfolding arcAfter arcCycles
   stays-visits t here = same-test to from
     where
       N : ℕ
       N = a .square
+
+      room : Room
+      room = roomOf t (a .centre)
 
       p : Offset
       p = seenFrom (a .centre) at
@@ -81,21 +87,33 @@ module _ (a : Arc) (at : Point) (on : OnArc a at) where
       e : Offset
       e = seenFrom (a .centre) (a .end)
 
-      test : (staysInside (roomOf t (a .centre)) N (a .turn) p e ≡ true) ↔ (seen-travel.Inside (roomOf t (a .centre)) p × ((q : Offset) → ToVisit N (a .turn) p e q → seen-travel.Inside (roomOf t (a .centre)) q))
-      test = stays-inside (a .turn) (roomOf t (a .centre)) p e circle-here circle-there
+      test : (staysInside room N (a .turn) p e ≡ true) ↔ (InRoom room p × ((q : Offset) → ToVisit N (a .turn) p e q → InRoom room q))
+      test = stays-inside (a .turn) room p e on-here on-there
 
-      to : staysInside (roomOf t (a .centre)) N (a .turn) p e ≡ true → visitsInside t (λ c. backFrom (a .centre) (afterOf N (a .turn) p c)) (cyclesOf N (a .turn) p e) ≡ true
+      to-visit : (c : ℕ) → 1 ≤ c → c ≤ cyclesOf N (a .turn) p e → ToVisit N (a .turn) p e (afterOf N (a .turn) p c)
+      to-visit c some most =
+          record {
+            cycles = cyclesOf N (a .turn) p e;
+            ends = ends (a .turn) e on-there p on-here;
+            cycle = c;
+            begun = some;
+            within = most;
+            walk = walk-of (a .turn) p c on-here;
+          }
+
+      to : staysInside room N (a .turn) p e ≡ true
+          → visitsInside t (λ c. backFrom (a .centre) (afterOf N (a .turn) p c)) (cyclesOf N (a .turn) p e) ≡ true
       to h =
-          visits-test t _ _ (λ c some most. on-table t (a .centre) (afterOf N (a .turn) p c)
-          (test .0 h .1 (afterOf N (a .turn) p c)
-          (record { cycles = cyclesOf N (a .turn) p e; ends = ends (a .turn) e circle-there p circle-here; cycle = c; begun = some; within = most; walk = walk-of (a .turn) p c circle-here })))
+          visits-test t _ _
+          (λ c some most. on-table t (a .centre) (afterOf N (a .turn) p c) (test .0 h .1 (afterOf N (a .turn) p c) (to-visit c some most)))
 
-      from : visitsInside t (λ c. backFrom (a .centre) (afterOf N (a .turn) p c)) (cyclesOf N (a .turn) p e) ≡ true → staysInside (roomOf t (a .centre)) N (a .turn) p e ≡ true
+      from : visitsInside t (λ c. backFrom (a .centre) (afterOf N (a .turn) p c)) (cyclesOf N (a .turn) p e) ≡ true
+          → staysInside room N (a .turn) p e ≡ true
       from v =
           test .1 (
             from-centre t (a .centre) p (rw (back-seen (a .centre) at) here),
             λ q w.
-                let same = walk-to (a .turn) p (w .cycle) q circle-here (w .walk) in
-                let most = ends-cycles (a .turn) p e (w .cycles) circle-here circle-there .0 (w .ends) in
+                let same = walk-to (a .turn) p (w .cycle) q on-here (w .walk) in
+                let most = ends-cycles (a .turn) p e (w .cycles) on-here on-there .0 (w .ends) in
                 from-centre t (a .centre) q (rw same (visits t _ _ v (w .cycle) (w .begun) (omega (arith, w .within, most)))),
           )

@@ -13,34 +13,28 @@ use Rattle.whole.specs.laws.Test.{equal-true, equal-same, same-test, equal-move
 use Rattle.plane.specs.declared.point.Point.{Point}
 use Rattle.plane.specs.Pulse.{changeOf, pulsesBetween}
 use Rattle.circle.specs.declared.plane.Offset.{Offset}
-use Rattle.circle.specs.Circle.{Circle}
-use Rattle.circle.specs.Step.{stepOf, afterOf}
-use Rattle.circle.specs.Charge.{chargeBetween, stepCharge, chargesIn, chargesOf, moveCharge}
-use Rattle.circle.specs.laws.Circle.{on-circle-to}
-use Rattle.circle.specs.laws.Charge.{charge-range, charges-range, charges-closed, charges-front, charges-bound, move-charge}
-use Rattle.circle.specs.laws.Paid.{Grows, Most, most-unique, charges-grow}
+use Rattle.circle.specs.computed.Step.{stepOf, afterOf}
+use Rattle.circle.specs.computed.Charge.{chargeBetween, stepCharge, moveCharge}
+use Rattle.circle.specs.laws.Charge.{charge-range, move-charge}
+use Rattle.charges.specs.computed.Sum.{chargesIn, chargesOf}
+use Rattle.charges.specs.laws.Sum.{charges-range, charges-closed, charges-front, charges-bound}
+use Rattle.charges.specs.laws.Paid.{Grows, Most, most-unique, charges-grow}
 use Rattle.arc.specs.declared.arc.Arc.{Arc}
 use Rattle.arc.specs.Centre.{seenFrom}
 use Rattle.arc.specs.Arc.{arcAfter, arcCycles}
 use Rattle.arc.specs.Charge.{arcCharge, arcChargesIn, arcCharges, arcPaidOf}
 use Rattle.arc.specs.Stepper.{arcTracer}
-use Rattle.arc.specs.laws.Step.{Circles, seen-after, last-cycle, more-cycles}
+use Rattle.arc.specs.laws.Step.{Circles, seen-after, seen-next, circle-here, circle-there, last-cycle, more-cycles}
 
 pub arc-charge-range : (a : Arc) (at : Point) → (1000 ≤ arcCharge a at) × (arcCharge a at ≤ 1414)
 unfolding arcCharge stepCharge
 arc-charge-range a at = charge-range _ _
 
 module _ (a : Arc) (at : Point) (on : Circles a at) where
-  circle-here : Circle (a .square) (seenFrom (a .centre) at)
-  circle-here = on-circle-to (a .square) _ (on .on) .circle
-
-  circle-there : Circle (a .square) (seenFrom (a .centre) (a .end))
-  circle-there = on-circle-to (a .square) _ (on .end-on) .circle
-
   -- without a walk
   pub charges-are : arcCharges a at ≡ chargesOf (a .square) (a .turn) (seenFrom (a .centre) at) (seenFrom (a .centre) (a .end))
   unfolding arcCycles
-  charges-are = charges-closed (a .square) (a .turn) (seenFrom (a .centre) at) (seenFrom (a .centre) (a .end)) circle-here circle-there
+  charges-are = charges-closed (a .square) (a .turn) _ _ (circle-here a at on) (circle-there a at on)
 
   pub charges-most : arcCharges a at ≤ 9400000000
   charges-most =
@@ -55,10 +49,6 @@ module _ (a : Arc) (at : Point) (on : Circles a at) where
   unfolding arcCharge chargesIn afterOf
   last-charge e = ap (chargesIn (a .square) (a .turn) (seenFrom (a .centre) at)) (last-cycle a at on .1 e) ∙ omega arith
 
-  seen-next : seenFrom (a .centre) (arcAfter a at 1) ≡ stepOf (a .square) (a .turn) (seenFrom (a .centre) at)
-  unfolding afterOf
-  seen-next = seen-after a at 1
-
   -- any other leaves those from the next point on
   pub more-charges : (arcAfter a at 1 ≡ a .end → ⊥) → arcCharges a at ≡ arcCharge a at + arcCharges a (arcAfter a at 1)
   unfolding arcCharge
@@ -68,7 +58,7 @@ module _ (a : Arc) (at : Point) (on : Circles a at) where
       let more : arcCycles a at ≡ suc k = more-cycles a at on f ∙ omega arith in
       ap (chargesIn (a .square) (a .turn) p) more
       ∙ charges-front (a .square) (a .turn) p k
-      ∙ ap (λ (q : Offset). stepCharge (a .square) (a .turn) p + chargesIn (a .square) (a .turn) q k) (sym seen-next)
+      ∙ ap (λ (q : Offset). stepCharge (a .square) (a .turn) p + chargesIn (a .square) (a .turn) q k) (sym (seen-next a at))
 
   -- the tracer's move tells the charge
   pub tracer-charge : moveCharge (arcTracer a at .next) ≡ arcCharge a at

@@ -19,8 +19,8 @@ use Rattle.circle.specs.declared.plane.Turn.the-variants.{Clockwise, Counterclo
 use Rattle.circle.specs.declared.step.Move.{Move}
 use Rattle.circle.specs.declared.step.Move.the-variants.{Rise, Slant, Fall}
 use Rattle.circle.specs.declared.step.Stepper.{Stepper}
-use Rattle.circle.specs.Step.{nextQuadrant, stepOf, afterOf}
-use Rattle.circle.specs.Stepper.{enterOf, leaveOf, moveOf, advanceOf, pulseOf, Entered}
+use Rattle.circle.specs.computed.Step.{nextQuadrant, stepOf, afterOf}
+use Rattle.circle.specs.computed.Stepper.{enterOf, leaveOf, moveOf, advanceOf, pulseOf, Entered}
 use Rattle.circle.specs.laws.Circle.{on-circle-small}
 use Rattle.circle.specs.laws.Stepper.{entered-bounds, enter-entered, advance-enter, advance-turn, leave-enter, pulse-enter}
 use Rattle.arc.specs.declared.arc.Arc.{Arc}
@@ -29,7 +29,7 @@ use Rattle.arc.specs.Centre.{Reach, seenFrom, backFrom}
 use Rattle.arc.specs.Arc.{arcAfter, arcStepped}
 use Rattle.arc.specs.Stepper.{wayCode, moveCode, pickCode, tracerOf, arcTracer, tracedOf, tracerAt, Tracing}
 use Rattle.arc.specs.laws.Centre.{back-seen}
-use Rattle.arc.specs.laws.Step.{Circles, seen-after}
+use Rattle.arc.specs.laws.Step.{Circles, seen-next}
 
 -- ---- the codes of moves
 
@@ -99,7 +99,8 @@ module _ (t : Tracer) (h : Tracing t) {code : ℕ} (picked : code ≡ pickCode (
       → record { tracer = record { circle = s; rise = t .rise; fall = t .fall; next = m }; code = code } ≡ tracedOf t
   unfolding tracedOf
   traced-on same {m} n =
-      let stays : (m : Move) → moveCode (t .circle .turn) (t .circle .quadrant) m ≡ moveCode (advanceOf (t .circle) .turn) (advanceOf (t .circle) .quadrant) m =
+      let u = advanceOf (t .circle) in
+      let stays : (m : Move) → moveCode (t .circle .turn) (t .circle .quadrant) m ≡ moveCode (u .turn) (u .quadrant) m =
       λ m. ap₂ (λ (u : Turn) (k : ℕ). moveCode u k m) (sym (advance-turn (t .circle))) (sym same ∙ ap (λ (x : Stepper). x .quadrant) e) in
       let rise = ap (λ (x : Tracer). x .rise) (h .is) ∙ stays Rise in
       let fall = ap (λ (x : Tracer). x .fall) (h .is) ∙ stays Fall in
@@ -117,8 +118,10 @@ last-code t h picked = picked-is t h picked refl
 
 -- codes of a tracer are small, and so is its point
 pub tracer-small : {t : Tracer} → Tracing t → (t .rise ≤ 10) × (t .fall ≤ 10)
-tracer-small {t} h =
-    (rw (ap (λ (x : Tracer). x .rise) (h .is)) (move-small (t .circle .turn) (t .circle .quadrant) Rise), rw (ap (λ (x : Tracer). x .fall) (h .is)) (move-small (t .circle .turn) (t .circle .quadrant) Fall))
+tracer-small {t} h = (
+  rw (ap (λ (x : Tracer). x .rise) (h .is)) (move-small (t .circle .turn) (t .circle .quadrant) Rise),
+  rw (ap (λ (x : Tracer). x .fall) (h .is)) (move-small (t .circle .turn) (t .circle .quadrant) Fall),
+)
 
 pub leave-reach : {s : Stepper} → Entered s → Reach (leaveOf s)
 leave-reach {s} h =
@@ -132,8 +135,10 @@ same-less : (u v x y : ℤ) → v -ℤ u ≡ y -ℤ x → ltZ u v ≡ ltZ x y
 same-less u v x y e = by (ltZ x y) refl
   where
     by : (b : Bool) → ltZ x y ≡ b → ltZ u v ≡ b
-    by true h = ≺-ltZ u v (omega (arith, ltZ-true x y h, rw e at (added (parts v) (negated (parts u))), added (parts y) (negated (parts x))))
-    by false h = ≼-ltZ u v (omega (arith, ltZ-false x y h, rw e at (added (parts v) (negated (parts u))), added (parts y) (negated (parts x))))
+    by true h =
+        ≺-ltZ u v (omega (arith, ltZ-true x y h, rw e at (added (parts v) (negated (parts u))), added (parts y) (negated (parts x))))
+    by false h =
+        ≼-ltZ u v (omega (arith, ltZ-false x y h, rw e at (added (parts v) (negated (parts u))), added (parts y) (negated (parts x))))
 
 -- a change is told by its way
 change-way : (u v d : ℤ) → v -ℤ u ≡ d → changeOf u v ≡ changeOf (pos 0) d
@@ -154,17 +159,16 @@ module _ (a : Arc) (at : Point) (on : Circles a at) where
       let s = stepOf (a .square) (a .turn) (seenFrom (a .centre) at) in
       let x = change-way (at .x) (a .centre .x +ℤ s .x) _ (across (a .centre .x) (at .x) (s .x)) in
       let y = change-way (at .y) (a .centre .y +ℤ s .y) _ (across (a .centre .y) (at .y) (s .y)) in
-      ap (λ (o : Offset). changeOf (pos 0) (o .x) + 4 * changeOf (pos 0) (o .y)) (pulse-enter (a .square) (a .turn) (seenFrom (a .centre) at) (on .on))
+      ap (λ (o : Offset). changeOf (pos 0) (o .x) + 4 * changeOf (pos 0) (o .y))
+      (pulse-enter (a .square) (a .turn) (seenFrom (a .centre) at) (on .on))
       ∙ ap₂ (λ (x y : ℕ). x + 4 * y) (sym x) (sym y)
 
-  seen-is : seenFrom (a .centre) (arcAfter a at 1) ≡ stepOf (a .square) (a .turn) (seenFrom (a .centre) at)
-  unfolding afterOf
-  seen-is = seen-after a at 1
-
-  pub tracer-next : tracedOf (arcTracer a at) ≡ record { tracer = arcTracer a (arcStepped a at .at); code = bothCodes (arcStepped a at .pulses) }
+  pub tracer-next : tracedOf (arcTracer a at)
+      ≡ record { tracer = arcTracer a (arcStepped a at .at); code = bothCodes (arcStepped a at .pulses) }
   unfolding tracedOf arcTracer arcStepped
   tracer-next =
-      let next = advance-enter (a .square) (a .turn) (seenFrom (a .centre) at) (on .on) ∙ ap (enterOf (a .square) (a .turn)) (sym seen-is) in
+      let next =
+      advance-enter (a .square) (a .turn) (seenFrom (a .centre) at) (on .on) ∙ ap (enterOf (a .square) (a .turn)) (sym (seen-next a at)) in
       λ i. record { tracer = tracerOf (next i); code = code-is i }
 
   pub tracing : Tracing (arcTracer a at)

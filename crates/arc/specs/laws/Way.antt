@@ -10,7 +10,7 @@ use Rattle.plane.specs.declared.point.Point.{Point}
 use Rattle.circle.specs.declared.plane.Offset.{Offset}
 use Rattle.circle.specs.declared.plane.Turn.{Turn}
 use Rattle.circle.specs.Circle.{onCircle}
-use Rattle.circle.specs.Step.{stepOf, afterOf}
+use Rattle.circle.specs.computed.Step.{stepOf, afterOf}
 use Rattle.circle.specs.laws.Circle.{on-circle-to}
 use Rattle.circle.specs.laws.Next.{step-close}
 use Rattle.circle.specs.laws.Stepper.{after-on}

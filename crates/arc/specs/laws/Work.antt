@@ -24,7 +24,9 @@ bounded b (pos a) l h = omega arith
 bounded b (negsuc a) l h = omega arith
 
 pub centre-near : {p : Point} → insideOf centres p ≡ true → Near 2000000 p
-centre-near {p} e = let i = inside e in record { x = bounded 1999999 (p .x) (i .x .above) (i .x .below); y = bounded 1999999 (p .y) (i .y .above) (i .y .below) }
+centre-near {p} e =
+    let i = inside e in
+    record { x = bounded 1999999 (p .x) (i .x .above) (i .x .below); y = bounded 1999999 (p .y) (i .y .above) (i .y .below) }
 
 -- ---- the test
 
@@ -63,7 +65,13 @@ module _ {t : Travel} {a : Arc} {at : Point} (i : ArcAt t a at) where
 
   pub on-arc : Wide t → Inside t at → OnArc a at
   on-arc w here =
-      record { centre = centre-near (i .centre); here = travel-near w here; there = travel-near w end-inside; on = i .on; end-on = i .end-on }
+      record {
+        centre = centre-near (i .centre);
+        here = travel-near w here;
+        there = travel-near w end-inside;
+        on = i .on;
+        end-on = i .end-on;
+      }
 
   -- one cycle that is not the last keeps the arc in work
   pub keeps : (arcAfter a at 1 ≡ a .end → ⊥) → ArcAt t a (arcAfter a at 1)
@@ -73,5 +81,7 @@ module _ {t : Travel} {a : Arc} {at : Point} (i : ArcAt t a at) where
         centre = i .centre;
         on = n .on;
         end-on = i .end-on;
-        stays = visits-test t _ _ (λ c some most. rw (after-next a at c) (visited (suc c) (omega arith) (omega (arith, more-cycles a at both-on f))));
+        stays =
+            visits-test t _ _
+            (λ c some most. rw (after-next a at c) (visited (suc c) (omega arith) (omega (arith, more-cycles a at both-on f))));
       }

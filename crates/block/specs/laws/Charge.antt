@@ -9,8 +9,9 @@ use Rattle.plane.specs.declared.pulse.Pulses.{Pulses}
 use Rattle.plane.specs.Pulse.{pulsesBetween}
 use Rattle.circle.specs.declared.plane.Offset.{Offset}
 use Rattle.circle.specs.declared.plane.Turn.{Turn}
-use Rattle.circle.specs.Step.{stepOf, afterOf}
-use Rattle.circle.specs.Charge.{stepCharge, chargesIn}
+use Rattle.circle.specs.computed.Step.{stepOf, afterOf}
+use Rattle.circle.specs.computed.Charge.{stepCharge}
+use Rattle.charges.specs.computed.Sum.{chargesIn}
 use Rattle.arc.specs.declared.arc.Arc.{Arc}
 use Rattle.arc.specs.Centre.{seenFrom, backFrom}
 use Rattle.arc.specs.Arc.{arcAfter}

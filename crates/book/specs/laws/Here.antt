@@ -6,7 +6,7 @@ use native.Mathlib.Omega.{arith}
 use Rattle.plane.specs.declared.point.Point.{Point}
 use Rattle.plane.specs.declared.travel.Travel.{Travel}
 use Rattle.circle.specs.declared.plane.Offset.{Offset}
-use Rattle.circle.specs.Step.{stepOf, afterOf}
+use Rattle.circle.specs.computed.Step.{stepOf, afterOf}
 use Rattle.line.specs.Line.{cyclesOf, pointOf}
 use Rattle.arc.specs.declared.arc.Arc.{Arc}
 use Rattle.arc.specs.Centre.{seenFrom, backFrom}

@@ -17,8 +17,8 @@ use Rattle.circle.specs.declared.plane.Offset.{Offset}
 use Rattle.circle.specs.declared.plane.Turn.{Turn}
 use Rattle.circle.specs.declared.plane.Turn.the-variants.{Clockwise, Counterclockwise}
 use Rattle.circle.specs.Circle.{onCircle}
-use Rattle.circle.specs.Step.{seen, stepOf, afterOf}
-use Rattle.circle.specs.Stepper as stepper
+use Rattle.circle.specs.computed.Step.{seen, stepOf, afterOf}
+use Rattle.circle.specs.computed.Stepper as stepper
 use Rattle.circle.specs.laws.Code.{turned-small}
 use Rattle.circle.specs.laws.Stepper.{way, pulse-enter, pulse-small, after-on}
 use Rattle.line.specs.Line.{cyclesOf, pointOf}

@@ -12,12 +12,12 @@ use borrow.Author.Tests.{leb-true, ltb-true, le-leb, lt-ltb}
 use Rattle.whole.specs.Root.{nearestRoot}
 use Rattle.whole.specs.laws.Difference.{Difference, natural, negated, added}
 use Rattle.whole.specs.laws.Order.{_≼_, _≺_, from-≤ℤ, to-≤ℤ, abs-neg}
+use Rattle.whole.specs.laws.Test.{both, joined}
 use Rattle.circle.specs.declared.plane.Offset.{Offset}
 use Rattle.circle.specs.declared.plane.Turn.{Turn}
 use Rattle.circle.specs.declared.plane.Turn.the-variants.{Clockwise, Counterclockwise}
-use Rattle.circle.specs.Circle.{largestN, square, excess, larger, Circle, circleTest, onCircle}
-use Rattle.circle.specs.Step.{offset, mirror, seen, quarterTurn}
-use Rattle.circle.specs.laws.Test.{both-true, both-of}
+use Rattle.circle.specs.Circle.{largestN, square, excess, larger, Circle, circleTest, onCircle, offset}
+use Rattle.circle.specs.computed.Step.{mirror, seen, quarterTurn}
 use Rattle.circle.specs.laws.Octant.{Quadrant, swapped, some-n, under-axis, below, nearest-axis, axis-is, within-axis}
 
 -- the quarter turn back
@@ -113,7 +113,8 @@ radius-bound n s l = within-axis (nearest-axis n s) 1414214 (omega arith)
 
 -- "its m on an axis" is the nearest root of N
 pub axis-circle : (n r : ℕ) → 1 ≤ n → Circle n (offset (pos r) (pos 0)) ↔ (r ≡ nearestRoot n)
-axis-circle n r s = (λ c. axis-is (below (circle-quadrant c) (omega arith)), λ e. quadrant-circle (offset (pos r) (pos 0)) (inl (rw e (nearest-axis n s))))
+axis-circle n r s =
+    (λ c. axis-is (below (circle-quadrant c) (omega arith)), λ e. quadrant-circle (offset (pos r) (pos 0)) (inl (rw e (nearest-axis n s))))
 
 -- ---- the test
 
@@ -132,10 +133,16 @@ module _ (n : ℕ) (p : Offset) where
   pub on-circle-to : onCircle n p ≡ true → OnCircle n p
   unfolding onCircle
   on-circle-to e =
-      let f = both-true e in
-      let g = both-true (f .1) in
-      let h = both-true (g .1) in
-      record { some = leb-true 1 n (f .0); bound = leb-true n largestN (g .0); circle = quadrant-circle p (by (ltb-true (a * a + b * b) (n + max a b) (h .0)) (leb-true n (a * a + b * b + max a b) (h .1)) (decLe b a)) }
+      let f = both e in
+      let g = both (f .1) in
+      let h = both (g .1) in
+      record {
+        some = leb-true 1 n (f .0);
+        bound = leb-true n largestN (g .0);
+        circle =
+            quadrant-circle p
+            (by (ltb-true (a * a + b * b) (n + max a b) (h .0)) (leb-true n (a * a + b * b + max a b) (h .1)) (decLe b a));
+      }
     where
       by : a * a + b * b < n + max a b → n ≤ a * a + b * b + max a b → Dec (b ≤ a) → Quadrant n a b
       by l h (yes g) = inl (omega arith)
@@ -144,14 +151,11 @@ module _ (n : ℕ) (p : Offset) where
   pub on-circle-of : OnCircle n p → onCircle n p ≡ true
   unfolding onCircle
   on-circle-of o =
-      both-of (le-leb 1 n (o .some)) (both-of (le-leb n largestN (o .bound)) (by (circle-quadrant (o .circle))))
+      joined (le-leb 1 n (o .some)) (joined (le-leb n largestN (o .bound)) (by (circle-quadrant (o .circle))))
     where
       by : Quadrant n a b → circleTest n a b ≡ true
-      by (inl h) = both-of (lt-ltb (a * a + b * b) (n + max a b) (omega arith)) (le-leb n (a * a + b * b + max a b) (omega arith))
-      by (inr h) = both-of (lt-ltb (a * a + b * b) (n + max a b) (omega arith)) (le-leb n (a * a + b * b + max a b) (omega arith))
-
-  pub on-circle : (onCircle n p ≡ true) ↔ OnCircle n p
-  on-circle = (on-circle-to, on-circle-of)
+      by (inl h) = joined (lt-ltb (a * a + b * b) (n + max a b) (omega arith)) (le-leb n (a * a + b * b + max a b) (omega arith))
+      by (inr h) = joined (lt-ltb (a * a + b * b) (n + max a b) (omega arith)) (le-leb n (a * a + b * b + max a b) (omega arith))
 
   -- the size of both coordinates, for the arithmetic of code
   pub on-circle-small : onCircle n p ≡ true → (natAbs (p .x) ≤ 1414214) × (natAbs (p .y) ≤ 1414214)

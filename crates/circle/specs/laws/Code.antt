@@ -6,7 +6,8 @@ use mir.Syntax.{w64}
 use mir.Val.{SFits}
 use Rattle.whole.specs.laws.Order.{abs-fits, abs-neg}
 use Rattle.circle.specs.declared.plane.Offset.{Offset}
-use Rattle.circle.specs.Step.{offset, turned}
+use Rattle.circle.specs.Circle.{offset}
+use Rattle.circle.specs.computed.Step.{turned}
 
 -- 0 - z
 pub minus-fits : (z : ℤ) → natAbs z < 2 ^ 63 → SFits w64 (pos 0 -ℤ z)
@@ -24,6 +25,7 @@ module _ (k : ℕ) (p : Offset) where
   turned-3 e = rw (e, negℤ-negℤ (p .y))
 
 -- and their size
-pub turned-small : (k m : ℕ) (p : Offset) → natAbs (p .x) ≤ m → natAbs (p .y) ≤ m → (natAbs (turned k p .x) ≤ m) × (natAbs (turned k p .y) ≤ m)
+pub turned-small : (k m : ℕ) (p : Offset) → natAbs (p .x) ≤ m → natAbs (p .y) ≤ m
+    → (natAbs (turned k p .x) ≤ m) × (natAbs (turned k p .y) ≤ m)
 turned-small zero m p h g = (h, g)
 turned-small (suc k) m p h g = let s = turned-small k m p h g in (rw (abs-neg (turned k p .y)) (s .1), s .0)

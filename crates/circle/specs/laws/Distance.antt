@@ -1,7 +1,7 @@
--- A circle point is less than half a pulse from the circle, and the nearest along its longer coordinate.
+-- A circle point is less than half a pulse from the circle.
 use mathlib.Core.Path.{_≡_, ap}
 use mathlib.Core.Logic.{inl, inr}
-use Prim.Native.Nat.{ℕ, zero, suc, _+_, _-_, _*_, _≤_, _<_}
+use Prim.Native.Nat.{ℕ, _+_, _-_, _*_, _≤_, _<_}
 use native.Mathlib.Nat.{mul-le-mul}
 use native.Mathlib.Omega.{arith}
 use lib.IntN.{ℤ, pos, negsuc, negℤ, natAbs, _*ℤ_}
@@ -9,8 +9,8 @@ use lib.Signed.{_<ℤ_}
 use Rattle.whole.specs.laws.Difference.{Difference, natural, negated, added, multiplied}
 use Rattle.whole.specs.laws.Order.{_≺_}
 use Rattle.circle.specs.declared.plane.Offset.{Offset}
-use Rattle.circle.specs.Circle.{square, squares, excess, Circle, Nearest, past, Within}
-use Rattle.circle.specs.laws.Octant.{Octant, Quadrant, below, above}
+use Rattle.circle.specs.Circle.{square, squares, excess, Circle, past, Within}
+use Rattle.circle.specs.laws.Octant.{Octant, Quadrant}
 use Rattle.circle.specs.laws.Circle.{from-<ℤ, to-<ℤ, square-parts, excess-parts, circle-quadrant}
 
 -- ---- half a pulse: outside by f, 4 f = d + 1, and inside
@@ -41,7 +41,10 @@ module _ {n x y : ℕ} where
 pub circle-within : {n : ℕ} (p : Offset) → Circle n p → Within 1 n p
 circle-within {n} p c = record {
   outside = λ h. outer (past 1 F) (omega (arith, added (multiplied (natural 4) (excess-parts n p)) (negated (natural 1)))) (from-<ℤ h);
-  inside = λ h. inner (past 1 (negℤ F)) (omega (arith, added (multiplied (natural 4) (negated (excess-parts n p))) (negated (natural 1)))) (from-<ℤ h);
+  inside =
+      λ h.
+      inner (past 1 (negℤ F)) (omega (arith, added (multiplied (natural 4) (negated (excess-parts n p))) (negated (natural 1))))
+      (from-<ℤ h);
 }
   where
     F : ℤ
@@ -57,23 +60,9 @@ circle-within {n} p c = record {
     inner : (z : ℤ) → Difference z (4 * n) (4 * S + 1) → pos 0 ≺ z → square z <ℤ (pos 16 *ℤ squares p)
     inner (pos d) h g =
         to-<ℤ (pos (d * d)) (pos 16 *ℤ squares p)
-        (omega (arith, inside-by (circle-quadrant c) d (omega arith), multiplied (natural 16) (added (square-parts (p .x)) (square-parts (p .y)))))
+        (omega (
+          arith,
+          inside-by (circle-quadrant c) d (omega arith),
+          multiplied (natural 16) (added (square-parts (p .x)) (square-parts (p .y))),
+        ))
     inner (negsuc d) h g = absurd (omega arith)
-
--- ---- the nearest along the longer coordinate
-
-pub nearest : {n x y : ℕ} → Octant n x y → Nearest n x y
-nearest {n} {x} {y} o = record { beyond = λ z h. let g : 2 * x + 1 ≤ x + z = omega arith in omega (arith, mul-le-mul g g); before = under x o }
-  where
-    under : (x : ℕ) → Octant n x y → (z : ℕ) → z < x → (x + z) * (x + z) + 4 * (y * y) < 4 * n
-    under zero o z h = absurd (omega arith)
-    under (suc x) o z h = let g : suc x + z ≤ 2 * x + 1 = omega arith in omega (arith, mul-le-mul g g)
-
-pub circle-nearest : {n : ℕ} (p : Offset) → Circle n p
-    → (natAbs (p .y) ≤ natAbs (p .x) → Nearest n (natAbs (p .x)) (natAbs (p .y))) × (natAbs (p .x) ≤ natAbs (p .y) → Nearest n (natAbs (p .y)) (natAbs (p .x)))
-circle-nearest p c = (λ l. nearest (below (circle-quadrant c) l), λ l. nearest (above (circle-quadrant c) l))
-
--- and no other point is: only a circle point is the nearest
-pub nearest-octant : {n x y : ℕ} → 1 ≤ x → y ≤ x → Nearest n x y → Octant n x y
-nearest-octant {x = zero} s l h = absurd (omega arith)
-nearest-octant {x = suc x} s l h = omega (arith, h .beyond (suc (suc x)) (omega arith), h .before x (omega arith))

@@ -1,23 +1,25 @@
--- The next point: from a circle point there is one and only one, and it is the step. Clockwise is the converse.
+-- The next point: from a circle point there is one and only one, and it is the step. Clockwise is its mirror image.
 use mathlib.Core.Path.{_≡_, refl, sym, ap, subst, _∙_}
-use mathlib.Core.Logic.{inl, inr, _↔_, _≢_}
+use mathlib.Core.Logic.{inl, inr, _↔_}
 use Prim.Native.Nat.{ℕ, zero, suc, _+_, _≤_, _<_}
 use native.Mathlib.Nat.{mul-le-mul-left}
 use native.Mathlib.Omega.{arith}
 use lib.IntN.{ℤ, pos, negsuc, negℤ, natAbs, _-ℤ_}
 use borrow.Author.Tests.{ne-eqb}
-use Rattle.whole.specs.laws.Difference.{Difference, parts, negated, plus, minus, split, ring, var, num, neg, _⊖_, _⊗_}
+use Rattle.whole.specs.laws.Difference.{Difference, Expression, parts, negated, plus, minus, split, ring, var, num, neg, _⊖_, _⊗_}
 use Rattle.whole.specs.laws.Order.{_≺_, abs-neg}
 use Rattle.circle.specs.declared.plane.Offset.{Offset}
 use Rattle.circle.specs.declared.plane.Turn.{Turn}
 use Rattle.circle.specs.declared.plane.Turn.the-variants.{Clockwise, Counterclockwise}
 use Rattle.circle.specs.declared.quadrant.Place.{Place}
-use Rattle.circle.specs.Circle.{Circle}
+use Rattle.circle.specs.Circle.{Circle, offset}
 use Rattle.circle.specs.Next.{cross, OnSide, Follows, Next}
-use Rattle.circle.specs.Step.{offset, place, mirror, seen, quarterTurn, turned, pointOf, placeOf, firstStep, nextQuadrant, placed, nextPlace, seenPlace, stepOf}
+use Rattle.circle.specs.computed.Step.{place, mirror, seen, quarterTurn, turned, pointOf, placeOf, firstStep, nextQuadrant, placed}
+use Rattle.circle.specs.computed.Step.{nextPlace, seenPlace, stepOf}
 use Rattle.circle.specs.laws.Octant.{Quadrant, swapped, some, ray}
 use Rattle.circle.specs.laws.Step.{Step, step-is, stays, ahead, between, opposite}
-use Rattle.circle.specs.laws.Circle.{unturn, from-<ℤ, to-<ℤ, circle-quadrant, quadrant-circle, turn-circle, unturn-circle, mirror-circle, seen-circle, turn-unturn, seen-seen}
+use Rattle.circle.specs.laws.Circle.{unturn, from-<ℤ, to-<ℤ, circle-quadrant, quadrant-circle, turn-circle, unturn-circle}
+use Rattle.circle.specs.laws.Circle.{mirror-circle, seen-circle, turn-unturn, seen-seen}
 
 -- the other way round
 abbrev pub other : Turn → Turn
@@ -26,8 +28,11 @@ other Counterclockwise = Clockwise
 
 -- ---- cross products as differences of naturals
 
-cross-parts : (p q : Offset) → Difference (cross p q) (plus (var (p .x) ⊗ var (q .y) ⊖ var (p .y) ⊗ var (q .x))) (minus (var (p .x) ⊗ var (q .y) ⊖ var (p .y) ⊗ var (q .x)))
-cross-parts p q = split (var (p .x) ⊗ var (q .y) ⊖ var (p .y) ⊗ var (q .x))
+abbrev crossTerms : Offset → Offset → Expression
+crossTerms p q = var (p .x) ⊗ var (q .y) ⊖ var (p .y) ⊗ var (q .x)
+
+cross-parts : (p q : Offset) → Difference (cross p q) (plus (crossTerms p q)) (minus (crossTerms p q))
+cross-parts p q = split (crossTerms p q)
 
 -- `Follows` counterclockwise, for `omega`
 abbrev Left : Offset → Offset → Type 0
@@ -40,7 +45,7 @@ left-follows p q h = to-<ℤ (pos 0) (cross p q) h
 
 turn-cross : (p q : Offset) → cross (quarterTurn p) (quarterTurn q) ≡ cross p q
 turn-cross p q =
-    ring (neg (var (p .y)) ⊗ var (q .x) ⊖ var (p .x) ⊗ neg (var (q .y))) (var (p .x) ⊗ var (q .y) ⊖ var (p .y) ⊗ var (q .x)) (omega arith)
+    ring (neg (var (p .y)) ⊗ var (q .x) ⊖ var (p .x) ⊗ neg (var (q .y))) (crossTerms p q) (omega arith)
 
 unturn-right : (p r : Offset) → cross (quarterTurn p) r ≡ cross p (unturn r)
 unturn-right p r =
@@ -54,14 +59,19 @@ turn-next : {n : ℕ} (t : Turn) (p q : Offset) → Next n t p q → Next n t (q
 turn-next t p q h = record {
   on = turn-circle q (h .on);
   after = subst (OnSide t) (sym (turn-cross p q)) (h .after);
-  none = λ r c f. h .none (unturn r) (unturn-circle r c) (subst (OnSide t) (unturn-right p r) (f .0), subst (OnSide t) (unturn-left r q) (f .1));
+  none =
+      λ r c f.
+      h .none (unturn r) (unturn-circle r c) (subst (OnSide t) (unturn-right p r) (f .0), subst (OnSide t) (unturn-left r q) (f .1));
 }
 
 next-unturn : {n : ℕ} (t : Turn) (p q : Offset) → Next n t (quarterTurn p) q → Next n t p (unturn q)
 next-unturn t p q h = record {
   on = unturn-circle q (h .on);
   after = subst (OnSide t) (unturn-right p q) (h .after);
-  none = λ r c f. h .none (quarterTurn r) (turn-circle r c) (subst (OnSide t) (sym (turn-cross p r)) (f .0), subst (OnSide t) (sym (unturn-right r q)) (f .1));
+  none =
+      λ r c f.
+      h .none (quarterTurn r) (turn-circle r c)
+      (subst (OnSide t) (sym (turn-cross p r)) (f .0), subst (OnSide t) (sym (unturn-right r q)) (f .1));
 }
 
 -- s is the next of p and the only one
@@ -86,11 +96,13 @@ first a b = offset (pos a) (pos b)
 module _ {n x y : ℕ} {s : ℕ × ℕ} (c : Quadrant n x y) (st : Step n x y s) where
   nothing : (u v : ℤ) → Circle n (offset u v) → Left (first x y) (offset u v) → Left (offset u v) (first (s .0) (s .1)) → ⊥
   nothing (pos u) (pos v) h f g =
-      between c st (circle-quadrant h) (omega (arith, cross-parts (first x y) (first u v))) (omega (arith, cross-parts (first u v) (first (s .0) (s .1))))
+      between c st (circle-quadrant h) (omega (arith, cross-parts (first x y) (first u v)))
+      (omega (arith, cross-parts (first u v) (first (s .0) (s .1))))
   nothing (negsuc u) (pos v) h f g = omega (arith, cross-parts (offset (negsuc u) (pos v)) (first (s .0) (s .1)))
   nothing (pos u) (negsuc v) h f g = omega (arith, cross-parts (first x y) (offset (pos u) (negsuc v)))
   nothing (negsuc u) (negsuc v) h f g =
-      opposite (suc u) (suc v) (ahead st) (omega (arith, cross-parts (first x y) (offset (negsuc u) (negsuc v)))) (omega (arith, cross-parts (offset (negsuc u) (negsuc v)) (first (s .0) (s .1))))
+      opposite (suc u) (suc v) (ahead st) (omega (arith, cross-parts (first x y) (offset (negsuc u) (negsuc v))))
+      (omega (arith, cross-parts (offset (negsuc u) (negsuc v)) (first (s .0) (s .1))))
 
   next-first : Next n Counterclockwise (first x y) (first (s .0) (s .1))
   next-first = record {
@@ -105,11 +117,15 @@ module _ {n x y : ℕ} {s : ℕ × ℕ} (c : Quadrant n x y) (st : Step n x y s)
       (λ f. next-first .none (offset u v) (h .on) (h .after, left-follows (offset u v) (first (s .0) (s .1)) f))
       (λ f. h .none (first (s .0) (s .1)) (next-first .on) (next-first .after, left-follows (first (s .0) (s .1)) (offset u v) f))
     where
-      by : (u v : ℤ) → Circle n (offset u v) → Left (first x y) (offset u v) → ¬ Left (offset u v) (first (s .0) (s .1)) → ¬ Left (first (s .0) (s .1)) (offset u v) → offset u v ≡ first (s .0) (s .1)
+      by : (u v : ℤ) → Circle n (offset u v) → Left (first x y) (offset u v) → ¬ Left (offset u v) (first (s .0) (s .1))
+          → ¬ Left (first (s .0) (s .1)) (offset u v) → offset u v ≡ first (s .0) (s .1)
       by (pos u) (pos v) o a f g =
-          let e = ray (circle-quadrant o) (stays c st) (omega (arith, cross-parts (first u v) (first (s .0) (s .1)), cross-parts (first (s .0) (s .1)) (first u v))) in
+          let e =
+          ray (circle-quadrant o) (stays c st)
+          (omega (arith, cross-parts (first u v) (first (s .0) (s .1)), cross-parts (first (s .0) (s .1)) (first u v))) in
           cc
-      by (negsuc u) (pos v) o a f g = absurd (omega (arith, cross-parts (first (s .0) (s .1)) (offset (negsuc u) (pos v)), ahead st .some-y))
+      by (negsuc u) (pos v) o a f g =
+          absurd (omega (arith, cross-parts (first (s .0) (s .1)) (offset (negsuc u) (pos v)), ahead st .some-y))
       by (pos u) (negsuc v) o a f g = absurd (omega (arith, cross-parts (first x y) (offset (pos u) (negsuc v))))
       by (negsuc u) (negsuc v) o a f g =
           absurd (omega (
@@ -204,35 +220,17 @@ module _ {n : ℕ} where
       in
       subst (λ (t : Offset). Sole n Counterclockwise t (pointOf (placed (q .quadrant) s))) (f .is) h
 
--- ---- clockwise: in the mirror, and backwards
-
-other-way : (p q : Offset) → cross p q ≡ negℤ (cross q p)
-other-way p q =
-    ring (var (p .x) ⊗ var (q .y) ⊖ var (p .y) ⊗ var (q .x)) (neg (var (q .x) ⊗ var (p .y) ⊖ var (q .y) ⊗ var (p .x))) (omega arith)
+-- ---- clockwise, in the mirror
 
 side-neg : (t : Turn) (z : ℤ) → OnSide t z → OnSide (other t) (negℤ z)
 side-neg Clockwise z h = to-<ℤ (pos 0) (negℤ z) (omega (arith, from-<ℤ h, negated (parts z)))
 side-neg Counterclockwise z h = to-<ℤ (negℤ z) (pos 0) (omega (arith, from-<ℤ h, negated (parts z)))
 
--- what follows one way is followed the other way
-pub follows-back : (t : Turn) (p q : Offset) → Follows t p q → Follows (other t) q p
-follows-back t p q h = subst (OnSide (other t)) (sym (other-way q p)) (side-neg t (cross p q) h)
-
-pub converse : {n : ℕ} (t : Turn) (p q : Offset) → Circle n p → Next n t p q → Next n (other t) q p
-converse t p q c h = record {
-  on = c;
-  after = follows-back t p q (h .after);
-  none = λ r d f. h .none r d (around t r p (f .1), around t q r (f .0));
-}
-  where
-    around : (t : Turn) (a b : Offset) → Follows (other t) a b → Follows t b a
-    around Clockwise a b g = follows-back Counterclockwise a b g
-    around Counterclockwise a b g = follows-back Clockwise a b g
-
 -- the mirror turns every cross product over
 mirror-cross : (p q : Offset) → cross (mirror p) (mirror q) ≡ negℤ (cross p q)
 mirror-cross p q =
-    ring (var (p .x) ⊗ neg (var (q .y)) ⊖ neg (var (p .y)) ⊗ var (q .x)) (neg (var (p .x) ⊗ var (q .y) ⊖ var (p .y) ⊗ var (q .x))) (omega arith)
+    ring (var (p .x) ⊗ neg (var (q .y)) ⊖ neg (var (p .y)) ⊗ var (q .x)) (neg (crossTerms p q))
+    (omega arith)
 
 follows-mirror : (t : Turn) (p q : Offset) → Follows t p q → Follows (other t) (mirror p) (mirror q)
 follows-mirror t p q h = subst (OnSide (other t)) (sym (mirror-cross p q)) (side-neg t (cross p q) h)
@@ -245,12 +243,16 @@ mirror-next t p q h = record {
 }
   where
     around : (t : Turn) (p r : Offset) → Follows (other t) (mirror p) r → Follows t p (mirror r)
-    around Clockwise p r g = subst (λ (z : Offset). Follows Clockwise z (mirror r)) (seen-seen Clockwise p) (follows-mirror Counterclockwise (mirror p) r g)
-    around Counterclockwise p r g = subst (λ (z : Offset). Follows Counterclockwise z (mirror r)) (seen-seen Clockwise p) (follows-mirror Clockwise (mirror p) r g)
+    around Clockwise p r g =
+        subst (λ (z : Offset). Follows Clockwise z (mirror r)) (seen-seen Clockwise p) (follows-mirror Counterclockwise (mirror p) r g)
+    around Counterclockwise p r g =
+        subst (λ (z : Offset). Follows Counterclockwise z (mirror r)) (seen-seen Clockwise p) (follows-mirror Clockwise (mirror p) r g)
 
     back : (t : Turn) (r q : Offset) → Follows (other t) r (mirror q) → Follows t (mirror r) q
-    back Clockwise r q g = subst (λ (z : Offset). Follows Clockwise (mirror r) z) (seen-seen Clockwise q) (follows-mirror Counterclockwise r (mirror q) g)
-    back Counterclockwise r q g = subst (λ (z : Offset). Follows Counterclockwise (mirror r) z) (seen-seen Clockwise q) (follows-mirror Clockwise r (mirror q) g)
+    back Clockwise r q g =
+        subst (λ (z : Offset). Follows Clockwise (mirror r) z) (seen-seen Clockwise q) (follows-mirror Counterclockwise r (mirror q) g)
+    back Counterclockwise r q g =
+        subst (λ (z : Offset). Follows Counterclockwise (mirror r) z) (seen-seen Clockwise q) (follows-mirror Clockwise r (mirror q) g)
 
 module _ {n : ℕ} where
   -- from a circle point there is one next point, and it is the step
@@ -271,25 +273,6 @@ module _ {n : ℕ} where
 
   pub step-circle : (t : Turn) (p : Offset) → Circle n p → Circle n (stepOf n t p)
   step-circle t p c = sole t p c .is .on
-
-  -- the two ways round undo each other
-  pub step-back : (t : Turn) (p : Offset) → Circle n p → stepOf n (other t) (stepOf n t p) ≡ p
-  step-back t p c = let s = sole t p c in sym (sole (other t) (stepOf n t p) (s .is .on) .only p (converse t p (stepOf n t p) c (s .is)))
-
-  pub next-converse : (t : Turn) (p q : Offset) → Circle n p → Circle n q → Next n t p q ↔ Next n (other t) q p
-  next-converse Clockwise p q c d = (converse Clockwise p q c, converse Counterclockwise q p d)
-  next-converse Counterclockwise p q c d = (converse Counterclockwise p q c, converse Clockwise q p d)
-
-  -- the step is another point
-  pub step-moves : (t : Turn) (p : Offset) → Circle n p → stepOf n t p ≢ p
-  step-moves t p c e = by t (subst (Follows t p) e (sole t p c .is .after))
-    where
-      none : cross p p ≡ pos 0
-      none = ring (var (p .x) ⊗ var (p .y) ⊖ var (p .y) ⊗ var (p .x)) (num 0) (omega arith)
-
-      by : (t : Turn) → Follows t p p → ⊥
-      by Clockwise h = omega (arith, from-<ℤ (subst (OnSide Clockwise) none h))
-      by Counterclockwise h = omega (arith, from-<ℤ (subst (OnSide Counterclockwise) none h))
 
 -- ---- a step moves each coordinate by 1 at most
 
@@ -330,5 +313,6 @@ module _ {n : ℕ} where
       let g : Close (pointOf q) (pointOf (placed (q .quadrant) s)) =
       subst (λ (r : Offset). Close (pointOf q) r) (sym (point-placed (q .quadrant) s (f .on .four))) (turned-close (q .quadrant) h)
       in
-      let o : Close (seen t p) (pointOf (placed (q .quadrant) s)) = subst (λ (r : Offset). Close r (pointOf (placed (q .quadrant) s))) (f .is) g in
+      let o : Close (seen t p) (pointOf (placed (q .quadrant) s)) =
+      subst (λ (r : Offset). Close r (pointOf (placed (q .quadrant) s))) (f .is) g in
       subst (λ (r : Offset). Close r (seen t (pointOf (placed (q .quadrant) s)))) (seen-seen t p) (seen-close t o)

@@ -1,8 +1,10 @@
--- The circle points of one octant, 0 ≤ y ≤ x, over the naturals. Products of orders (`apart`, `apart-le`) are all that `omega` has to be told.
+-- The circle points of one octant, 0 ≤ y ≤ x, over the naturals. Products of orders (`apart`, `apart-le`) are all that `omega` has to
+-- be told.
 use mathlib.Core.Path.{_≡_, sym}
 use mathlib.Core.Logic.{_⊎_, inl, inr}
 use Prim.Native.Nat.{ℕ, zero, suc, _+_, _*_, _≤_, _<_}
-use native.Mathlib.Nat.{le-antisymm, le-refl, le-of-lt, mul-le-mul, mul-le-mul-left, mul-le-mul-right, mul-lt-mul-of-pos-right, le-of-mul-le-mul-left, lt-of-not-le}
+use native.Mathlib.Nat.{le-antisymm, le-refl, le-of-lt, mul-le-mul, mul-le-mul-left, mul-le-mul-right, mul-lt-mul-of-pos-right}
+use native.Mathlib.Nat.{le-of-mul-le-mul-left, lt-of-not-le}
 use native.Mathlib.Decide.{decLe}
 use native.Mathlib.Omega.{arith}
 use Rattle.whole.specs.Root.{nearestRoot}
@@ -41,7 +43,7 @@ apart-le {y} {x} h = by (decLe x y)
     by (yes k) = omega (arith, mul-le-mul h h)
     by (no f) = omega (arith, apart (lt-of-not-le f))
 
-self-square : (y : ℕ) → y ≤ y * y
+pub self-square : (y : ℕ) → y ≤ y * y
 self-square zero = omega arith
 self-square (suc y) = omega arith
 
@@ -74,7 +76,9 @@ module _ {n x y u v : ℕ} (h : Octant n x y) (k : Octant n u v) where
   rises l = lt-of-not-le (λ g. omega (arith, mul-le-mul (falls k h g) g))
 
   level : y * u ≡ x * v → y ≡ v
-  level e = le-antisymm (unless (λ g. omega (arith, mul-lt-mul-of-pos-right g (some h), mul-le-mul-left y (falls k h (le-of-lt g))))) (unless (λ g. omega (arith, turns g)))
+  level e =
+      le-antisymm (unless (λ g. omega (arith, mul-lt-mul-of-pos-right g (some h), mul-le-mul-left y (falls k h (le-of-lt g)))))
+      (unless (λ g. omega (arith, turns g)))
 
 -- y is at most half a quarter turn
 pub minor : {n x y q : ℕ} → Octant n x y → Axis (2 * n) q → 2 * y ≤ q

@@ -9,8 +9,8 @@ use native.Mathlib.Omega.{arith}
 use lib.Dec.{eqb}
 use borrow.Author.Tests.{le-leb, lt-leb, lt-ltb, le-ltb, eqb-true, eqb-false}
 use Rattle.circle.specs.declared.quadrant.Place.{Place}
-use Rattle.circle.specs.Step.{place, firstStep, nextQuadrant, placed, nextPlace}
-use Rattle.circle.specs.Count.{rankIn, rankOf, onward, placesTo}
+use Rattle.circle.specs.computed.Step.{place, firstStep, nextQuadrant, placed, nextPlace}
+use Rattle.circle.specs.computed.Count.{rankIn, rankOf, onward, placesTo}
 use Rattle.circle.specs.laws.Octant.{Octant, Axis, Quadrant, unless, unique, minor, falls, below, above, some}
 use Rattle.circle.specs.laws.Step.{Step, rise, cut, cross, fall, climb, step-is, stays}
 use Rattle.circle.specs.laws.Next.{On}
@@ -31,7 +31,10 @@ module _ {n Q : ℕ} (k : Axis (2 * n) Q) where
   rank-above a b c l = by (decLe b a)
     where
       on-diagonal : b ≤ a → Axis (2 * n) (2 * a)
-      on-diagonal g = let o = below c g in let p = above c l in omega (arith, mul-le-mul-left a l, mul-le-mul-right b l, mul-le-mul-left a g, mul-le-mul-right b g)
+      on-diagonal g =
+          let o = below c g in
+          let p = above c l in
+          omega (arith, mul-le-mul-left a l, mul-le-mul-right b l, mul-le-mul-left a g, mul-le-mul-right b g)
 
       by : Dec (b ≤ a) → rankIn Q a b + a ≡ Q
       by (yes g) = omega (arith, rank-low Q a b g, unique k (on-diagonal g))
@@ -82,9 +85,11 @@ module _ {n Q : ℕ} (k : Axis (2 * n) Q) where
       by (no g) (no h) =
           let z : a ≡ u = omega (arith, rank-above a b c (omega arith), rank-above u v d (omega arith)) in
           (z, alike (above c (omega arith)) (above d (omega arith)) z)
-      by (yes g) (no h) = across-middle a b u v (below c g) (above d (omega arith)) (omega (arith, rank-low Q a b g, rank-above u v d (omega arith)))
+      by (yes g) (no h) =
+          across-middle a b u v (below c g) (above d (omega arith)) (omega (arith, rank-low Q a b g, rank-above u v d (omega arith)))
       by (no g) (yes h) =
-          let m = across-middle u v a b (below d h) (above c (omega arith)) (omega (arith, rank-low Q u v h, rank-above a b c (omega arith))) in
+          let m =
+          across-middle u v a b (below d h) (above c (omega arith)) (omega (arith, rank-low Q u v h, rank-above a b c (omega arith))) in
           (sym (m .0), sym (m .1))
 
 -- ---- around the circle
@@ -114,7 +119,8 @@ module _ (n : ℕ) (p : Place) (o : On n p) where
   unfolding nextPlace
   move = by (firstStep n (p .along) (p .across)) (step-is (p .along) (p .across) (o .some))
     where
-      at : (a b : ℕ) (t : Bool) → eqb a 0 ≡ t → Step n (p .along) (p .across) (a, b) → Move n p (cond t (place (nextQuadrant (p .quadrant)) b 0) (place (p .quadrant) a b))
+      at : (a b : ℕ) (t : Bool) → eqb a 0 ≡ t → Step n (p .along) (p .across) (a, b)
+          → Move n p (cond t (place (nextQuadrant (p .quadrant)) b 0) (place (p .quadrant) a b))
       at a b true e st = onto (next-quadrant (p .quadrant) (o .four)) refl (rw (eqb-true a 0 e) at st)
       at a b false e st = within refl (omega (arith, eqb-false a 0 e)) st
 
@@ -144,25 +150,36 @@ pub data After (T r s : ℕ) : Type 0 where
 module _ {n Q : ℕ} (k : Axis (2 * n) Q) where
   pub place-lt : {p : Place} → On n p → rankOf Q p < 4 * Q
   unfolding rankOf
-  place-lt {p} o = let h : p .quadrant + 1 ≤ 4 = omega arith in omega (arith, mul-le-mul-right Q h, rank-lt k (p .along) (p .across) (o .on) (o .some))
+  place-lt {p} o =
+      let h : p .quadrant + 1 ≤ 4 = omega arith in omega (arith, mul-le-mul-right Q h, rank-lt k (p .along) (p .across) (o .on) (o .some))
 
   pub rank-move : {p s : Place} → On n p → Move n p s → After (4 * Q) (rankOf Q p) (rankOf Q s)
   unfolding rankOf
   rank-move o (within e l w) = more (omega (arith, ap (λ (t : ℕ). t * Q) e, rank-step k (o .on) w))
   rank-move {p} {s} o (onto (next h j) e w) =
-      more (omega (arith, ap (λ (t : ℕ). t * Q) j, rank-step k (o .on) w, rank-above k 0 (s .along) (stays (o .on) w) (omega arith), rank-low Q (s .along) (s .across) (omega arith)))
+      more
+      (omega (
+        arith,
+        ap (λ (t : ℕ). t * Q) j,
+        rank-step k (o .on) w,
+        rank-above k 0 (s .along) (stays (o .on) w) (omega arith),
+        rank-low Q (s .along) (s .across) (omega arith),
+      ))
   rank-move {p} {s} o (onto (home h j) e w) =
       wrap (omega (arith, ap (λ (t : ℕ). t * Q) h, rank-step k (o .on) w, rank-above k 0 (s .along) (stays (o .on) w) (omega arith)))
       (omega (arith, ap (λ (t : ℕ). t * Q) j, rank-low Q (s .along) (s .across) (omega arith)))
 
   behind : {p e : Place} → On n p → On n e → p .quadrant < e .quadrant → rankOf Q p < rankOf Q e
   unfolding rankOf
-  behind {p} {e} o c h = let g : p .quadrant + 1 ≤ e .quadrant = omega arith in omega (arith, mul-le-mul-right Q g, rank-lt k (p .along) (p .across) (o .on) (o .some))
+  behind {p} {e} o c h =
+      let g : p .quadrant + 1 ≤ e .quadrant = omega arith in
+      omega (arith, mul-le-mul-right Q g, rank-lt k (p .along) (p .across) (o .on) (o .some))
 
   pub place-injective : {p e : Place} → On n p → On n e → rankOf Q p ≡ rankOf Q e → p ≡ e
   unfolding rankOf
   place-injective {p} {e} o c h =
-      let f : p .quadrant ≡ e .quadrant = le-antisymm (unless (λ g. omega (arith, behind c o g))) (unless (λ g. omega (arith, behind o c g))) in
+      let f : p .quadrant ≡ e .quadrant =
+      le-antisymm (unless (λ g. omega (arith, behind c o g))) (unless (λ g. omega (arith, behind o c g))) in
       let m = rank-injective k (p .along) (p .across) (e .along) (e .across) (o .on) (c .on) (omega (arith, ap (λ (t : ℕ). t * Q) f)) in
       same f (m .0) (m .1)
     where
@@ -226,5 +243,9 @@ module _ {n Q : ℕ} (k : Axis (2 * n) Q) (e : Place) (ce : On n e) where
       up = rank-move k o (move n p o)
 
       by : Dec (rankOf Q e ≡ rankOf Q (nextPlace n p)) → Left p
-      by (yes h) = last (place-injective k (on-next n p o) ce (sym h)) (onward-one (4 * Q) (rankOf Q p) (rankOf Q e) (place-lt k o) (place-lt k ce) (rankOf Q (nextPlace n p)) up h)
-      by (no h) = rest (λ f. h (ap (rankOf Q) (sym f))) (onward-more (4 * Q) (rankOf Q p) (rankOf Q e) (place-lt k o) (place-lt k ce) (rankOf Q (nextPlace n p)) up h)
+      by (yes h) =
+          last (place-injective k (on-next n p o) ce (sym h))
+          (onward-one (4 * Q) (rankOf Q p) (rankOf Q e) (place-lt k o) (place-lt k ce) (rankOf Q (nextPlace n p)) up h)
+      by (no h) =
+          rest (λ f. h (ap (rankOf Q) (sym f)))
+          (onward-more (4 * Q) (rankOf Q p) (rankOf Q e) (place-lt k o) (place-lt k ce) (rankOf Q (nextPlace n p)) up h)

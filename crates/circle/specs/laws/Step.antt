@@ -8,7 +8,7 @@ use native.Mathlib.Omega.{arith}
 use native.Mathlib.Decide.{decLe}
 use lib.Dec.{leb, ltb}
 use borrow.Author.Tests.{leb-true, leb-false, ltb-true, ltb-false}
-use Rattle.circle.specs.Step.{firstStep}
+use Rattle.circle.specs.computed.Step.{firstStep}
 use Rattle.circle.specs.laws.Octant.{Quadrant, rises, past, below, above}
 
 -- The five cases of a step from (x, y) to s, so that no later proof sees a test or a subtraction:
@@ -45,7 +45,10 @@ step-suc n x y = let less : suc x - 1 ≡ x = omega arith in rw less (by (ltb y 
     in-high true l e = fall l (omega (arith, leb-true (n + 2 * a) (S + y + 1) e))
     in-high false l e = climb l (omega (arith, leb-false (n + 2 * a) (S + y + 1) e))
 
-    by : (t : Bool) → ltb y a ≡ t → Step n a y (cond t (cond (ltb (S + 2 * y + 1) (n + a)) (a, y + 1) (x, y + 1)) (cond (leb (n + 2 * a) (S + y + 1)) (x, y) (x, y + 1)))
+    by : (t : Bool) → ltb y a ≡ t
+        → Step n a y (cond t
+        (cond (ltb (S + 2 * y + 1) (n + a)) (a, y + 1) (x, y + 1))
+        (cond (leb (n + 2 * a) (S + y + 1)) (x, y) (x, y + 1)))
     by true e = in-low (ltb (S + 2 * y + 1) (n + a)) (ltb-true y a e) refl
     by false e = in-high (leb (n + 2 * a) (S + y + 1)) (ltb-false y a e) refl
 
@@ -86,9 +89,11 @@ between c (cut l h) (inr k) e f = omega (arith, mul-le-mul (k .wide) l)
 between c (cross {y} h) (inl k) e f = past y (omega arith) k (omega (arith, rises (below c (omega arith)) k e))
 between c (cross {y} h) (inr k) e f = past y (omega arith) k (omega (arith, rises (below c (omega arith)) k (omega arith)))
 between c (fall l h) (inl k) e f = omega (arith, mul-le-mul (k .wide) l)
-between c (fall l h) (inr k) e f = omega (arith, rises k (above c l) (omega arith), rises (above (stays c (fall l h)) (omega arith)) k (omega arith))
+between c (fall l h) (inr k) e f =
+    omega (arith, rises k (above c l) (omega arith), rises (above (stays c (fall l h)) (omega arith)) k (omega arith))
 between c (climb l h) (inl k) e f = omega (arith, mul-le-mul (k .wide) l)
-between c (climb l h) (inr k) e f = omega (arith, rises k (above c l) (omega arith), rises (above (stays c (climb l h)) (omega arith)) k (omega arith))
+between c (climb l h) (inr k) e f =
+    omega (arith, rises k (above c l) (omega arith), rises (above (stays c (climb l h)) (omega arith)) k (omega arith))
 
 -- nor one of the opposite quadrant
 pub opposite : {x y : ℕ} {s : ℕ × ℕ} (u v : ℕ) → Ahead x y s → x * v < y * u → u * s .1 < v * s .0 → ⊥

@@ -15,10 +15,12 @@ use Rattle.circle.specs.declared.quadrant.Place.{Place}
 use Rattle.circle.specs.declared.step.Move.{Move}
 use Rattle.circle.specs.declared.step.Move.the-variants.{Rise, Slant, Fall}
 use Rattle.circle.specs.declared.step.Stepper.{Stepper}
-use Rattle.circle.specs.Circle.{largestN, onCircle}
-use Rattle.circle.specs.Step.{offset, place, seen, turned, pointOf, firstStep, placed, nextQuadrant, nextPlace, seenPlace, stepOf, afterOf}
-use Rattle.circle.specs.Stepper.{bias, carry, enterOf, leaveOf, pick, moveOf, moved, settled, advanceOf, quadrantPulse, pulseOf, Entered}
-use Rattle.circle.specs.Asked.{Takes, Movable}
+use Rattle.circle.specs.Circle.{largestN, onCircle, offset}
+use Rattle.circle.specs.computed.Step.{place, seen, turned, pointOf, firstStep, placed, nextQuadrant, nextPlace, seenPlace, stepOf}
+use Rattle.circle.specs.computed.Step.{afterOf}
+use Rattle.circle.specs.computed.Stepper.{bias, carry, enterOf, leaveOf, pick, moveOf, moved, settled, advanceOf, quadrantPulse}
+use Rattle.circle.specs.computed.Stepper.{pulseOf, Entered}
+use Rattle.circle.specs.computed.Asked.{Takes, Movable}
 use Rattle.circle.specs.laws.Octant.{Quadrant, under-axis, nearest-axis}
 use Rattle.circle.specs.laws.Circle.{on-circle-to, on-circle-of, radius-bound, seen-seen}
 use Rattle.circle.specs.laws.Next.{On, seen-form, first, point-placed, step-circle}
@@ -82,14 +84,17 @@ module _ (n a b e : ℕ) (h : e + n ≡ squares a b + bias) where
       by true g = le-leb (bias + 2 * a) (e + b + 1) (omega (arith, leb-true (n + 2 * a) (squares a b + b + 1) g))
       by false g = lt-leb (bias + 2 * a) (e + b + 1) (omega (arith, leb-false (n + 2 * a) (squares a b + b + 1) g))
 
-moves : (n : ℕ) (t : Turn) (k a b e : ℕ) → e + n ≡ squares (suc a) b + bias → Moves n (suc a) b (moveOf (carry t (place k (suc a) b) e)) (firstStep n (suc a) b)
+moves : (n : ℕ) (t : Turn) (k a b e : ℕ) → e + n ≡ squares (suc a) b + bias
+    → Moves n (suc a) b (moveOf (carry t (place k (suc a) b) e)) (firstStep n (suc a) b)
 unfolding moveOf firstStep
 moves n t k a b e h =
     let less : suc a - 1 ≡ a = omega arith in
     rw (less, same-low n (suc a) b e h, same-high n (suc a) b e h)
     (by (ltb b (suc a)) (ltb (squares (suc a) b + 2 * b + 1) (n + suc a)) (leb (n + 2 * suc a) (squares (suc a) b + b + 1)))
   where
-    by : (t u v : Bool) → Moves n (suc a) b (pick t (pick u Rise Slant) (pick v Fall Slant)) (cond t (cond u (suc a, b + 1) (a, b + 1)) (cond v (a, b) (a, b + 1)))
+    by : (t u v : Bool)
+        → Moves n (suc a) b (pick t (pick u Rise Slant) (pick v Fall Slant))
+        (cond t (cond u (suc a, b + 1) (a, b + 1)) (cond v (a, b) (a, b + 1)))
     by true true v = rises
     by true false v = slants
     by false u true = falls
@@ -100,9 +105,18 @@ pub movable : {s : Stepper} → Entered s → Movable (moveOf s) s
 unfolding moveOf
 movable {s} h =
     let b = entered-bounds h in
-    record { some = b .some; along = omega arith; across = omega arith; high = omega arith; takes = by b (ltb (s .across) (s .along)) (ltb (s .excess + 2 * s .across + 1) (bias + s .along)) (leb (bias + 2 * s .along) (s .excess + s .across + 1)) refl refl refl }
+    record {
+      some = b .some;
+      along = omega arith;
+      across = omega arith;
+      high = omega arith;
+      takes =
+          by b (ltb (s .across) (s .along)) (ltb (s .excess + 2 * s .across + 1) (bias + s .along))
+          (leb (bias + 2 * s .along) (s .excess + s .across + 1)) refl refl refl;
+    }
   where
-    by : Bounds s → (t u v : Bool) → ltb (s .across) (s .along) ≡ t → ltb (s .excess + 2 * s .across + 1) (bias + s .along) ≡ u → leb (bias + 2 * s .along) (s .excess + s .across + 1) ≡ v → Takes (pick t (pick u Rise Slant) (pick v Fall Slant)) s
+    by : Bounds s → (t u v : Bool) → ltb (s .across) (s .along) ≡ t → ltb (s .excess + 2 * s .across + 1) (bias + s .along) ≡ u
+        → leb (bias + 2 * s .along) (s .excess + s .across + 1) ≡ v → Takes (pick t (pick u Rise Slant) (pick v Fall Slant)) s
     by b true true v e f g = b .some
     by b true false v e f g = omega (arith, ltb-false (s .excess + 2 * s .across + 1) (bias + s .along) f)
     by b false u true e f g = omega (arith, leb-true (bias + 2 * s .along) (s .excess + s .across + 1) g)
@@ -113,7 +127,9 @@ movable {s} h =
 settle : (n : ℕ) (t : Turn) (k a b e : ℕ) → e ≡ squares a b + bias - n → settled (carry t (place k a b) e) ≡ atPlace n t (placed k (a, b))
 settle n t k a b e h = by (eqb a 0) refl
   where
-    by : (u : Bool) → eqb a 0 ≡ u → cond u (carry t (place (nextQuadrant k) b 0) e) (carry t (place k a b) e) ≡ atPlace n t (cond u (place (nextQuadrant k) b 0) (place k a b))
+    by : (u : Bool) → eqb a 0 ≡ u
+        → cond u (carry t (place (nextQuadrant k) b 0) e) (carry t (place k a b) e)
+        ≡ atPlace n t (cond u (place (nextQuadrant k) b 0) (place k a b))
     by true g = ap (carry t (place (nextQuadrant k) b 0)) (h ∙ axis a (eqb-true a 0 g))
       where
         axis : (a : ℕ) → a ≡ 0 → squares a b + bias - n ≡ squares b 0 + bias - n
@@ -122,13 +138,16 @@ settle n t k a b e h = by (eqb a 0) refl
     by false g = ap (carry t (place k a b)) h
 
 module _ (n : ℕ) (t : Turn) (k : ℕ) where
-  advance-by : {a b : ℕ} {m : Move} {s : ℕ × ℕ} (e : ℕ) → e + n ≡ squares a b + bias → Moves n a b m s → settled (moved m (carry t (place k a b) e)) ≡ atPlace n t (placed k s)
+  advance-by : {a b : ℕ} {m : Move} {s : ℕ × ℕ} (e : ℕ) → e + n ≡ squares a b + bias → Moves n a b m s
+      → settled (moved m (carry t (place k a b) e)) ≡ atPlace n t (placed k s)
   advance-by e h (rises {a} {b}) = settle n t k a (b + 1) (e + 2 * b + 1) (omega arith)
-  advance-by e h (slants {a} {b}) = let less : suc a - 1 ≡ a = omega arith in rw less (settle n t k a (b + 1) (e + 2 * b + 2 - 2 * suc a) (omega arith))
+  advance-by e h (slants {a} {b}) =
+      let less : suc a - 1 ≡ a = omega arith in rw less (settle n t k a (b + 1) (e + 2 * b + 2 - 2 * suc a) (omega arith))
   advance-by e h (falls {a} {b}) = let less : suc a - 1 ≡ a = omega arith in rw less (settle n t k a b (e + 1 - 2 * suc a) (omega arith))
 
 -- the carried excess is exact
-exact : {n : ℕ} (q : Place) → n ≤ largestN → 1 ≤ n → On n q → squares (q .along) (q .across) + bias - n + n ≡ squares (q .along) (q .across) + bias
+exact : {n : ℕ} (q : Place) → n ≤ largestN → 1 ≤ n → On n q
+    → squares (q .along) (q .across) + bias - n + n ≡ squares (q .along) (q .across) + bias
 exact {n} q l s o =
     let u = under-axis (o .on) (nearest-axis n s) in
     let r = radius-bound n s l in
@@ -139,7 +158,9 @@ pub moves-at : {n : ℕ} (t : Turn) (q : Place) → n ≤ largestN → 1 ≤ n �
     → Moves n (q .along) (q .across) (moveOf (atPlace n t q)) (firstStep n (q .along) (q .across))
 moves-at {n} t q l s o = by (q .along) (o .some) (exact q l s o)
   where
-    by : (a : ℕ) → 1 ≤ a → squares a (q .across) + bias - n + n ≡ squares a (q .across) + bias → Moves n a (q .across) (moveOf (carry t (place (q .quadrant) a (q .across)) (squares a (q .across) + bias - n))) (firstStep n a (q .across))
+    by : (a : ℕ) → 1 ≤ a → squares a (q .across) + bias - n + n ≡ squares a (q .across) + bias
+        → Moves n a (q .across) (moveOf (carry t (place (q .quadrant) a (q .across)) (squares a (q .across) + bias - n)))
+        (firstStep n a (q .across))
     by zero z h = absurd (omega arith)
     by (suc a) z h = moves n t (q .quadrant) a (q .across) (squares (suc a) (q .across) + bias - n) h
 
@@ -149,7 +170,8 @@ advance-enter n t p e =
     let o = on-circle-to n p e in
     let q = seenPlace t p in
     let on = seen-form t p (o .circle) .on in
-    advance-by n t (q .quadrant) (squares (q .along) (q .across) + bias - n) (exact q (o .bound) (o .some) on) (moves-at t q (o .bound) (o .some) on)
+    advance-by n t (q .quadrant) (squares (q .along) (q .across) + bias - n) (exact q (o .bound) (o .some) on)
+    (moves-at t q (o .bound) (o .some) on)
     ∙ ap (atPlace n t) (sym (seen-step t p (o .circle)))
 
 pub leave-enter : (n : ℕ) (t : Turn) (p : Offset) → onCircle n p ≡ true → leaveOf (enterOf n t p) ≡ p
@@ -172,23 +194,10 @@ advance-entered {s} h =
     subst Entered (sym (ap advanceOf (h .is) ∙ advance-enter (h .square) (s .turn) (h .point) (h .on)))
     (enter-entered (h .square) (s .turn) (stepOf (h .square) (s .turn) (h .point)) (step-on (h .square) (s .turn) (h .point) (h .on)))
 
-unfoldable pub advances : ℕ → Stepper → Stepper
-advances zero s = s
-advances (suc c) s = advanceOf (advances c s)
-
 pub after-on : (n : ℕ) (t : Turn) (p : Offset) (c : ℕ) → onCircle n p ≡ true → onCircle n (afterOf n t p c) ≡ true
 unfolding afterOf
 after-on n t p zero e = e
 after-on n t p (suc c) e = step-on n t (afterOf n t p c) (after-on n t p c e)
-
--- c advances are c cycles
-pub advances-enter : (n : ℕ) (t : Turn) (p : Offset) (c : ℕ) → onCircle n p ≡ true → advances c (enterOf n t p) ≡ enterOf n t (afterOf n t p c)
-unfolding advances afterOf
-advances-enter n t p zero e = refl
-advances-enter n t p (suc c) e = ap advanceOf (advances-enter n t p c e) ∙ advance-enter n t (afterOf n t p c) (after-on n t p c e)
-
-pub leave-advances : (n : ℕ) (t : Turn) (p : Offset) (c : ℕ) → onCircle n p ≡ true → leaveOf (advances c (enterOf n t p)) ≡ afterOf n t p c
-leave-advances n t p c e = ap leaveOf (advances-enter n t p c e) ∙ leave-enter n t (afterOf n t p c) (after-on n t p c e)
 
 -- ---- the pulses
 
@@ -247,7 +256,8 @@ pub advance-turn : (s : Stepper) → advanceOf s .turn ≡ s .turn
 unfolding advanceOf
 advance-turn s = by (moveOf s) (eqb (moved (moveOf s) s .along) 0)
   where
-    by : (m : Move) (t : Bool) → cond t (carry (moved m s .turn) (place (nextQuadrant (moved m s .quadrant)) (moved m s .across) 0) (moved m s .excess)) (moved m s) .turn ≡ s .turn
+    by : (m : Move) (t : Bool) → (let u = moved m s in
+        cond t (carry (u .turn) (place (nextQuadrant (u .quadrant)) (u .across) 0) (u .excess)) u .turn ≡ s .turn)
     by Rise true = refl
     by Rise false = refl
     by Slant true = refl

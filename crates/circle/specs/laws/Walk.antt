@@ -8,11 +8,11 @@ use Rattle.circle.specs.declared.plane.Offset.{Offset}
 use Rattle.circle.specs.declared.plane.Turn.{Turn}
 use Rattle.circle.specs.Circle.{Circle}
 use Rattle.circle.specs.Next.{Next, Walk, Ends}
-use Rattle.circle.specs.Step.{seen, pointOf, placeOf, nextPlace, seenPlace, stepOf, afterOf}
-use Rattle.circle.specs.Count.{quarterOf, cyclesOf}
+use Rattle.circle.specs.computed.Step.{seen, pointOf, placeOf, nextPlace, seenPlace, stepOf, afterOf}
+use Rattle.circle.specs.computed.Count.{quarterOf, cyclesOf}
 use Rattle.circle.specs.laws.Octant.{Axis, unless, nearest-axis}
 use Rattle.circle.specs.laws.Circle.{circle-some, seen-seen}
-use Rattle.circle.specs.laws.Next.{seen-form, point-place, other, sole, step-circle, step-back}
+use Rattle.circle.specs.laws.Next.{seen-form, point-place, sole, step-circle}
 use Rattle.circle.specs.laws.Rank.{on-next, places-range, Left, last, rest, left}
 
 -- ---- the walk
@@ -44,14 +44,6 @@ module _ {n : ℕ} (t : Turn) where
   pub walk-after : (p : Offset) (c : ℕ) (q : Offset) → Circle n p → Walk n t p c q ↔ (q ≡ afterOf n t p c)
   walk-after p c q o = (walk-to p c q o, λ e. subst (Walk n t p c) (sym e) (walk-of p c o))
 
-  -- c steps one way undo c steps the other way
-  pub after-back : (p : Offset) (c : ℕ) → Circle n p → afterOf n (other t) (afterOf n t p c) c ≡ p
-  unfolding afterOf
-  after-back p zero o = refl
-  after-back p (suc c) o =
-      after-front n (other t) (afterOf n t p (suc c)) c
-      ∙ ap (λ (q : Offset). afterOf n (other t) q c) (step-back t (afterOf n t p c) (after-circle p c o)) ∙ after-back p c o
-
 -- ---- the count
 
 -- 2 N has a nearest root, the points of a quarter
@@ -64,7 +56,8 @@ module _ {n : ℕ} (t : Turn) where
   unfolding stepOf
   seen-step p c =
       let at = pointOf (nextPlace n (seenPlace t p)) in
-      ap (λ (q : Offset). placeOf (q .x) (q .y)) (seen-seen t at) ∙ point-place (nextPlace n (seenPlace t p)) (on-next n (seenPlace t p) (seen-form t p c .on))
+      ap (λ (q : Offset). placeOf (q .x) (q .y)) (seen-seen t at)
+      ∙ point-place (nextPlace n (seenPlace t p)) (on-next n (seenPlace t p) (seen-form t p c .on))
 
   pub seen-injective : (p q : Offset) → Circle n p → Circle n q → seenPlace t p ≡ seenPlace t q → p ≡ q
   seen-injective p q c d e =
@@ -109,7 +102,8 @@ module _ {n : ℕ} (t : Turn) (e : Offset) (on : Circle n e) where
   reached zero p o h = cycles-one p o .0 h
   reached (suc c) p o h = after-front n t p (suc c) ∙ by (ahead p o) (reached c (stepOf n t p) (step-circle t p o))
     where
-      by : Ahead n t p e → (cyclesOf n t (stepOf n t p) e ≡ suc c → afterOf n t (stepOf n t p) (suc c) ≡ e) → afterOf n t (stepOf n t p) (suc c) ≡ e
+      by : Ahead n t p e → (cyclesOf n t (stepOf n t p) e ≡ suc c → afterOf n t (stepOf n t p) (suc c) ≡ e)
+          → afterOf n t (stepOf n t p) (suc c) ≡ e
       by (at-end f g) k = absurd (omega arith)
       by (goes-on f g) k = k (omega arith)
 

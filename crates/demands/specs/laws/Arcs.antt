@@ -23,8 +23,8 @@ use Rattle.circle.specs.declared.plane.Offset.{Offset}
 use Rattle.circle.specs.declared.plane.Turn.{Turn}
 use Rattle.circle.specs.Circle.{Circle}
 use Rattle.circle.specs.Next.{Next, Walk, Ends}
-use Rattle.circle.specs.Step.{stepOf, afterOf}
-use Rattle.circle.specs.Charge.{chargesIn}
+use Rattle.circle.specs.computed.Step.{stepOf, afterOf}
+use Rattle.charges.specs.computed.Sum.{chargesIn}
 use Rattle.circle.specs.laws.Circle.{axis-circle}
 use Rattle.circle.specs.laws.Next.{step-close, sole}
 use Rattle.circle.specs.laws.Walk.{after-circle, walk-to, ends as walk-ends}

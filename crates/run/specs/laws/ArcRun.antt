@@ -8,7 +8,7 @@ use lib.ListN.{set}
 use Rattle.plane.specs.declared.point.Point.{Point}
 use Rattle.plane.specs.Point.{equalPoint, Near}
 use Rattle.plane.specs.Byte.{bothCodes, withMarks, cycleByte}
-use Rattle.circle.specs.Charge.{moveCharge}
+use Rattle.circle.specs.computed.Charge.{moveCharge}
 use Rattle.arc.specs.declared.arc.Arc.{Arc}
 use Rattle.arc.specs.declared.stepper.Tracer.{Tracer}
 use Rattle.arc.specs.declared.stepper.Traced.{Traced}

@@ -8,7 +8,7 @@ use lib.Dec.{ltb}
 use borrow.Author.Tests.{ltb-true, ltb-false}
 use Rattle.circle.specs.declared.step.Move.{Move}
 use Rattle.circle.specs.declared.step.Move.the-variants.{Rise, Slant, Fall}
-use Rattle.circle.specs.Charge.{moveCharge}
+use Rattle.circle.specs.computed.Charge.{moveCharge}
 use Rattle.divider.specs.laws.Last.{Due}
 use Rattle.work.specs.laws.Sound.{Feed}
 use Rattle.run.specs.declared.gap.Gap.{Gap}

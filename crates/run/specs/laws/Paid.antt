@@ -7,8 +7,8 @@ use native.Mathlib.Omega.{arith}
 use lib.ListN.{length}
 use Rattle.plane.specs.declared.point.Point.{Point}
 use Rattle.plane.specs.laws.Travel.{inside, inside-test}
-use Rattle.circle.specs.Charge.{mostPaid}
-use Rattle.circle.specs.laws.Paid.{Most, Grows, most-unique}
+use Rattle.charges.specs.Paid.{mostPaid}
+use Rattle.charges.specs.laws.Paid.{Most, Grows, most-unique}
 use Rattle.divider.specs.Divider.{goneOf}
 use Rattle.divider.specs.laws.Ticks.{counts, total-le}
 use Rattle.work.specs.declared.Work.{Work}

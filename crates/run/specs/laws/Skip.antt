@@ -16,7 +16,7 @@ use Rattle.divider.specs.laws.Last.{last-most}
 use Rattle.line.specs.declared.line.Line.{Line}
 use Rattle.line.specs.Line.{pointOf, drawnOf}
 use Rattle.line.specs.laws.Work.{drawn-test}
-use Rattle.circle.specs.laws.Paid.{Most}
+use Rattle.charges.specs.laws.Paid.{Most}
 use Rattle.arc.specs.declared.arc.Arc.{Arc}
 use Rattle.arc.specs.declared.arc.ArcPaid.{ArcPaid}
 use Rattle.arc.specs.Arc.{arcAfter, arcCycles}

@@ -13,7 +13,8 @@ use Rattle.line.specs.declared.line.Line.{Line}
 use Rattle.line.specs.Line.{pointOf, steppedOf}
 use Rattle.line.specs.laws.Cycles.{cycles-bound}
 use Rattle.circle.specs.declared.plane.Offset.{Offset}
-use Rattle.circle.specs.Charge.{stepCharge, chargesIn}
+use Rattle.circle.specs.computed.Charge.{stepCharge}
+use Rattle.charges.specs.computed.Sum.{chargesIn}
 use Rattle.arc.specs.declared.arc.Arc.{Arc}
 use Rattle.arc.specs.Arc.{arcAfter, arcStepped}
 use Rattle.arc.specs.Charge.{arcCharge, arcChargesIn}

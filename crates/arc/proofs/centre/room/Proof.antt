@@ -29,14 +29,20 @@ sub-t6 : tie.Need-sub-t6
 sub-t6 c = let s = c .before .before .before .before .before .before .before .before .before .before in subs (up s) (y s) tt
 
 sub-t7 : tie.Need-sub-t7
-sub-t7 c = let s = c .before .before .before .before .before .before .before .before .before .before .before .before .before .before in subs (x s) (left s) tt
+sub-t7 c =
+    let s = c .before .before .before .before .before .before .before .before .before .before .before .before .before .before in
+    subs (x s) (left s) tt
 
 sub-t8 : tie.Need-sub-t8
-sub-t8 c = let s = c .before .before .before .before .before .before .before .before .before .before .before .before .before .before .before .before .before .before in subs (y s) (down s) tt
+sub-t8 c =
+    let l = c .before .before .before .before .before .before .before .before in
+    let s = l .before .before .before .before .before .before .before .before .before .before in
+    subs (y s) (down s) tt
 
 returns : tie.Need-returns
 returns c =
-    let s = c .before .before .before .before .before .before .before .before .before .before .before .before .before .before .before .before .before .before in
+    let l = c .before .before .before .before .before .before .before .before in
+    let s = l .before .before .before .before .before .before .before .before .before .before in
     λ i. record {
       right = exact (right s ⊟ x s) tt i;
       up = exact (up s ⊟ y s) tt i;

@@ -15,7 +15,9 @@ sub-t3 : tie.Need-sub-t3
 sub-t3 c = let s = c .before .before .before .before in subs (x (s .args .at) (s .pre .1)) (x (s .args .centre) (s .pre .0)) tt
 
 sub-t4 : tie.Need-sub-t4
-sub-t4 c = let s = c .before .before .before .before .before .before .before .before in subs (y (s .args .at) (s .pre .1)) (y (s .args .centre) (s .pre .0)) tt
+sub-t4 c =
+    let s = c .before .before .before .before .before .before .before .before in
+    subs (y (s .args .at) (s .pre .1)) (y (s .args .centre) (s .pre .0)) tt
 
 returns : tie.Need-returns
 returns c =

@@ -32,7 +32,10 @@ unfolding moveCode
 returns-3 c = c .down .ensures ∙ in-quadrant (c .before .before .before .before .args .turn) (c .before .if3 .taken)
 
 returns-4 : tie.Need-returns-4
-returns-4 c = let t = c .before .before .before .args .turn in let k : c .before .before .before .args .quadrant ≡ 3 = omega arith in sym (rise-right t) ∙ in-quadrant t k
+returns-4 c =
+    let t = c .before .before .before .args .turn in
+    let k : c .before .before .before .args .quadrant ≡ 3 = omega arith in
+    sym (rise-right t) ∙ in-quadrant t k
 
 pub rise-code-spec : {M : Type 1} → statement M
 rise-code-spec =

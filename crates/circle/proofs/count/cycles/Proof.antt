@@ -2,7 +2,7 @@
 use borrow.Author.Needs.{needs}
 use mathlib.Core.Path.{_∙_}
 use native.Mathlib.Omega.{arith}
-use Rattle.circle.specs.Count.{placesTo, cyclesOf}
+use Rattle.circle.specs.computed.Count.{placesTo, cyclesOf}
 use Rattle.circle.specs.laws.Count.{quarter-bound, rank-bound}
 use Rattle.circle.proofs.count.cycles.Statement.{statement}
 use Rattle.circle.proofs.count.cycles.Tie as tie

@@ -36,7 +36,10 @@ add-result c = search needs
 returns-2 : tie.Need-returns-2
 returns-2 c =
     let s = c .before .before .args in
-    rw (c .before .larger .ensures, lt-ltb (s .a * s .a + s .b * s .b) (s .n + max (s .a) (s .b)) (omega (arith, c .before .larger .ensures)))
+    rw (
+      c .before .larger .ensures,
+      lt-ltb (s .a * s .a + s .b * s .b) (s .n + max (s .a) (s .b)) (omega (arith, c .before .larger .ensures)),
+    )
 
 pub near-circle-spec : {M : Type 1} → statement M
 near-circle-spec =

@@ -19,7 +19,8 @@ x-is : (c : tie.After-part) → c .part .result ≡ partOf (c .before .before .b
 x-is c = let f : SFits w64 (c .before .before .before .before .args .p .x) = search needs in simp toZ-ofZ at (c .part .ensures)
 
 y-is : (c : tie.After-part2) → c .part2 .result ≡ partOf (c .before .before .before .before .before .before .args .p .y)
-y-is c = let f : SFits w64 (c .before .before .before .before .before .before .args .p .y) = search needs in simp toZ-ofZ at (c .part2 .ensures)
+y-is c =
+    let f : SFits w64 (c .before .before .before .before .before .before .args .p .y) = search needs in simp toZ-ofZ at (c .part2 .ensures)
 
 returns : tie.Need-returns
 unfolding onCircle
@@ -57,7 +58,13 @@ returns-5 c =
     let n = s .n in
     let x = x-is (c .before .before .before .before .before .before .before) in
     let y = y-is (c .before .before .before .before .before) in
-    c .near-circle .ensures ∙ rw (x, y, le-leb 1 n (c .before .before .before .before .before .before .before .before .before .before .if1 .left), le-leb n largestN (c .before .before .before .before .before .before .before .before .before .if2 .left))
+    c .near-circle .ensures
+    ∙ rw (
+      x,
+      y,
+      le-leb 1 n (c .before .before .before .before .before .before .before .before .before .before .if1 .left),
+      le-leb n largestN (c .before .before .before .before .before .before .before .before .before .if2 .left),
+    )
 
 pub on-circle-spec : {M : Type 1} → statement M
 on-circle-spec =

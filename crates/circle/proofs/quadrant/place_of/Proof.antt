@@ -9,7 +9,7 @@ use mir.Syntax.{w64}
 use mir.Val.{SFits}
 use mir.Facts.{toZ-ofZ}
 use Rattle.whole.specs.Sign.{isNegative, partOf}
-use Rattle.circle.specs.Step.{place, placeOf}
+use Rattle.circle.specs.computed.Step.{place, placeOf}
 use borrow.Author.Needs.{needs}
 use Rattle.circle.proofs.quadrant.place_of.Statement.{statement}
 use Rattle.circle.proofs.quadrant.place_of.Tie as tie
@@ -82,31 +82,35 @@ returns-2 c =
 
 returns-3 : tie.Need-returns-3
 returns-3 c =
-    let p = c .before .before .before .before .before .before .before .before .args .p in
-    let x = x-is (c .before .before .before .before .before .before) in
-    let y = y-is (c .before .before .before .before) in
-    rw x (on-2 (p .x) (p .y) (rw y at (c .before .before .before .if1 .left)) (rw x at (c .before .before .if3 .taken)) (rw y at (c .if4 .taken)))
+    let f = c .before .before in
+    let p = f .before .before .before .before .before .before .args .p in
+    let x = x-is (f .before .before .before .before) in
+    let y = y-is (f .before .before) in
+    rw x (on-2 (p .x) (p .y) (rw y at (f .before .if1 .left)) (rw x at (f .if3 .taken)) (rw y at (c .if4 .taken)))
 
 returns-4 : tie.Need-returns-4
 returns-4 c =
-    let p = c .before .before .before .before .before .before .before .before .args .p in
-    let x = x-is (c .before .before .before .before .before .before) in
-    let y = y-is (c .before .before .before .before) in
-    rw (x, y) (in-1 (p .x) (p .y) (rw y at (c .before .before .before .if1 .left)) (rw x at (c .before .before .if3 .taken)) (rw y at (c .if4 .left)))
+    let f = c .before .before in
+    let p = f .before .before .before .before .before .before .args .p in
+    let x = x-is (f .before .before .before .before) in
+    let y = y-is (f .before .before) in
+    rw (x, y) (in-1 (p .x) (p .y) (rw y at (f .before .if1 .left)) (rw x at (f .if3 .taken)) (rw y at (c .if4 .left)))
 
 returns-5 : tie.Need-returns-5
 returns-5 c =
-    let p = c .before .before .before .before .before .before .before .before .args .p in
-    let x = x-is (c .before .before .before .before .before .before) in
-    let y = y-is (c .before .before .before .before) in
-    rw y (on-1 (p .x) (p .y) (rw y at (c .before .before .before .if1 .left)) (rw x at (c .before .before .if3 .left)) (rw x at (c .if5 .taken)))
+    let f = c .before .before in
+    let p = f .before .before .before .before .before .before .args .p in
+    let x = x-is (f .before .before .before .before) in
+    let y = y-is (f .before .before) in
+    rw y (on-1 (p .x) (p .y) (rw y at (f .before .if1 .left)) (rw x at (f .if3 .left)) (rw x at (c .if5 .taken)))
 
 returns-6 : tie.Need-returns-6
 returns-6 c =
-    let p = c .before .before .before .before .before .before .before .before .args .p in
-    let x = x-is (c .before .before .before .before .before .before) in
-    let y = y-is (c .before .before .before .before) in
-    rw (x, y) (in-0 (p .x) (p .y) (rw y at (c .before .before .before .if1 .left)) (rw x at (c .before .before .if3 .left)) (rw x at (c .if5 .left)))
+    let f = c .before .before in
+    let p = f .before .before .before .before .before .before .args .p in
+    let x = x-is (f .before .before .before .before) in
+    let y = y-is (f .before .before) in
+    rw (x, y) (in-0 (p .x) (p .y) (rw y at (f .before .if1 .left)) (rw x at (f .if3 .left)) (rw x at (c .if5 .left)))
 
 pub place-of-spec : {M : Type 1} → statement M
 place-of-spec =

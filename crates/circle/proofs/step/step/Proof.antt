@@ -1,8 +1,8 @@
 -- `step` is right because one advance of the stepper is one step.
 use mathlib.Core.Path.{_≡_, ap, _∙_}
 use Rattle.circle.specs.declared.step.Cycled.{Cycled}
-use Rattle.circle.specs.Step.{stepOf}
-use Rattle.circle.specs.Stepper.{Entered, advanceOf, leaveOf}
+use Rattle.circle.specs.computed.Step.{stepOf}
+use Rattle.circle.specs.computed.Stepper.{Entered, advanceOf, leaveOf}
 use Rattle.circle.specs.laws.Stepper.{enter-entered, advance-entered, advance-enter, leave-enter, step-on}
 use borrow.Author.Needs.{needs}
 use Rattle.circle.proofs.step.step.Statement.{statement}
@@ -30,7 +30,8 @@ returns c =
     let n = s .args .n in
     let t = s .args .turn in
     let p = s .args .p in
-    c .leave .ensures ∙ ap leaveOf (advanced k ∙ ap advanceOf (k .before .enter .ensures) ∙ advance-enter n t p (s .pre)) ∙ leave-enter n t (stepOf n t p) (step-on n t p (s .pre))
+    c .leave .ensures ∙ ap leaveOf (advanced k ∙ ap advanceOf (k .before .enter .ensures) ∙ advance-enter n t p (s .pre))
+    ∙ leave-enter n t (stepOf n t p) (step-on n t p (s .pre))
 
 pub step-spec : {M : Type 1} → statement M
 step-spec = tie.close (tie.spec enter-requires cycle-requires leave-requires returns)

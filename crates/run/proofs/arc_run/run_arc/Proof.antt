@@ -7,7 +7,7 @@ use Prim.Native.Nat.{ℕ, _-_, _*_, _<_}
 use native.Mathlib.Omega.{arith}
 use lib.ListN.{length, length-set}
 use Rattle.plane.specs.declared.point.Point.{Point}
-use Rattle.circle.specs.Charge.{moveCharge}
+use Rattle.circle.specs.computed.Charge.{moveCharge}
 use Rattle.arc.specs.declared.arc.Arc.{Arc}
 use Rattle.arc.specs.declared.stepper.Tracer.{Tracer}
 use Rattle.arc.specs.Charge.{arcCharge}

@@ -4,7 +4,7 @@ use mathlib.Core.Path.{sym, ap, _∙_}
 use Prim.Native.Nat.{_*_, _≤_, suc, min}
 use native.Mathlib.Nat.{mul-le-mul-right}
 use native.Mathlib.Omega.{arith}
-use Rattle.circle.specs.declared.charge.Span.{Span}
+use Rattle.charges.specs.declared.Span.{Span}
 use Rattle.arc.specs.Charge.{arcCharges}
 use Rattle.divider.specs.Divider.{lastTick}
 use Rattle.run.specs.laws.Cycles.{in-work, end-asks}

@@ -2,7 +2,7 @@
 use borrow.Author.Needs.{needs}
 use mathlib.Core.Path.{ap₂, _∙_}
 use Rattle.circle.specs.declared.plane.Offset.{Offset}
-use Rattle.circle.specs.Count.{cyclesOf}
+use Rattle.circle.specs.computed.Count.{cyclesOf}
 use Rattle.arc.specs.Arc.{arcCycles}
 use Rattle.arc.proofs.arc.Arc.cycles.Statement.{statement}
 use Rattle.arc.proofs.arc.Arc.cycles.Tie as tie

@@ -21,7 +21,7 @@ use Rattle.arc.proofs.arc.Arc.is_at.Tie as tie
 near : (c : tie.Else1) → insideOf centres (c .before .before .before .before .args .self .centre) ≡ true
 near c = sym (c .before .is-centre .ensures) ∙ not-false _ (c .if1 .left)
 
-end-in : (c : tie.Else2) → insideOf (c .before .before .before .before .before .before .args .travel) (c .before .before .before .before .before .before .args .self .end) ≡ true
+end-in : (c : tie.Else2) → (let s = c .before .before .before .before .before .before .args in insideOf (s .travel) (s .self .end) ≡ true)
 end-in c = sym (c .before .inside .ensures) ∙ not-false _ (c .if2 .left)
 
 abbrev arc-in : tie.Else2 → Arc
@@ -31,10 +31,13 @@ abbrev at-in : tie.Else2 → Point
 at-in c = c .before .before .before .before .before .before .args .at
 
 -- the circle's answer for the point, whatever it is
-on-is : (c : tie.After-on-circle) {b : Bool} → c .on-circle .result ≡ b → onCircle (arc-in (c .before .before) .square) (seenFrom (arc-in (c .before .before) .centre) (at-in (c .before .before))) ≡ b
-on-is c e = ap (λ (o : Offset). onCircle (arc-in (c .before .before) .square) o) (sym (c .before .seen .ensures)) ∙ sym (c .on-circle .ensures) ∙ e
+on-is : (c : tie.After-on-circle) {b : Bool} → c .on-circle .result ≡ b
+    → (let e = c .before .before in onCircle (arc-in e .square) (seenFrom (arc-in e .centre) (at-in e)) ≡ b)
+on-is c e =
+    ap (λ (o : Offset). onCircle (arc-in (c .before .before) .square) o) (sym (c .before .seen .ensures)) ∙ sym (c .on-circle .ensures) ∙ e
 
-on-true : (c : tie.Else3) → onCircle (arc-in (c .before .before .before) .square) (seenFrom (arc-in (c .before .before .before) .centre) (at-in (c .before .before .before))) ≡ true
+on-true : (c : tie.Else3)
+    → (let e = c .before .before .before in onCircle (arc-in e .square) (seenFrom (arc-in e .centre) (at-in e)) ≡ true)
 on-true c = on-is (c .before) (not-false _ (c .if3 .left))
 
 -- the numbers are small enough to be taken from one another
@@ -63,7 +66,8 @@ inside-requires c κs = search needs
 
 returns-2 : tie.Need-returns-2
 returns-2 c =
-    sym (refuted _ (λ e. true≢false (sym (inside-test (end-inside (arc-at e))) ∙ sym (c .before .inside .ensures) ∙ not-true _ (c .if2 .taken))))
+    let out = sym (c .before .inside .ensures) ∙ not-true _ (c .if2 .taken) in
+    sym (refuted _ (λ e. true≢false (sym (inside-test (end-inside (arc-at e))) ∙ out)))
 
 seen-requires : tie.Need-seen-requires
 seen-requires c κs =

@@ -2,9 +2,9 @@
 use borrow.Author.Needs.{needs}
 use mathlib.Core.Path.{_≡_, ap, _∙_}
 use native.Mathlib.Omega.{arith}
-use Rattle.circle.specs.declared.charge.Paid.{Paid}
 use Rattle.circle.specs.declared.plane.Offset.{Offset}
-use Rattle.circle.specs.Charge.{paidOf}
+use Rattle.charges.specs.declared.Paid.{Paid}
+use Rattle.charges.specs.computed.Paid.{paidOf}
 use Rattle.arc.specs.Centre.{seenFrom, backFrom}
 use Rattle.arc.specs.Arc.{arcAfter}
 use Rattle.arc.specs.Charge.{arcPaidOf}

@@ -2,7 +2,7 @@
 use borrow.Author.Needs.{needs}
 use mathlib.Core.Path.{ap, _∙_}
 use Rattle.plane.specs.Pulse.{pulsesBetween}
-use Rattle.circle.specs.Step.{stepOf, afterOf}
+use Rattle.circle.specs.computed.Step.{stepOf, afterOf}
 use Rattle.arc.specs.Centre.{backFrom}
 use Rattle.arc.specs.Arc.{arcAfter, arcStepped}
 use Rattle.arc.specs.laws.Step.{circles, step-reach}

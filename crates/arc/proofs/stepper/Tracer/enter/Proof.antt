@@ -3,12 +3,13 @@ use borrow.Author.Needs.{needs}
 use Rattle.arc.proofs.stepper.Tracer.enter.Statement.{statement}
 use Rattle.arc.proofs.stepper.Tracer.enter.Tie as tie
 use mathlib.Core.Path.{_≡_, ap, _∙_}
-use Rattle.circle.specs.Stepper.{enterOf}
+use Rattle.circle.specs.computed.Stepper.{enterOf}
 use Rattle.circle.specs.laws.Stepper.{enter-entered}
 use Rattle.arc.specs.Centre.{seenFrom}
 use Rattle.arc.specs.Stepper.{tracerOf, arcTracer}
 
-entered : (c : tie.After-enter) → let s = c .before .before .before in c .enter .result ≡ enterOf (s .args .a .square) (s .args .a .turn) (seenFrom (s .args .a .centre) (s .args .at))
+entered : (c : tie.After-enter) → (let s = c .before .before .before .args in
+    c .enter .result ≡ enterOf (s .a .square) (s .a .turn) (seenFrom (s .a .centre) (s .at)))
 entered c = let a = c .before .before .before .args .a in c .enter .ensures ∙ ap (enterOf (a .square) (a .turn)) (c .before .seen .ensures)
 
 seen-requires : tie.Need-seen-requires

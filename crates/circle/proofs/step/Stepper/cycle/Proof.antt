@@ -1,6 +1,6 @@
 -- `cycle` is right because it is a move, and an axis written in its own quadrant.
 use mathlib.Core.Path.{ap, _∙_}
-use Rattle.circle.specs.Stepper.{moved, settled, advanceOf}
+use Rattle.circle.specs.computed.Stepper.{moved, settled, advanceOf}
 use Rattle.circle.specs.laws.Stepper.{entered-bounds, movable, moved-quadrant}
 use borrow.Author.Needs.{needs}
 use Rattle.circle.proofs.step.Stepper.cycle.Statement.{statement}

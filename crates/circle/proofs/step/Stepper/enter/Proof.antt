@@ -4,8 +4,8 @@ use Prim.Native.Nat.{_+_, _-_, _*_, _≤_}
 use native.Mathlib.Nat.{mul-le-mul}
 use native.Mathlib.Omega.{arith}
 use Rattle.circle.specs.declared.plane.Offset.{Offset}
-use Rattle.circle.specs.Step.{placeOf, seenPlace}
-use Rattle.circle.specs.Stepper.{bias, carry, enterOf}
+use Rattle.circle.specs.computed.Step.{placeOf, seenPlace}
+use Rattle.circle.specs.computed.Stepper.{bias, carry, enterOf}
 use Rattle.circle.specs.laws.Circle.{on-circle-small}
 use Rattle.circle.specs.laws.Stepper.{Bounds, enter-bounds}
 use borrow.Author.Needs.{needs}
@@ -15,11 +15,13 @@ use Rattle.circle.proofs.step.Stepper.enter.Tie as tie
 q-is : (c : tie.After-place-of) → c .place-of .result ≡ seenPlace (c .before .before .args .turn) (c .before .before .args .p)
 q-is c = c .place-of .ensures ∙ ap (λ (r : Offset). placeOf (r .x) (r .y)) (c .before .seen-from .ensures)
 
-bounds : (c : tie.After-place-of) → Bounds (carry (c .before .before .args .turn) (c .place-of .result) (c .place-of .result .along * c .place-of .result .along + c .place-of .result .across * c .place-of .result .across + bias - c .before .before .args .n))
+bounds : (c : tie.After-place-of) → (let s = c .before .before .args in let q = c .place-of .result in
+    Bounds (carry (s .turn) q (q .along * q .along + q .across * q .across + bias - s .n)))
 unfolding enterOf
 bounds c = let s = c .before .before in rw (q-is c) (enter-bounds (s .args .n) (s .args .turn) (s .args .p) (s .pre))
 
-small : (c : tie.After-place-of) → (c .place-of .result .along * c .place-of .result .along ≤ 1414214 * 1414214) × (c .place-of .result .across * c .place-of .result .across ≤ 1414214 * 1414214)
+small : (c : tie.After-place-of) → (let q = c .place-of .result in
+    (q .along * q .along ≤ 1414214 * 1414214) × (q .across * q .across ≤ 1414214 * 1414214))
 small c = let b = bounds c in (mul-le-mul (b .along) (b .along), mul-le-mul (b .across) (b .across))
 
 seen-from-requires : tie.Need-seen-from-requires

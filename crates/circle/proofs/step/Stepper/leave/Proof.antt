@@ -1,8 +1,9 @@
 -- `leave` is right because the coordinates of a stepper on the circle are small.
 use mathlib.Core.Path.{ap, _∙_}
 use native.Mathlib.Omega.{arith}
-use Rattle.circle.specs.Step.{offset, seen}
-use Rattle.circle.specs.Stepper.{leaveOf}
+use Rattle.circle.specs.Circle.{offset}
+use Rattle.circle.specs.computed.Step.{seen}
+use Rattle.circle.specs.computed.Stepper.{leaveOf}
 use lib.IntN.{pos}
 use Rattle.circle.specs.laws.Code.{turned-small}
 use Rattle.circle.specs.laws.Stepper.{entered-bounds}
@@ -16,7 +17,8 @@ seen-from-requires : tie.Need-seen-from-requires
 seen-from-requires c κs =
     let s = c .before .args .self in
     let b = entered-bounds (c .before .pre) in
-    rw (c .point-of .ensures) (omega (arith, turned-small (s .quadrant) 1414214 (offset (pos (s .along)) (pos (s .across))) (b .along) (b .across)))
+    rw (c .point-of .ensures)
+    (omega (arith, turned-small (s .quadrant) 1414214 (offset (pos (s .along)) (pos (s .across))) (b .along) (b .across)))
 
 returns : tie.Need-returns
 unfolding leaveOf

@@ -40,7 +40,9 @@ mul-t14 : tie.Need-mul-t14
 mul-t14 c = search needs
 
 sub-t15 : tie.Need-sub-t15
-sub-t15 c = rw (c .before .before .before .before .before .enum-told2 .given .1) at (c .before .before .before .before .before .before .before .pre .takes)
+sub-t15 c =
+    rw (c .before .before .before .before .before .enum-told2 .given .1) at
+    (c .before .before .before .before .before .before .before .pre .takes)
 
 enum-told-3 : tie.Need-enum-told-3
 enum-told-3 c = search needs

@@ -2,7 +2,7 @@
 use Prim.Native.Nat.{_+_, _*_}
 use native.Mathlib.Omega.{arith}
 use borrow.Author.Tests.{lt-ltb, le-ltb, le-leb, lt-leb}
-use Rattle.circle.specs.Stepper.{bias, moveOf}
+use Rattle.circle.specs.computed.Stepper.{bias, moveOf}
 use Rattle.circle.specs.laws.Stepper.{entered-bounds}
 use Rattle.circle.proofs.step.Stepper.next_move.Statement.{statement}
 use Rattle.circle.proofs.step.Stepper.next_move.Tie as tie

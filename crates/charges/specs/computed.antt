@@ -1,0 +1,4 @@
+pub mod Sum
+pub mod Jump
+pub mod Paid
+pub mod Asked

@@ -1,0 +1,3 @@
+pub mod Travel
+pub mod Inside
+pub mod Code
