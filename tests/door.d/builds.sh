@@ -64,7 +64,7 @@ ok "a check that was not built lists something" test ! -s "$work/out"
 
 # cargo and tools/archive as stand-ins: what they say goes to standard error, and the runner's status is that of calls.
 program "$work/bare/tools/archive" <<<'#!/usr/bin/env bash
-echo chatter; echo "rt: export proved (1 s)"'
+echo chatter; echo "rt: cmachine proved (1 s)"'
 program "$work/path/cargo" <<'END_OF_CARGO'
 #!/usr/bin/env bash
 echo chatter
@@ -73,7 +73,7 @@ chmod +x "$CARGO_TARGET_DIR/release/calls"
 END_OF_CARGO
 calls_announced() {
     built 7 calls && [[ $(grep -c '^verdaizka: building calls' "$work/err") -eq 1 && $(<"$work/out") == answered ]] &&
-        grep -q '^rt: export proved' "$work/err"
+        grep -q '^rt: cmachine proved' "$work/err"
 }
 ok "calls: what is built is not announced, or another status than the runner's" calls_announced
 ok "calls: what is there is built again" silent built 7 calls

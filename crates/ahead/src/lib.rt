@@ -2,8 +2,8 @@
 // ticks, on lines and arcs alike. At a block's end nothing comes into work: a job loads its next block itself.
 ghost use mathlib.Core.Path.{_≡_};
 ghost use mathlib.Core.Bool.{true};
-ghost use Rattle.bench.specs.Bench.{soundOf};
-ghost use Rattle.ahead.specs.Ahead.{tickingOf};
+ghost use Rattle.bench.specs.computed.Bench.{soundOf};
+ghost use Rattle.ahead.specs.computed.Ahead.{tickingOf};
 use bench::Bench;
 use finish::works;
 use run::skip::skip_work;

@@ -6,10 +6,11 @@ ghost use Rattle.plane.specs.Travel.{insideOf, visitsInside};
 ghost use Rattle.plane.specs.Point.{Near};
 ghost use Rattle.plane.specs.computed.Travel.{Wide};
 ghost use Rattle.circle.specs.Circle.{onCircle};
-ghost use Rattle.circle.specs.computed.Count.{quarterOf};
+ghost use Rattle.circle.specs.Circle.{quarterOf};
 ghost use Rattle.arc.specs.Centre.{seenFrom};
-ghost use Rattle.arc.specs.Charge.{arcCharge, arcSpanOf, arcPaidOf};
-ghost use Rattle.arc.specs.Arc.{OnArc, arcAfter, arcCycles, arcWidth, arcAt, arcStepped, centres};
+ghost use Rattle.arc.specs.computed.Charge.{arcCharge, arcSpanOf, arcPaidOf};
+ghost use Rattle.arc.specs.computed.Arc.{StandsOnArc, arcAfter, arcCycles, arcAt, arcStepped, centres};
+ghost use Rattle.arc.specs.Arc.{arcWidth};
 use crate::centre::back;
 use crate::centre::room;
 use crate::centre::seen;
@@ -70,7 +71,7 @@ impl Arc {
 
     // Question 16: whether every point still to visit is in travel, without walking there.
     pub fn stays(self, travel: Travel, at: Point) -> bool
-        requires { ⌜ OnArc self at × Wide travel × (insideOf travel at ≡ true) ⌝ }
+        requires { ⌜ StandsOnArc self at × Wide travel × (insideOf travel at ≡ true) ⌝ }
         ensures { λ r. ⌜ r ≡ visitsInside travel (arcAfter self at) (arcCycles self at) ⌝ }
     {
         let centre = self.centre;
@@ -109,7 +110,7 @@ impl Arc {
 
     // One cycle onward.
     pub fn step(self, at: Point) -> Stepped
-        requires { ⌜ OnArc self at ⌝ }
+        requires { ⌜ StandsOnArc self at ⌝ }
         ensures { λ r. ⌜ r ≡ arcStepped self at ⌝ }
     {
         let centre = self.centre;
@@ -126,7 +127,7 @@ impl Arc {
 
     // The span from here to the end, without walking it: its cycles, and what they are charged.
     pub fn span(self, at: Point) -> Span
-        requires { ⌜ OnArc self at ⌝ }
+        requires { ⌜ StandsOnArc self at ⌝ }
         ensures { λ r. ⌜ r ≡ arcSpanOf self at ⌝ }
     {
         let centre = self.centre;
@@ -137,7 +138,7 @@ impl Arc {
 
     // The cycles of that span alone, from those of a quarter turn, which the caller knows: no root is taken.
     pub fn cycles(self, quarter: u64, at: Point) -> u64
-        requires { ⌜ OnArc self at × (quarter ≡ quarterOf (self .square)) ⌝ }
+        requires { ⌜ StandsOnArc self at × (quarter ≡ quarterOf (self .square)) ⌝ }
         ensures { λ r. ⌜ r ≡ arcCycles self at ⌝ }
     {
         let centre = self.centre;
@@ -154,7 +155,7 @@ impl Arc {
 
     // What the next cycle is charged.
     pub fn charge(self, at: Point) -> u64
-        requires { ⌜ OnArc self at ⌝ }
+        requires { ⌜ StandsOnArc self at ⌝ }
         ensures { λ r. ⌜ r ≡ arcCharge self at ⌝ }
     {
         let centre = self.centre;
@@ -164,7 +165,7 @@ impl Arc {
 
     // The most cycles from here on, at most so many, whose charges the sum holds, without walking them.
     pub fn paid(self, at: Point, most: u64, sum: u64) -> ArcPaid
-        requires { ⌜ OnArc self at × (most < arcCycles self at) ⌝ }
+        requires { ⌜ StandsOnArc self at × (most < arcCycles self at) ⌝ }
         ensures { λ r. ⌜ r ≡ arcPaidOf self at most sum ⌝ }
     {
         let centre = self.centre;

@@ -2,7 +2,8 @@
 ghost use mathlib.Core.Path.{_≡_};
 ghost use Rattle.plane.specs.Point.{Near};
 ghost use Rattle.plane.specs.computed.Travel.{Wide};
-ghost use Rattle.arc.specs.Centre.{Reach, seenFrom, backFrom, roomOf};
+ghost use Rattle.arc.specs.computed.Centre.{Reach, roomOf};
+ghost use Rattle.arc.specs.Centre.{seenFrom, backFrom};
 use circle::plane::Offset;
 use clearance::Room;
 use plane::point::Point;

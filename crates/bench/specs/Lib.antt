@@ -1,5 +1,4 @@
--- To be believed: Bench, Calls, Run. Proved of them: laws.
+-- To be believed: Bench. What the code computes, or asks of its callers: computed. Proved: laws.
 pub mod Bench
-pub mod Calls
-pub mod Run
+pub mod computed
 pub mod laws

@@ -2,11 +2,12 @@
 // works at a bench alone. It goes in by value and comes back by value, beside the answer.
 ghost use mathlib.Core.Path.{_≡_};
 ghost use mathlib.Core.Bool.{true};
-ghost use Rattle.bench.specs.Bench.{soundParts, soundOf, freshOf, movedOf};
+ghost use Rattle.bench.specs.computed.Bench.{soundParts, soundOf};
+ghost use Rattle.bench.specs.Bench.{freshOf, movedOf};
 ghost use lib.ListN.{length};
-ghost use Rattle.run.specs.Run.{written};
-ghost use Rattle.bench.specs.Run.{reportOf, runOf};
-ghost use Rattle.bench.specs.Calls.{makeOf, loadOf, tickOf};
+ghost use Rattle.run.specs.computed.Run.{written};
+ghost use Rattle.bench.specs.computed.Run.{reportOf, runOf};
+ghost use Rattle.bench.specs.computed.Calls.{makeOf, loadOf, tickOf};
 use block::Block;
 use block::questions::load_no;
 use circle::step::DIAGONAL;

@@ -4,10 +4,11 @@ use lib.IntN.{natAbs}
 use Rattle.plane.specs.declared.point.Point.{Point}
 use Rattle.circle.specs.declared.plane.Offset.{Offset}
 use Rattle.circle.specs.declared.plane.Turn.{Turn}
-use Rattle.line.specs.Line.{cyclesOf, pointOf, lineWidth}
+use Rattle.line.specs.Line.{lineCycles, linePoint, lineWidth}
 use Rattle.arc.specs.declared.arc.Arc.{Arc}
 use Rattle.arc.specs.Centre.{backFrom}
-use Rattle.arc.specs.Arc.{arcAfter, arcCycles, arcWidth}
+use Rattle.arc.specs.computed.Arc.{arcAfter, arcCycles}
+use Rattle.arc.specs.Arc.{arcWidth}
 use Rattle.block.specs.declared.Block.{Block}
 use Rattle.block.specs.declared.Path.{Path}
 
@@ -22,7 +23,7 @@ arcOf start b turn centre =
 
 -- 01, Feed divider: "A block of k cycles (q for a line, the number of visited points for an arc)"
 abbrev pub cyclesAlong : (start : Point) → Block → Path → ℕ
-cyclesAlong start b Path.Line = cyclesOf start (b .end)
+cyclesAlong start b Path.Line = lineCycles start (b .end)
 cyclesAlong start b (Path.Arc turn centre) = arcCycles (arcOf start b turn centre) start
 
 unfoldable pub blockCycles : (start : Point) → Block → ℕ
@@ -30,7 +31,7 @@ blockCycles start b = cyclesAlong start b (b .path)
 
 -- 01, The book of a history: "the one of "Lines" or "Arcs" after c cycles"
 abbrev pub pointAlong : (start : Point) → Block → Path → (c : ℕ) → Point
-pointAlong start b Path.Line c = pointOf start (b .end) c
+pointAlong start b Path.Line c = linePoint start (b .end) c
 pointAlong start b (Path.Arc turn centre) c = arcAfter (arcOf start b turn centre) start c
 
 unfoldable pub blockPoint : (start : Point) → Block → (c : ℕ) → Point

@@ -1,6 +1,5 @@
 -- 01, "Questions, and the number when the answer is no": load's own questions, in the paper's order.
-use mathlib.Core.Path.{_≡_}
-use mathlib.Core.Bool.{Bool, true, _&&_, not}
+use mathlib.Core.Bool.{Bool, _&&_, not}
 use Prim.Native.Nat.{ℕ}
 use lib.Dec.{leb, eqb}
 use lib.IntN.{natAbs}
@@ -8,14 +7,12 @@ use Rattle.whole.specs.Ask.{ask}
 use Rattle.plane.specs.declared.point.Point.{Point}
 use Rattle.plane.specs.declared.travel.Travel.{Travel}
 use Rattle.plane.specs.Travel.{insideOf, visitsInside}
-use Rattle.plane.specs.Point.{Near}
-use Rattle.plane.specs.computed.Travel.{Wide}
 use Rattle.circle.specs.declared.plane.Offset.{Offset}
 use Rattle.circle.specs.Circle.{onCircle}
 use Rattle.line.specs.Line.{differ}
 use Rattle.arc.specs.declared.arc.Arc.{Arc}
 use Rattle.arc.specs.Centre.{seenFrom}
-use Rattle.arc.specs.Arc.{arcAfter, arcCycles}
+use Rattle.arc.specs.computed.Arc.{arcAfter, arcCycles}
 use Rattle.block.specs.declared.Block.{Block}
 use Rattle.block.specs.declared.Path.{Path}
 use Rattle.block.specs.Block.{arcOf}
@@ -44,11 +41,3 @@ pathNo t start b (Path.Arc turn centre) = ask (offsetRight centre) (arcNo t (arc
 -- fewer than 16 waiting?" Either way it is whether there is room for the block.
 unfoldable pub loadNo : (q0 : ℕ) → Travel → (room : Bool) (start : Point) → Block → ℕ
 loadNo q0 t room start b = ask room (ask (feedRight q0 (b .feed)) (ask (insideOf t (b .end)) (pathNo t start b (b .path)) 12) 11) 10
-
--- what the code asks of an arc that begins at a start in travel
-pub record Begins (t : Travel) (start : Point) (a : Arc) : Type 0 where
-  pub wide : Wide t
-  pub start-in : insideOf t start ≡ true
-  pub end-in : insideOf t (a .end) ≡ true
-  pub centre : Near 2000000 (a .centre)
-  pub on : onCircle (a .square) (seenFrom (a .centre) start) ≡ true

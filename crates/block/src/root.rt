@@ -2,10 +2,12 @@
 ghost use mathlib.Core.Path.{_≡_};
 ghost use mathlib.Core.Bool.{true};
 ghost use lib.Dec.{eqb};
-ghost use Rattle.line.specs.Line.{cyclesOf, shortOf};
+ghost use Rattle.line.specs.Line.{lineCycles};
+ghost use Rattle.line.specs.computed.Line.{shortOf};
 ghost use Rattle.block.specs.Block.{squareOf, blockCycles};
 ghost use Rattle.block.specs.Questions.{offsetRight};
-ghost use Rattle.block.specs.Chain.{rootOf, Accepted};
+ghost use Rattle.block.specs.Chain.{rootOf};
+ghost use Rattle.block.specs.computed.Chain.{Accepted};
 use crate::Block;
 use crate::Path;
 use crate::questions::arc_of;
@@ -19,7 +21,7 @@ use whole::sign::part;
 // Whether a line takes so many cycles.
 fn takes(start: Point, end: Point, q: u64) -> bool
     requires { ⌜ shortOf start end ≡ true ⌝ }
-    ensures { λ r. ⌜ r ≡ eqb q (cyclesOf start end) ⌝ }
+    ensures { λ r. ⌜ r ≡ eqb q (lineCycles start end) ⌝ }
 {
     let way = between(start, end);
     let x = way.x;

@@ -17,14 +17,14 @@ use Rattle.block.specs.Chain.{endAfter}
 use Rattle.block.specs.Charge.{blockCharge}
 
 -- "It holds a point, a mark, a remainder and the block in work with its start and its cycles done c."
-pub record Job : Type 0 where
+pub record BlockInWork : Type 0 where
   pub block : Block
   pub start : Point
   pub done : ℕ
 
 pub data InWork : Type 0 where
   nothing : InWork
-  working : Job → InWork
+  working : BlockInWork → InWork
 
 pub record Bench : Type 0 where
   pub at : Point
@@ -48,7 +48,7 @@ endIn at (working j) = endAfter (j .start) (j .block)
 abbrev pub workEnd : Bench → Point
 workEnd b = endIn (b .at) (b .work)
 
--- the cycles that the block in work has still to do
+-- the cycles that the block in work has resting to do
 abbrev pub leftIn : InWork → ℕ
 leftIn nothing = 0
 leftIn (working j) = blockCycles (j .start) (j .block) - j .done
@@ -63,28 +63,28 @@ addedBy k = addedAt (k .feed)
 
 -- 01, "If it is then q0 or more, q0 comes off"; 02 §2, "A cycle is due when the remainder reaches its charge times q0, at most one a tick."
 -- The charge is that of the cycle to come, the one after those done.
-abbrev pub jobDue : (q0 : ℕ) → Job → ℕ
-jobDue q0 j = blockCharge (j .start) (j .block) (j .done) * q0
+abbrev pub cycleDue : (q0 : ℕ) → BlockInWork → ℕ
+cycleDue q0 j = blockCharge (j .start) (j .block) (j .done) * q0
 
 -- ---- tick
 
 -- what a tick gives: its byte and the bench after it
 pub record Ticked : Type 0 where
-  pub code : ℕ
+  pub byte : ℕ
   pub after : Bench
 
-abbrev pub still : Bench → Ticked
-still b = record { code = 0; after = b }
+abbrev pub resting : Bench → Ticked
+resting b = record { byte = 0; after = b }
 
 -- ".. c grows by 1 and the point becomes the one of "Lines" or "Arcs" after c cycles. At c = k the block has ended and nothing is in work.
 -- The byte tells the pulses, the cycle and the end, coded as under "Ticks and runs"."
-unfoldable pub cycleTick : Bench → Job → (remainder : ℕ) → Ticked
+unfoldable pub cycleTick : Bench → BlockInWork → (remainder : ℕ) → Ticked
 cycleTick b j r =
     let c = j .done + 1 in
     let at = blockPoint (j .start) (j .block) c in
     let last = eqb c (blockCycles (j .start) (j .block)) in
     record {
-      code = cycleByte (pulsesBetween (b .at) at) last;
+      byte = cycleByte (pulsesBetween (b .at) at) last;
       after = record {
         at = at;
         mark = b .mark;
@@ -94,15 +94,15 @@ cycleTick b j r =
     }
 
 -- after the divider's tick: a working tick without a cycle has byte 0
-abbrev pub fedTick : Bench → Job → Fed → Ticked
+abbrev pub fedTick : Bench → BlockInWork → Fed → Ticked
 fedTick b j f =
     cond (f .cycle) (cycleTick b j (f .remainder))
-    (record { code = 0; after = record { at = b .at; mark = b .mark; remainder = f .remainder; work = b .work } })
+    (record { byte = 0; after = record { at = b .at; mark = b .mark; remainder = f .remainder; work = b .work } })
 
 -- "Tick: with a block and no mark it is a working tick. .. Any other tick gives 0 and changes nothing."
 abbrev pub tickWith : (q0 : ℕ) → Bench → InWork → Ticked
-tickWith q0 b nothing = still b
-tickWith q0 b (working j) = cond (b .mark) (still b) (fedTick b j (fedOf (jobDue q0 j) (addedBy (j .block)) (b .remainder)))
+tickWith q0 b nothing = resting b
+tickWith q0 b (working j) = cond (b .mark) (resting b) (fedTick b j (fedOf (cycleDue q0 j) (addedBy (j .block)) (b .remainder)))
 
 unfoldable pub benchTick : (q0 : ℕ) → Bench → Ticked
 benchTick q0 b = tickWith q0 b (b .work)
@@ -110,20 +110,20 @@ benchTick q0 b = tickWith q0 b (b .work)
 -- ---- run
 
 -- the ticks of a run: their bytes, the bench after them, and whether the last ended the block
-pub record Strip : Type 0 where
-  pub codes : List ℕ
+pub record TicksDone : Type 0 where
+  pub bytes : List ℕ
   pub last : Bench
   pub ended : Bool
 
 -- a tick in front of what follows, of which there is nothing where the tick ended the block
-abbrev pub inFront : (ended : Bool) → Ticked → Strip → Strip
-inFront true t s = record { codes = t .code ∷ []; last = t .after; ended = true }
-inFront false t s = record { codes = t .code ∷ s .codes; last = s .last; ended = s .ended }
+abbrev pub inFront : (ended : Bool) → Ticked → TicksDone → TicksDone
+inFront true t s = record { bytes = t .byte ∷ []; last = t .after; ended = true }
+inFront false t s = record { bytes = t .byte ∷ s .bytes; last = s .last; ended = s .ended }
 
 -- "Run: ticks until the budget or the buffer is used up or the block ends"
-unfoldable pub strip : (q0 : ℕ) → (most : ℕ) → Bench → Strip
-strip q0 zero b = record { codes = []; last = b; ended = false }
-strip q0 (suc n) b = let t = benchTick q0 b in inFront (isNothing (t .after .work)) t (strip q0 n (t .after))
+unfoldable pub ticksDone : (q0 : ℕ) → (most : ℕ) → Bench → TicksDone
+ticksDone q0 zero b = record { bytes = []; last = b; ended = false }
+ticksDone q0 (suc n) b = let t = benchTick q0 b in inFront (isNothing (t .after .work)) t (ticksDone q0 n (t .after))
 
 pub data Report : Type 0 where
   idle held ended spent full : Report
@@ -137,17 +137,17 @@ reportOf false false = full
 -- what a run gives: its report, its bytes and the bench after it
 pub record Ran : Type 0 where
   pub report : Report
-  pub codes : List ℕ
+  pub bytes : List ℕ
   pub after : Bench
 
-abbrev pub ranOver : (budget : ℕ) → Strip → Ran
-ranOver budget s = record { report = reportOf (s .ended) (leb budget (length (s .codes))); codes = s .codes; after = s .last }
+abbrev pub ranOver : (budget : ℕ) → TicksDone → Ran
+ranOver budget s = record { report = reportOf (s .ended) (leb budget (length (s .bytes))); bytes = s .bytes; after = s .last }
 
 -- ".. none if idle or held": "It answers idle or held (idle first) with 0 ticks"
 abbrev pub runWith : (q0 : ℕ) → Bench → InWork → (budget buffer : ℕ) → Ran
-runWith q0 b nothing budget buffer = record { report = idle; codes = []; after = b }
+runWith q0 b nothing budget buffer = record { report = idle; bytes = []; after = b }
 runWith q0 b (working j) budget buffer =
-    cond (b .mark) (record { report = held; codes = []; after = b }) (ranOver budget (strip q0 (min budget buffer) b))
+    cond (b .mark) (record { report = held; bytes = []; after = b }) (ranOver budget (ticksDone q0 (min budget buffer) b))
 
 unfoldable pub benchRun : (q0 : ℕ) → Bench → (budget buffer : ℕ) → Ran
 benchRun q0 b budget buffer = runWith q0 b (b .work) budget buffer

@@ -29,8 +29,8 @@ abbrev pub startOf : Book → Point
 startOf b = chainEnd (workEnd (b .bench)) (b .waiting)
 
 -- 02 §3: "Question 10 becomes: are fewer than 16 waiting?"
-abbrev pub hasRoom : Book → Bool
-hasRoom b = ltb (length (b .waiting)) 16
+abbrev pub fewerWait : Book → Bool
+fewerWait b = ltb (length (b .waiting)) 16
 
 -- 02 §3: "the cycles still to do over the block in work and all waiting"
 abbrev pub figureOf : Book → ℕ
@@ -93,18 +93,18 @@ loaded b k zero = answers (width (blockWidth (startOf b) k)) (settled (b .bench)
 loaded b k (suc n) = answers (refused (suc n)) b
 
 unfoldable pub loadEntry : (q0 : ℕ) → Travel → Book → Block → Entry
-loadEntry q0 travel b k = loaded b k (loadNo q0 travel (hasRoom b) (startOf b) k)
+loadEntry q0 travel b k = loaded b k (loadNo q0 travel (fewerWait b) (startOf b) k)
 
 -- ---- tick and run: the tick that ends a block brings in the next and does nothing for it, "and a run still stops there"
 
 abbrev pub tickEntry : (q0 : ℕ) → Book → Entry
-tickEntry q0 b = let t = benchTick q0 (b .bench) in answers (byte (t .code)) (settled (t .after) (b .waiting))
+tickEntry q0 b = let t = benchTick q0 (b .bench) in answers (byte (t .byte)) (settled (t .after) (b .waiting))
 
 -- "It answers their number and the report, and its tick bytes are theirs."
 abbrev pub runEntry : (q0 : ℕ) → Book → (budget buffer : ℕ) → Entry
 runEntry q0 b budget buffer =
     let r = benchRun q0 (b .bench) budget buffer in
-    answers (ran (r .report) (length (r .codes)) (r .codes)) (settled (r .after) (b .waiting))
+    answers (ran (r .report) (length (r .bytes)) (r .bytes)) (settled (r .after) (b .waiting))
 
 -- ---- the whole history
 

@@ -1,4 +1,4 @@
--- To be believed: Bench, Book, Bounds, Sums, Ledger. Proved of them: laws.
+-- To be believed, in this order: Bench, Book, Bounds, Sums, Ledger. Proved: laws.
 pub mod Bench
 pub mod Book
 pub mod Bounds

@@ -1,4 +1,4 @@
--- To be believed: Calls. What inner code asks: Asked. Proved of them: laws.
+-- To be believed: Calls. What the code computes, or asks of its callers: computed. Proved: laws.
 pub mod Calls
-pub mod Asked
+pub mod computed
 pub mod laws

@@ -4,8 +4,8 @@ ghost use Rattle.calls.specs.Calls.{answerNumber, tickNumber, reportNumb
 use bench::Answer;
 use bench::Report;
 use bench::Tick;
-use layout::number::refusal;
-use layout::number::word;
+use encoding::number::refusal;
+use encoding::number::word;
 
 pub fn answer_number(answer: Answer) -> i64
     ensures { λ r. ⌜ r ≡ answerNumber answer ⌝ }

@@ -1,11 +1,13 @@
 // The calls of the machine on 134 words that a caller in C owns. Each answers for any words: those that are no sound record get 9 and stay
 // as they are, and so do those of a refused load. No record is built: a call reads the words that it needs and writes those that change.
 ghost use mathlib.Core.Path.{_≡_};
-ghost use Rattle.layout.specs.Words.{settingsOf};
-ghost use Rattle.machine.specs.Calls.{loadOf};
-ghost use Rattle.record.specs.Words.{encodeOf, over, machineIn};
-ghost use Rattle.calls.specs.Calls.{Call, tells, toldOf, madeOf, tellsRun, toldRunOf};
-ghost use Rattle.calls.specs.Asked.{Asking, marks};
+ghost use Rattle.encoding.specs.Words.{settingsOf};
+ghost use Rattle.machine.specs.computed.Calls.{loadOf};
+ghost use Rattle.record.specs.Words.{encodeOf, over};
+ghost use Rattle.record.specs.computed.Words.{machineIn};
+ghost use Rattle.calls.specs.Calls.{WordCall};
+ghost use Rattle.calls.specs.computed.Calls.{tells, toldOf, madeOf, tellsRun, toldRunOf};
+ghost use Rattle.calls.specs.computed.Asked.{Asking, marks};
 use crate::answer::answer_number;
 use crate::answer::report_number;
 use crate::answer::tick_number;
@@ -13,8 +15,8 @@ use bench::Answer;
 use bench::Bench;
 use block::Block;
 use block::questions::load_no;
-use layout::encode::encode;
-use layout::given::settings;
+use encoding::encode::encode;
+use encoding::given::settings;
 use machine::waiting::left_after;
 use plane::point::Point;
 use record::read::bench_in;
@@ -36,7 +38,7 @@ pub mod answer;
 
 // While idle or held it writes nothing.
 pub fn tick(words: &mut [i64; 134]) -> i64
-    ensures { λ r. ⌜ tells r (now (words .exit)) ≡ toldOf (now (words .entry)) Call.tick ⌝ }
+    ensures { λ r. ⌜ tells r (now (words .exit)) ≡ toldOf (now (words .entry)) WordCall.tick ⌝ }
 {
     if !is_sound(words) {
         return -9;
@@ -69,19 +71,19 @@ fn marked(words: &mut [i64; 134], held: bool) -> i64
 }
 
 pub fn hold(words: &mut [i64; 134]) -> i64
-    ensures { λ r. ⌜ tells r (now (words .exit)) ≡ toldOf (now (words .entry)) Call.hold ⌝ }
+    ensures { λ r. ⌜ tells r (now (words .exit)) ≡ toldOf (now (words .entry)) WordCall.hold ⌝ }
 {
     marked(words, true)
 }
 
 pub fn release(words: &mut [i64; 134]) -> i64
-    ensures { λ r. ⌜ tells r (now (words .exit)) ≡ toldOf (now (words .entry)) Call.release ⌝ }
+    ensures { λ r. ⌜ tells r (now (words .exit)) ≡ toldOf (now (words .entry)) WordCall.release ⌝ }
 {
     marked(words, false)
 }
 
 pub fn stop(words: &mut [i64; 134]) -> i64
-    ensures { λ r. ⌜ tells r (now (words .exit)) ≡ toldOf (now (words .entry)) Call.stop ⌝ }
+    ensures { λ r. ⌜ tells r (now (words .exit)) ≡ toldOf (now (words .entry)) WordCall.stop ⌝ }
 {
     if !is_sound(words) {
         return -9;
@@ -112,7 +114,7 @@ pub fn load_sound(words: &mut [i64; 134], k: Bench, start: Point, b: Block) -> A
 
 // Gives the machine a block, which begins where the last one before it ends.
 pub fn load(words: &mut [i64; 134], b: Block) -> i64
-    ensures { λ r. ⌜ tells r (now (words .exit)) ≡ toldOf (now (words .entry)) (Call.load b) ⌝ }
+    ensures { λ r. ⌜ tells r (now (words .exit)) ≡ toldOf (now (words .entry)) (WordCall.load b) ⌝ }
 {
     if !is_sound(words) {
         return -9;

@@ -13,8 +13,8 @@ ghost use mathlib.Core.Path.{_≡_};
 ghost use mathlib.Core.Bool.{true};
 ghost use Prim.Native.Nat.{_*_, _≤_};
 ghost use Rattle.circle.specs.Circle.{largestN, onCircle};
-ghost use Rattle.circle.specs.computed.Count.{quarterOf};
-ghost use Rattle.charges.specs.computed.Jump.{placeIn, placeAt, startOf, arrivedOf};
+ghost use Rattle.circle.specs.Circle.{quarterOf};
+ghost use Rattle.charges.specs.computed.Jump.{placeIn, placeAt, jumpStart, arrivedOf};
 ghost use Rattle.charges.specs.computed.Asked.{Placed, Started};
 
 // A circle with its roots, each taken once, and the point from which cycles are counted.
@@ -68,7 +68,7 @@ fn place_at(n: u64, quarter: u64, rank: u64) -> Place
 impl Start {
     pub fn enter(n: u64, turn: Turn, p: Offset) -> Start
         requires { ⌜ onCircle n p ≡ true ⌝ }
-        ensures { λ r. ⌜ r ≡ startOf n turn p ⌝ }
+        ensures { λ r. ⌜ r ≡ jumpStart n turn p ⌝ }
     {
         let quarter = nearest_root(2 * n);
         let radius = nearest_root(n);

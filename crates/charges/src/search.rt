@@ -15,7 +15,7 @@ ghost use mathlib.Core.Path.{_≡_};
 ghost use mathlib.Core.Bool.{true};
 ghost use Prim.Native.Nat.{_+_, _-_, _*_, _/_, _≤_, _<_, min};
 ghost use Rattle.circle.specs.Circle.{largestN, onCircle};
-ghost use Rattle.circle.specs.computed.Count.{quarterOf};
+ghost use Rattle.circle.specs.Circle.{quarterOf};
 ghost use Rattle.charges.specs.Paid.{mostPaid};
 ghost use Rattle.charges.specs.computed.Paid.{paidOf};
 ghost use Rattle.charges.specs.computed.Jump.{chargesOn, arrivedOf};

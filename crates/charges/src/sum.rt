@@ -14,7 +14,7 @@ ghost use Prim.Native.Nat.{_≤_};
 ghost use Rattle.whole.specs.Root.{nearestRoot};
 ghost use Rattle.circle.specs.Circle.{onCircle};
 ghost use Rattle.circle.specs.computed.Step.{seenPlace};
-ghost use Rattle.circle.specs.computed.Count.{quarterOf};
+ghost use Rattle.circle.specs.Circle.{quarterOf};
 ghost use Rattle.charges.specs.computed.Sum.{quadrantChargesOf, spanTo, spanOf};
 ghost use Rattle.charges.specs.computed.Asked.{Tolled};
 

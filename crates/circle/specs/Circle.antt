@@ -5,6 +5,7 @@ use lib.Dec.{leb, ltb}
 use lib.IntN.{ℤ, pos, negℤ, natAbs, _+ℤ_, _-ℤ_, _*ℤ_}
 use lib.Signed.{_≤ℤ_, _<ℤ_}
 use Rattle.circle.specs.declared.plane.Offset.{Offset}
+use Rattle.whole.specs.Root.{nearestRoot}
 
 abbrev pub offset : ℤ → ℤ → Offset
 offset x y = record { x = x; y = y }
@@ -46,3 +47,7 @@ circleTest N a b = ltb (a * a + b * b) (N + max a b) && leb N (a * a + b * b + m
 
 unfoldable pub onCircle : ℕ → Offset → Bool
 onCircle N p = leb 1 N && (leb N largestN && circleTest N (natAbs (p .x)) (natAbs (p .y)))
+
+-- the cycles of a quarter turn: √2 times the radius √N, to the nearest
+abbrev pub quarterOf : ℕ → ℕ
+quarterOf N = nearestRoot (2 * N)

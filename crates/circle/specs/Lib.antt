@@ -1,5 +1,4 @@
--- To be believed: Circle, Next, and `straight` and `diagonal` of Charge. What the code computes, and what inner functions ask: computed.
--- Proved, that it computes what those say: laws.
+-- To be believed, in this order: Circle, Next, Charge. What the code computes, or asks of its callers: computed. Proved: laws.
 pub mod Circle
 pub mod Next
 pub mod Charge

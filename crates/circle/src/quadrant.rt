@@ -4,7 +4,7 @@ use whole::sign::part;
 ghost use mathlib.Core.Path.{_≡_};
 ghost use Prim.Native.Nat.{_<_, _^_};
 ghost use lib.IntN.{natAbs};
-ghost use Rattle.circle.specs.computed.Step.{turned, placeOf, pointOf};
+ghost use Rattle.circle.specs.computed.Step.{turned, placeOf, pointAt};
 
 // The point (along, across) of the first quadrant after so many quarter turns counterclockwise.
 // A circle point has quadrant 0..3 and along at least 1, and then this form is its only one.
@@ -83,7 +83,7 @@ pub fn turned_by(k: u64, p: Offset) -> Offset
 
 pub fn point_of(q: Place) -> Offset
     requires { ⌜ (q .quadrant < 4) × (q .along < 2 ^ 63) × (q .across < 2 ^ 63) ⌝ }
-    ensures { λ r. ⌜ r ≡ pointOf q ⌝ }
+    ensures { λ r. ⌜ r ≡ pointAt q ⌝ }
 {
     turned_by(
         q.quadrant,

@@ -10,7 +10,7 @@ ghost use mathlib.Core.Bool.{true};
 ghost use Prim.Native.Nat.{_<_};
 ghost use Rattle.circle.specs.Circle.{onCircle};
 ghost use Rattle.circle.specs.computed.Step.{nextQuadrant, stepOf};
-ghost use Rattle.circle.specs.computed.Stepper.{Entered, enterOf, moveOf, moved, settled, advanceOf, cycledOf, leaveOf};
+ghost use Rattle.circle.specs.computed.Stepper.{Entered, enterOf, moveOf, moved, broughtOn, advancedBy, cycledOf, leaveOf};
 ghost use Rattle.circle.specs.computed.Charge.{moveCharge, stepCharge};
 ghost use Rattle.circle.specs.computed.Asked.{Movable};
 
@@ -133,7 +133,7 @@ impl Stepper {
     // An axis belongs to the quadrant that it begins.
     fn settle(self) -> Stepper
         requires { ⌜ self .quadrant < 4 ⌝ }
-        ensures { λ r. ⌜ r ≡ settled self ⌝ }
+        ensures { λ r. ⌜ r ≡ broughtOn self ⌝ }
     {
         let turn = self.turn;
         if self.along == 0 {
@@ -151,7 +151,7 @@ impl Stepper {
     // The stepper after its next move, for callers that know it.
     pub fn advance(self, m: Move) -> Stepper
         requires { ⌜ Entered self × (m ≡ moveOf self) ⌝ }
-        ensures { λ r. ⌜ r ≡ advanceOf self ⌝ }
+        ensures { λ r. ⌜ r ≡ advancedBy self ⌝ }
     {
         let s = self.moved_by(m);
         s.settle()

@@ -1,4 +1,3 @@
--- To be believed: Inside. What the code computes, and what an inner function asks: computed. Proved, that the test says so: laws.
-pub mod Inside
+-- Nothing here is to be believed. What the code computes, or asks of its callers: computed. Proved: laws.
 pub mod computed
 pub mod laws

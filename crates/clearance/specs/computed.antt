@@ -1,2 +1,3 @@
 pub mod Travel
 pub mod Asked
+pub mod Inside

@@ -13,7 +13,7 @@ ghost use Prim.Native.Nat.{_≤_, _<_, _^_};
 ghost use lib.IntN.{natAbs};
 ghost use Rattle.circle.specs.declared.plane.Offset.{Offset};
 ghost use Rattle.circle.specs.Circle.{Circle, largestN, onCircle};
-ghost use Rattle.clearance.specs.Inside.{Inside};
+ghost use Rattle.clearance.specs.computed.Inside.{Inside};
 ghost use Rattle.clearance.specs.computed.Travel.{belowTest, insideTest, seenRoom, wayInside, staysInside};
 ghost use Rattle.clearance.specs.computed.Travel.{reaches, axesPassed, axisTest, axesTest, smallerOf};
 ghost use Rattle.clearance.specs.computed.Asked.{Crossing};

@@ -13,7 +13,7 @@ use Rattle.circle.specs.declared.plane.Offset.{Offset}
 use Rattle.circle.specs.Circle.{Circle}
 use Rattle.circle.specs.Next.{ToVisit}
 use Rattle.line.specs.declared.line.Line.{Line}
-use Rattle.line.specs.Line.{cyclesOf, pointOf}
+use Rattle.line.specs.Line.{lineCycles, linePoint}
 use Rattle.arc.specs.declared.arc.Arc.{Arc}
 use Rattle.arc.specs.Centre.{seenFrom, backFrom}
 use Rattle.work.specs.declared.Work.{Work}
@@ -70,10 +70,10 @@ pub record LineSound (q0 : ℕ) (t : Travel) (at : Point) (l : Line) : Type 0 wh
   pub end : InTravel t (l .end)
   pub different : l .start ≢ l .end
   pub feed : FeedRight q0 (l .feed)
-  pub done : l .done < cyclesOf (l .start) (l .end)
-  pub point : at ≡ pointOf (l .start) (l .end) (l .done)
+  pub done : l .done < lineCycles (l .start) (l .end)
+  pub point : at ≡ linePoint (l .start) (l .end) (l .done)
   -- the record keeps q, which is the line's own
-  pub cycles : l .cycles ≡ cyclesOf (l .start) (l .end)
+  pub cycles : l .cycles ≡ lineCycles (l .start) (l .end)
 
 -- "an arc in work has feed in 1..q0, N in 1..2,000,000,000,000, point and end both circle points of N about a centre within ±2,000,000, and
 -- every point still to visit in travel. Point equal to end then means a full turn not begun.": `Ends` counts at least one cycle, so that

@@ -14,11 +14,11 @@ use Rattle.history.specs.Contracts.{Makes}
 use Rattle.job.specs.declared.Check.{Check}
 use Rattle.job.specs.declared.Filled.{Filled}
 use Rattle.job.specs.Check.{isOver}
-use Rattle.layout.specs.Words.{encodeOf, markWord}
+use Rattle.encoding.specs.Words.{encodeOf, markWord}
 use Rattle.progress.specs.Progress.{encodeProgress, checkIn}
 use Rattle.calls.specs.Calls.{answerNumber}
-use Rattle.checkcalls.proofs.«vz_check_start».Reads as start-reads
-use Rattle.checkcalls.proofs.«vz_check_fill».Reads as fill-reads
+use Rattle.ccheck.proofs.«vz_check_start».Reads as start-reads
+use Rattle.ccheck.proofs.«vz_check_fill».Reads as fill-reads
 use Rattle.demands.specs.Bench.{BenchSound}
 use Rattle.demands.specs.Texts.{Starts, FillsCheck}
 

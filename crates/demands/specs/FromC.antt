@@ -23,28 +23,28 @@ use Rattle.history.specs.Contracts.{Makes, Loads, Ticks, Runs, Holds, Releases,
 use Rattle.reader.specs.declared.Feed.{Feed}
 use Rattle.reader.specs.declared.Reader.{Reader}
 use Rattle.textline.specs.declared.ReadLine.{ReadLine}
-use Rattle.job.specs.Job.{jobOf}
+use Rattle.job.specs.computed.Job.{jobOf}
 use Rattle.job.specs.Listing.{jobListing}
-use Rattle.layout.specs.Words.{settingsOf}
+use Rattle.encoding.specs.Words.{settingsOf}
 use Rattle.record.specs.Words.{encodeOf, over}
 use Rattle.progress.specs.Known.{encodeKnown}
 use Rattle.progress.specs.Progress.{checkIn}
-use Rattle.calls.specs.Calls.{Call, answerNumber, tickNumber, reportNumber}
-use Rattle.export.specs.Given.{arcPath, blockOf}
-use Rattle.export.specs.Looks.{sumWords, noSums}
-use Rattle.export.specs.Texts.{readNumber}
-use Rattle.checkcalls.specs.Check.{Refuses}
-use Rattle.export.proofs.vz_make.Reads as make-reads
-use Rattle.export.proofs.vz_load_line.Reads as line-reads
-use Rattle.export.proofs.vz_load_cw.Reads as cw-reads
-use Rattle.export.proofs.vz_load_ccw.Reads as ccw-reads
-use Rattle.export.proofs.vz_tick.Reads as tick-reads
-use Rattle.export.proofs.vz_run.Reads as run-reads
-use Rattle.export.proofs.vz_hold.Reads as hold-reads
-use Rattle.export.proofs.vz_release.Reads as release-reads
-use Rattle.export.proofs.vz_stop.Reads as stop-reads
-use Rattle.export.proofs.lookahead.«vz_ahead».Reads as ahead-reads
-use Rattle.export.proofs.text.«vz_read_line».Reads as text-reads
+use Rattle.calls.specs.Calls.{WordCall, answerNumber, tickNumber, reportNumber}
+use Rattle.cmachine.specs.Given.{arcPath, blockGiven}
+use Rattle.cmachine.specs.Looks.{sumWords, noSums}
+use Rattle.cmachine.specs.Texts.{readNumber}
+use Rattle.ccheck.specs.Check.{Refuses}
+use Rattle.cmachine.proofs.vz_make.Reads as make-reads
+use Rattle.cmachine.proofs.vz_load_line.Reads as line-reads
+use Rattle.cmachine.proofs.vz_load_cw.Reads as cw-reads
+use Rattle.cmachine.proofs.vz_load_ccw.Reads as ccw-reads
+use Rattle.cmachine.proofs.vz_tick.Reads as tick-reads
+use Rattle.cmachine.proofs.vz_run.Reads as run-reads
+use Rattle.cmachine.proofs.vz_hold.Reads as hold-reads
+use Rattle.cmachine.proofs.vz_release.Reads as release-reads
+use Rattle.cmachine.proofs.vz_stop.Reads as stop-reads
+use Rattle.cmachine.proofs.lookahead.«vz_ahead».Reads as ahead-reads
+use Rattle.cmachine.proofs.text.«vz_read_line».Reads as text-reads
 use Rattle.demands.specs.Asked.{AllYes}
 use Rattle.demands.specs.Bench.{settingsQuestions}
 use Rattle.demands.specs.Sound.{Sound}
@@ -56,12 +56,12 @@ use Rattle.demands.specs.CheckFromC.{StartsFromC, StartedWords, FillsFro
 abbrev pub OwnAnswer : (Answered → Type 0) → (n : ℤ) → Machine → Type 0
 OwnAnswer May n m′ = (r : Answered) × May r × (n ≡ answerNumber (r .answer)) × (m′ ≡ r .machine)
 
-abbrev pub Own : Call → (m : Machine) (n : ℤ) (m′ : Machine) → Type 0
-Own (Call.load b) m n m′ = OwnAnswer (Loads m b) n m′
-Own Call.tick m n m′ = (r : Ticked) × Ticks m r × (n ≡ tickNumber (r .tick)) × (m′ ≡ r .machine)
-Own Call.hold m n m′ = OwnAnswer (Holds m) n m′
-Own Call.release m n m′ = OwnAnswer (Releases m) n m′
-Own Call.stop m n m′ = OwnAnswer (Stops m) n m′
+abbrev pub Own : WordCall → (m : Machine) (n : ℤ) (m′ : Machine) → Type 0
+Own (WordCall.load b) m n m′ = OwnAnswer (Loads m b) n m′
+Own WordCall.tick m n m′ = (r : Ticked) × Ticks m r × (n ≡ tickNumber (r .tick)) × (m′ ≡ r .machine)
+Own WordCall.hold m n m′ = OwnAnswer (Holds m) n m′
+Own WordCall.release m n m′ = OwnAnswer (Releases m) n m′
+Own WordCall.stop m n m′ = OwnAnswer (Stops m) n m′
 
 -- ---- on words
 
@@ -76,7 +76,7 @@ pub record Carries (ws : List ℤ) (m : Machine) : Type 0 where
 abbrev pub NoRecord : List ℤ → Type 0
 NoRecord ws = (m : Machine) → ¬ (Carries ws m)
 
-pub record OnWords (call : Call) (before : List ℤ) (n : ℤ) (after : List ℤ) : Type 0 where
+pub record OnWords (call : WordCall) (before : List ℤ) (n : ℤ) (after : List ℤ) : Type 0 where
   -- the words after it are again those of a sound record, and those behind them are as they were
   pub own : (m : Machine) → Carries before m → (m′ : Machine) × Own call m n m′ × Carries after m′ × (after ≡ over (encodeOf m′) before)
   -- "Any call on a record: is it sound? 9."; "returns record and buffers unchanged"
@@ -142,21 +142,21 @@ pub record EveryCallFromC : Type 0 where
       → MadeWords (settingsOf p w xlo xhi ylo yhi) (now words) n (now words′)
   pub line : (κs : Lfts 1) (words words′ : RefT (List ℤ)) (x y feed n : ℤ)
       → line-reads.Learnt κs (words, (x, (y, (feed, tt)))) n (words′, (x, (y, (feed, tt))))
-      → OnWords (Call.load (blockOf Path.Line x y feed)) (now words) n (now words′)
+      → OnWords (WordCall.load (blockGiven Path.Line x y feed)) (now words) n (now words′)
   pub clockwise : (κs : Lfts 1) (words words′ : RefT (List ℤ)) (x y feed i j n : ℤ)
       → cw-reads.Learnt κs (words, (x, (y, (feed, (i, (j, tt)))))) n (words′, (x, (y, (feed, (i, (j, tt))))))
-      → OnWords (Call.load (blockOf (arcPath Turn.Clockwise i j) x y feed)) (now words) n (now words′)
+      → OnWords (WordCall.load (blockGiven (arcPath Turn.Clockwise i j) x y feed)) (now words) n (now words′)
   pub counterclockwise : (κs : Lfts 1) (words words′ : RefT (List ℤ)) (x y feed i j n : ℤ)
       → ccw-reads.Learnt κs (words, (x, (y, (feed, (i, (j, tt)))))) n (words′, (x, (y, (feed, (i, (j, tt))))))
-      → OnWords (Call.load (blockOf (arcPath Turn.Counterclockwise i j) x y feed)) (now words) n (now words′)
+      → OnWords (WordCall.load (blockGiven (arcPath Turn.Counterclockwise i j) x y feed)) (now words) n (now words′)
   pub tick : (κs : Lfts 1) (words words′ : RefT (List ℤ)) (n : ℤ) → tick-reads.Learnt κs (words, tt) n (words′, tt)
-      → OnWords Call.tick (now words) n (now words′)
+      → OnWords WordCall.tick (now words) n (now words′)
   pub hold : (κs : Lfts 1) (words words′ : RefT (List ℤ)) (n : ℤ) → hold-reads.Learnt κs (words, tt) n (words′, tt)
-      → OnWords Call.hold (now words) n (now words′)
+      → OnWords WordCall.hold (now words) n (now words′)
   pub release : (κs : Lfts 1) (words words′ : RefT (List ℤ)) (n : ℤ) → release-reads.Learnt κs (words, tt) n (words′, tt)
-      → OnWords Call.release (now words) n (now words′)
+      → OnWords WordCall.release (now words) n (now words′)
   pub stop : (κs : Lfts 1) (words words′ : RefT (List ℤ)) (n : ℤ) → stop-reads.Learnt κs (words, tt) n (words′, tt)
-      → OnWords Call.stop (now words) n (now words′)
+      → OnWords WordCall.stop (now words) n (now words′)
   pub run : (κs : Lfts 3) (words words′ : RefT (List ℤ)) (budget : ℕ) (out out′ : RefT (List ℕ)) (ticks ticks′ : RefT ℕ) (n : ℤ)
       → run-reads.Learnt κs (words, (budget, (out, (ticks, tt)))) n (words′, (budget, (out′, (ticks′, tt))))
       → RunOnWords (now words) budget out out′ n (now ticks′) (now words′)

@@ -12,7 +12,7 @@ use Rattle.plane.specs.Pulse.{codeOf, shiftedOf}
 use Rattle.plane.specs.Byte.{cycleByte}
 use Rattle.circle.specs.Charge.{straight}
 use Rattle.line.specs.declared.line.Line.{Line}
-use Rattle.line.specs.Line.{incrementX, incrementY, cyclesOf, lineOf}
+use Rattle.line.specs.Line.{incrementX, incrementY, lineCycles, lineOf}
 use Rattle.line.specs.Register.{pulsesOf}
 use Rattle.block.specs.declared.Block.{Block}
 use Rattle.block.specs.declared.Path.{Path}
@@ -36,7 +36,7 @@ use Rattle.demands.specs.Taken.{Taken, TicksAs}
 -- the pulses of cycle c + 1: each axis has a register of capacity q, half filled, to which each cycle adds the axis's increment
 abbrev pub registerPulses : (start end : Point) (c : ℕ) → Pulses
 registerPulses start end c =
-    let q = cyclesOf start end in
+    let q = lineCycles start end in
     record {
       x = codeOf (pulsesOf q (natAbs (incrementX start end)) c) (isNegative (incrementX start end));
       y = codeOf (pulsesOf q (natAbs (incrementY start end)) c) (isNegative (incrementY start end));
@@ -55,7 +55,7 @@ pub record LineTick (m : Bench) (l : Line) (r : BenchTicked) : Type 0 where
   -- byte tells the registers' pulses, the cycle, and the end after q cycles.
   pub cycles : straight * capacityOf (m .settings) ≤ m .remainder + 1000 * l .feed
       → (let pulses = registerPulses (l .start) (l .end) (l .done) in
-      let last = eqb (l .done + 1) (cyclesOf (l .start) (l .end)) in
+      let last = eqb (l .done + 1) (lineCycles (l .start) (l .end)) in
       let rest = m .remainder + 1000 * l .feed - straight * capacityOf (m .settings) in
       r ≡ record {
         tick = Tick.Byte (cycleByte pulses last);

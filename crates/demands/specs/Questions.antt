@@ -18,8 +18,8 @@ use Rattle.words.specs.declared.line.Line.{Line}
 use Rattle.words.specs.Grammar.{LineOfWords}
 use Rattle.reader.specs.declared.Motion.{Motion}
 use Rattle.reader.specs.declared.Reader.{Reader}
-use Rattle.reader.specs.Reader.{readerAfter, placed, centred, moving, motionKnown, feedKnown, isArc, blockOf}
-use Rattle.reader.specs.Asked.{still}
+use Rattle.reader.specs.Reader.{readerAfter, endStands, centreStands, moving, motionKnown, feedKnown, isArc, blockOf}
+use Rattle.reader.specs.Reader.{goesNowhere}
 use Rattle.demands.specs.Asked.{Questions, none, question, andThen}
 use Rattle.demands.specs.Block.{blockQuestions}
 use Rattle.demands.specs.Sound.{Sound}
@@ -72,8 +72,8 @@ MotionAndFeedKnown after ws = moving ws ≡ true → (motionKnown (after .motion
 
 -- "Do I or J stand only under G 2 or 3, and does a line under 2 or 3 with X or Y have I or J? 37."
 pub record CentreStands (m : Motion) (ws : Words) : Type 0 where
-  pub only : centred ws ≡ true → isArc m ≡ true
-  pub there : isArc m ≡ true → placed ws ≡ true → centred ws ≡ true
+  pub only : centreStands ws ≡ true → isArc m ≡ true
+  pub there : isArc m ≡ true → endStands ws ≡ true → centreStands ws ≡ true
 
 abbrev pub wordQuestions : (after : Reader) → (scale : ℕ) → (bytes : List ℕ) → Line → Questions
 wordQuestions after scale bytes l =
@@ -98,7 +98,7 @@ isBlock true true = false
 isBlock false stays = false
 
 abbrev pub makesBlock : Reader → (scale : ℕ) → (start : Point) → Line → Bool
-makesBlock k scale start l = let b = lineBlock k scale start l in isBlock (moving (l .words)) (still (b .end) start (b .path))
+makesBlock k scale start l = let b = lineBlock k scale start l in isBlock (moving (l .words)) (goesNowhere (b .end) start (b .path))
 
 abbrev pub ifBlock : (makes : Bool) → Questions → Questions
 ifBlock true qs = qs

@@ -11,7 +11,7 @@ use Rattle.queue.specs.declared.Waiting.{Waiting}
 use Rattle.queue.specs.Queue as queue
 use Rattle.work.specs.declared.Work.{Work}
 use Rattle.work.specs.Work.{cyclesLeft, endOf}
-use Rattle.work.specs.Rest.{rootIn}
+use Rattle.work.specs.Work.{rootIn}
 use Rattle.settings.specs.declared.Settings.{Settings}
 use Rattle.machine.specs.declared.Machine.{Machine}
 use Rattle.demands.specs.Asked.{AllYes}

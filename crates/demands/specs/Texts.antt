@@ -21,7 +21,8 @@ use Rattle.book.specs.Ledger.{CountedAlong}
 use Rattle.job.specs.declared.Check.{Check}
 use Rattle.job.specs.declared.Filled.{Filled}
 use Rattle.job.specs.Text.{linesOf}
-use Rattle.job.specs.Job.{Made, End, jobOf}
+use Rattle.job.specs.Job.{Made, End}
+use Rattle.job.specs.computed.Job.{jobOf}
 use Rattle.job.specs.Listing.{jobListing}
 use Rattle.job.specs.Check.{isOver}
 use Rattle.job.proofs.Check.start.Reads as start-reads

@@ -1,5 +1,5 @@
 -- Demand 2, the tick bytes of a job: the answers of its ticks. "Each block is loaded once the one before has ended, remainder kept.": so
--- none ever waits, and the tape works at the bench alone; the bytes are those of the machine's own calls.
+-- none ever waits, and the stream works at the bench alone; the bytes are those of the machine's own calls.
 use mathlib.Core.Path.{_≡_}
 use mathlib.Core.Bool.{true}
 use mathlib.Core.List.{List, [], _∷_, _++_}
@@ -19,12 +19,13 @@ use Rattle.machine.specs.declared.Machine.{Machine}
 use Rattle.machine.specs.declared.Answered.{Answered}
 use Rattle.machine.specs.Machine.{freshOf}
 use Rattle.history.specs.Contracts.{Loads}
-use Rattle.job.specs.Job.{Made, jobOf}
+use Rattle.job.specs.Job.{Made}
+use Rattle.job.specs.computed.Job.{jobOf}
 use Rattle.job.specs.Listing.{allCycles, allTicks}
-use Rattle.tape.specs.declared.Tape.{Tape}
-use Rattle.tape.specs.declared.Filled.{Filled}
-use Rattle.tape.proofs.Tape.start.Reads as start-reads
-use Rattle.tape.proofs.Tape.fill.Reads as fill-reads
+use Rattle.stream.specs.declared.Stream.{Stream}
+use Rattle.stream.specs.declared.Filled.{Filled}
+use Rattle.stream.proofs.Stream.start.Reads as start-reads
+use Rattle.stream.proofs.Stream.fill.Reads as fill-reads
 use Rattle.demands.specs.Asked.{AllYes}
 use Rattle.demands.specs.Bench.{settingsQuestions}
 use Rattle.demands.specs.Runs.{TicksTo, ticksLeft}
@@ -48,22 +49,22 @@ pub record JobBytes (s : Settings) (text bytes : List ℕ) : Type 0 where
 
 -- ---- as they are handed out
 
-abbrev pub StartsTape : Bench → Tape → Type 0
-StartsTape m t = start-reads.Learnt tt (m, tt) t (m, tt)
+abbrev pub StartsStream : Bench → Stream → Type 0
+StartsStream m t = start-reads.Learnt tt (m, tt) t (m, tt)
 
-abbrev pub FillsTape : Lfts 2 → Tape → (text out out′ : RefT (List ℕ)) → Filled → Type 0
-FillsTape κs t text out out′ f = fill-reads.Learnt κs (t, (text, (out, tt))) f (t, (text, (out′, tt)))
+abbrev pub FillsStream : Lfts 2 → Stream → (text out out′ : RefT (List ℕ)) → Filled → Type 0
+FillsStream κs t text out out′ f = fill-reads.Learnt κs (t, (text, (out, tt))) f (t, (text, (out′, tt)))
 
--- fills of one text, one after the other, into buffers of any length and contents, lead from the tape t to u and hand these bytes out
-pub data BytesOut (text : List ℕ) (t : Tape) : List ℕ → Tape → Type 0 where
+-- fills of one text, one after the other, into buffers of any length and contents, lead from the stream t to u and hand these bytes out
+pub data BytesOut (text : List ℕ) (t : Stream) : List ℕ → Stream → Type 0 where
   none : BytesOut text t [] t
-  fill : {bytes : List ℕ} {u : Tape} → BytesOut text t bytes u → (κs : Lfts 2) (lent out out′ : RefT (List ℕ)) (f : Filled)
-      → now lent ≡ text → FillsTape κs u lent out out′ f → BytesOut text t (bytes ++ take (f .len) (now out′)) (f .tape)
+  fill : {bytes : List ℕ} {u : Stream} → BytesOut text t bytes u → (κs : Lfts 2) (lent out out′ : RefT (List ℕ)) (f : Filled)
+      → now lent ≡ text → FillsStream κs u lent out out′ f → BytesOut text t (bytes ++ take (f .len) (now out′)) (f .stream)
 
 pub record EveryTickByte : Type 0 where
-  pub fill : (κs : Lfts 2) (t : Tape) (text out out′ : RefT (List ℕ)) (f : Filled) → FillsTape κs t text out out′ f
-      → Filling 1 (now out) (now out′) (f .len) (f .tape .over)
-  -- whoever fills a tape that began at a fresh machine's bench gets the tick bytes of the text's job
-  pub bytes : (s : Settings) → AllYes (settingsQuestions s) → (t : Tape) → StartsTape (freshBench s) t → (text : List ℕ)
+  pub fill : (κs : Lfts 2) (t : Stream) (text out out′ : RefT (List ℕ)) (f : Filled) → FillsStream κs t text out out′ f
+      → Filling 1 (now out) (now out′) (f .len) (f .stream .over)
+  -- whoever fills a stream that began at a fresh machine's bench gets the tick bytes of the text's job
+  pub bytes : (s : Settings) → AllYes (settingsQuestions s) → (t : Stream) → StartsStream (freshBench s) t → (text : List ℕ)
       → (whole : List ℕ) × JobBytes s text whole
-      × ((bytes : List ℕ) (u : Tape) → BytesOut text t bytes u → FrontOf whole bytes (u .over ≡ true))
+      × ((bytes : List ℕ) (u : Stream) → BytesOut text t bytes u → FrontOf whole bytes (u .over ≡ true))

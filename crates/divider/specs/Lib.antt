@@ -1,3 +1,4 @@
--- To be believed: Divider. Proved of it: laws.
+-- To be believed: Divider. What the code computes, or asks of its callers: computed. Proved: laws.
 pub mod Divider
+pub mod computed
 pub mod laws

@@ -3,7 +3,8 @@
 // times the feed number.
 ghost use mathlib.Core.Path.{_≡_};
 ghost use Prim.Native.Nat.{_+_, _*_, _^_, _≤_, _<_};
-ghost use Rattle.divider.specs.Divider.{fedOf, goneOf, lastTick, endingOf};
+ghost use Rattle.divider.specs.Divider.{fedOf};
+ghost use Rattle.divider.specs.computed.Divider.{goneOf, lastTick, endingOf};
 
 // A tick adds this times the feed number: charges are thousandths of what a straight step costs.
 pub const FEED_SCALE: u64 = 1_000;

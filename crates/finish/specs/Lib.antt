@@ -1,3 +1,3 @@
--- To be believed: Finish. Proved of it: laws.
-pub mod Finish
+-- Nothing here is to be believed. What the code computes, or asks of its callers: computed. Proved: laws.
+pub mod computed
 pub mod laws

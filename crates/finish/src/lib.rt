@@ -1,8 +1,8 @@
 // A run to the end of the block in work, without its bytes: the charges left give the ticks, so none is walked.
 ghost use mathlib.Core.Path.{_≡_};
 ghost use mathlib.Core.Bool.{true};
-ghost use Rattle.bench.specs.Bench.{soundOf};
-ghost use Rattle.finish.specs.Finish.{worksOf, finishOf};
+ghost use Rattle.bench.specs.computed.Bench.{soundOf};
+ghost use Rattle.finish.specs.computed.Finish.{worksOf, finishOf};
 use bench::Bench;
 use divider::FEED_SCALE;
 use divider::ending;

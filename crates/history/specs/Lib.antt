@@ -1,4 +1,4 @@
--- To be believed: Agree, Reply, Contracts, History, Demand, Figure, Look. Proved of them: laws.
+-- To be believed, in this order: Agree, Reply, Contracts, History, Demand, Figure, Look. Proved: laws.
 pub mod Agree
 pub mod Reply
 pub mod Contracts

@@ -1,2 +1,2 @@
--- To be believed: Input.
-pub mod Input
+-- Nothing here is to be believed. What the code computes, or asks of its callers: computed.
+pub mod computed

@@ -1,6 +1,6 @@
 // A text from a descriptor: all of it, or that it could not be read. `io::read_full` does not tell a failed read from the end of the input,
 // and a job that was cut off must not pass for a whole one.
-ghost use Rattle.input.specs.Input.{Read, Within};
+ghost use Rattle.input.specs.computed.Input.{Read, CountFits};
 use libc::EINTR;
 
 // What a reading came to: how many bytes it put at the front of the buffer, or that a read failed.
@@ -22,7 +22,7 @@ const INTERRUPTIONS: usize = 1000;
 
 // Reads until the buffer is full or the input ends. Where a read fails, as errno then says, the bytes before it count for nothing.
 pub fn read(fd: i32, buf: &mut [u8]) -> Input
-    ensures { λ r. ⌜ Within r (now (buf .exit)) ⌝ }
+    ensures { λ r. ⌜ CountFits r (now (buf .exit)) ⌝ }
 {
     let mut done = 0;
     let mut left = INTERRUPTIONS;

@@ -1,7 +1,7 @@
--- To be believed: Text, Job, Listing, Calls. Check is what the code's contracts say. Proved of them: laws.
+-- To be believed, in this order: Text, Job, Listing, Check. What the code computes, or asks of its callers: computed. Proved: laws.
 pub mod Text
 pub mod Job
 pub mod Listing
-pub mod Calls
 pub mod Check
+pub mod computed
 pub mod laws

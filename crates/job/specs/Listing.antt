@@ -7,9 +7,7 @@ use Rattle.block.specs.Block.{blockCycles, blockWidth}
 use Rattle.book.specs.Ledger.{blockTicks, blockLeaves}
 use Rattle.row.specs.declared.lines.Kind.{Kind}
 use Rattle.row.specs.Lines.{headerLine, blockLine, totalLine, refusedLine}
-use Rattle.settings.specs.declared.Settings.{Settings}
-use Rattle.settings.specs.Settings.{capacityOf}
-use Rattle.job.specs.Job.{Made, End, Job, jobOf}
+use Rattle.job.specs.Job.{Made, End, Job}
 
 -- "L or A"
 abbrev pub pathKind : Path → Kind
@@ -22,7 +20,8 @@ madeCycles m = blockCycles (m .start) (m .block)
 -- "Fields: block number, text line, L or A, cycles, absolute end, register width"
 abbrev pub madeLine : (number : ℕ) → Made → List ℕ
 madeLine n m =
-    blockLine n (m .textLine) (pathKind (m .block .path)) (madeCycles m) (m .block .end .x) (m .block .end .y) (blockWidth (m .start) (m .block))
+    blockLine n (m .textLine) (pathKind (m .block .path)) (madeCycles m) (m .block .end .x) (m .block .end .y)
+    (blockWidth (m .start) (m .block))
 
 -- numbered from n on
 unfoldable pub rows : (n : ℕ) → List Made → List ℕ
@@ -47,13 +46,11 @@ unfoldable pub allTicks : (q0 r : ℕ) → List Made → ℕ
 allTicks q0 r [] = 0
 allTicks q0 r (m ∷ ms) = madeTicks q0 r m + allTicks q0 (madeLeaves q0 r m) ms
 
--- "the last line gives blocks, cycles and ticks"; "At a refusal the rows so far stand and the last line is `line 3 refused 15` with its own numbers."
+-- "the last line gives blocks, cycles and ticks"; "At a refusal the rows so far stand and the last line is `line 3 refused 15` with its own
+-- numbers."
 abbrev pub lastLine : (q0 : ℕ) → List Made → End → List ℕ
 lastLine q0 ms End.complete = totalLine (length ms) (allCycles ms) (allTicks q0 0 ms)
 lastLine q0 ms (End.refused n number) = refusedLine n number
 
 abbrev pub jobListing : (q0 : ℕ) → Job → List ℕ
 jobListing q0 j = headerLine ++ (rows 1 (j .blocks) ++ lastLine q0 (j .blocks) (j .end))
-
-unfoldable pub listingOf : Settings → (text : List ℕ) → List ℕ
-listingOf s text = jobListing (capacityOf s) (jobOf s text)

@@ -6,4 +6,3 @@ pub mod Asks
 pub mod Rows
 pub mod Reached
 pub mod Listing
-pub mod Calls

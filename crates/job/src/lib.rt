@@ -1,13 +1,15 @@
-// The check of a job text: its listing, handed out piece by piece into a lent buffer. How far it has come goes in by value and comes back by value.
+// The check of a job text: its listing, handed out piece by piece into a lent buffer. How far it has come goes in by value and comes back
+// by value.
 ghost use mathlib.Core.Path.{_≡_};
 ghost use mathlib.Core.Bool.{true, false};
-ghost use Rattle.row.specs.Buffer.{hasRoom};
-ghost use Rattle.job.specs.Check.{Steps, Fills, startOf, isOver, lastOf};
+ghost use Rattle.row.specs.computed.Buffer.{hasRoom};
+ghost use Rattle.job.specs.computed.Check.{Steps, Fills, checkFrom, lastOf};
+ghost use Rattle.job.specs.Check.{isOver};
 use bench::Bench;
-use listing::Tally;
-use listing::next_place;
 use reader::LONGEST_TEXT;
 use row::lines::has_room;
+use tally::Tally;
+use tally::next_place;
 use work::Work;
 
 // What comes next: the header, the row of the next text line, or nothing any more.
@@ -39,7 +41,7 @@ pub struct Filled {
 impl Check {
     // The check of a job that begins at this bench.
     pub fn start(bench: Bench) -> Check
-        ensures { λ r. ⌜ r ≡ startOf bench ⌝ }
+        ensures { λ r. ⌜ r ≡ checkFrom bench ⌝ }
     {
         let tally = Tally::start(bench);
         Check {
@@ -131,8 +133,8 @@ impl Check {
         }
     }
 
-    // The same check. Between lines nothing is in work: where that is so it is written anew, so that the compiler sees it and carries no work from line
-    // to line, nor copies a record with room for one.
+    // The same check. Between lines nothing is in work: where that is so it is written anew, so that the compiler sees it and carries no
+    // work from line to line, nor copies a record with room for one.
     fn settled(self) -> Check
         ensures { λ r. ⌜ r ≡ self ⌝ }
     {

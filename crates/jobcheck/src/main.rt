@@ -1,7 +1,6 @@
 // The check program: reads a job on standard input and writes its listing (document 01, "The check program").
-ghost use mathlib.Core.Path.{_≡_};
 ghost use Rattle.settings.specs.Settings.{standardSettings};
-ghost use Rattle.job.specs.Check.{Lists};
+ghost use Rattle.job.specs.computed.Check.{Lists};
 use bench::Bench;
 use input::Input;
 use job::Check;

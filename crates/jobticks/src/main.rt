@@ -1,35 +1,34 @@
 // Reads a job on standard input and writes the tick bytes of its blocks, one after the other; at a refused line it ends.
-ghost use mathlib.Core.Path.{_≡_};
 ghost use Rattle.settings.specs.Settings.{standardSettings};
-ghost use Rattle.tape.specs.Tape.{Tells};
+ghost use Rattle.stream.specs.computed.Stream.{Tells};
 use bench::Bench;
 use input::Input;
 use libc::STDIN_FILENO;
 use libc::STDOUT_FILENO;
 use reader::LONGEST_TEXT;
 use settings::standard;
-use tape::Tape;
+use stream::Stream;
 
-// What the tape has to hand out are the tick bytes, whatever the text.
-fn start() -> Tape
+// What the stream has to hand out are the tick bytes, whatever the text.
+fn start() -> Stream
     ensures { λ r. ⌜ Tells standardSettings r ⌝ }
 {
     let made = Bench::make(standard());
     let bench = made.bench;
-    Tape::start(bench)
+    Stream::start(bench)
 }
 
 // Writes them in large pieces. What fill promises makes the pieces the tick bytes, each in its turn. Answers whether all were written.
 fn write_ticks(text: &[u8]) -> bool {
     let mut out = io::large_buffer();
-    let mut tape = start();
-    while !tape.over {
-        let filled = tape.fill(text, &mut out);
+    let mut stream = start();
+    while !stream.over {
+        let filled = stream.fill(text, &mut out);
         let piece = filled.len;
         if !io::write_all(STDOUT_FILENO, &out[..piece]) {
             return false;
         }
-        tape = filled.tape;
+        stream = filled.stream;
     }
     true
 }

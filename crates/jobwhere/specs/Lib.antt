@@ -1,4 +1,3 @@
--- To be believed: Asked, Row. Proved of them: laws.
-pub mod Asked
-pub mod Row
+-- Nothing here is to be believed. What the code computes, or asks of its callers: computed. Proved: laws.
+pub mod computed
 pub mod laws

@@ -4,17 +4,17 @@
 // 2,225 cycles left, at X 5 Y 11, remainder 0; it is a line from (0, 0) to (1000, 2000), f 5,000, and 12 of its 2,237 cycles are done.
 ghost use mathlib.Core.Path.{_≡_};
 ghost use Rattle.settings.specs.Settings.{standardSettings};
-ghost use Rattle.seek.specs.Seek.{seekOf};
-ghost use Rattle.row.specs.Numbers.{bufferWith, placeWith};
+ghost use Rattle.seek.specs.computed.Seek.{seekOf};
+ghost use Rattle.row.specs.computed.Numbers.{bufferWith, placeWith};
 ghost use Rattle.row.specs.laws.Numbers.{EndsIn};
-ghost use Rattle.jobwhere.specs.Asked.{pushedOf, askedOf};
-ghost use Rattle.jobwhere.specs.Row.{foundWord, rowOf};
+ghost use Rattle.jobwhere.specs.computed.Asked.{pushedOf, askedOf};
+ghost use Rattle.jobwhere.specs.computed.Row.{foundWord, rowOf};
 ghost use Rattle.jobwhere.specs.laws.Row.{standingOf, rowWith};
+use encoding::encode::WorkWords;
+use encoding::encode::work_words;
+use encoding::number::refusal;
+use encoding::number::word;
 use input::Input;
-use layout::encode::WorkWords;
-use layout::encode::work_words;
-use layout::number::refusal;
-use layout::number::word;
 use libc::STDIN_FILENO;
 use libc::STDOUT_FILENO;
 use reader::LONGEST_TEXT;

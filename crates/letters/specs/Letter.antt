@@ -6,8 +6,8 @@ use lib.Dec.{eqb}
 use Rattle.letters.specs.declared.letter.Letter.{Letter}
 use Rattle.letters.specs.declared.letter.Letter.the-variants.{N, G, F, X, Y, I, J}
 
--- 01: "A word is N, G or F with 1 to 7 digits, or X, Y, I, J with an optional sign, 1 to 7 digits and optionally a point with 1 to 3 digits, in millimetres."
--- The letters, and their bytes:
+-- 01: "A word is N, G or F with 1 to 7 digits, or X, Y, I, J with an optional sign, 1 to 7 digits and optionally a point with 1 to 3
+-- digits, in millimetres." The letters, and their bytes:
 abbrev pub letters : List Letter
 letters = N ∷ G ∷ F ∷ X ∷ Y ∷ I ∷ J ∷ []
 

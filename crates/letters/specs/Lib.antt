@@ -1,4 +1,4 @@
--- To be believed: Letter, Word. Proved: laws, where Scan and Found are what the code does with a byte and with a word.
+-- To be believed, in this order: Letter, Word. Proved: laws.
 pub mod Letter
 pub mod Word
 pub mod laws

@@ -1,11 +1,11 @@
 -- Koren's register (source 000, "DDA integrator"), one for each axis of a line, over the magnitude a of the axis's increment.
 use mathlib.Core.Bool.{Bool, true, false, cond}
-use Prim.Native.Nat.{ℕ, zero, suc, _+_, _-_, _/_, _≤_, _<_}
+use Prim.Native.Nat.{ℕ, zero, suc, _+_, _-_, _/_}
 use lib.Dec.{leb}
 use Rattle.line.specs.declared.register.Clocked.{Clocked}
 
--- Source 000: "The content of the y register is added to that of r ..", and on an overflow "an overflow pulse is applied by the integrator at the
--- output and the contents of r are reduced by q". Source 000 has r > q; 01 decides that reaching q counts.
+-- Source 000: "The content of the y register is added to that of r ..", and on an overflow "an overflow pulse is applied by the integrator
+-- at the output and the contents of r are reduced by q". Source 000 has r > q; 01 decides that reaching q counts.
 abbrev pub clockOf : (q a r : ℕ) → Clocked
 clockOf q a r = cond (leb q (r + a)) (record { register = r + a - q; pulse = true }) (record { register = r + a; pulse = false })
 
@@ -17,15 +17,3 @@ registerOf q a (suc c) = clockOf q a (registerOf q a c) .register
 -- whether cycle c + 1 pulses
 unfoldable pub pulsesOf : (q a c : ℕ) → Bool
 pulsesOf q a c = clockOf q a (registerOf q a c) .pulse
-
--- the pulses of the first c cycles
-unfoldable pub sentOf : (q a c : ℕ) → ℕ
-sentOf q a zero = 0
-sentOf q a (suc c) = cond (pulsesOf q a c) (suc (sentOf q a c)) (sentOf q a c)
-
--- What the code asks of an axis: a line that moves, no increment beyond q, no cycle beyond the last, and numbers small enough for their products.
-pub record Axis (q a c : ℕ) : Type 0 where
-  pub some : 0 < q
-  pub wide : q ≤ 4000000
-  pub short : a ≤ q
-  pub due : c ≤ q

@@ -4,12 +4,14 @@ ghost use mathlib.Core.Bool.{true};
 ghost use Prim.Native.Nat.{_+_, _*_, _≤_};
 ghost use lib.Dec.{eqb};
 ghost use Rattle.whole.specs.Root.{leastRoot};
-ghost use Rattle.whole.specs.Sign.{joinOf};
+ghost use Rattle.whole.specs.computed.Sign.{joinOf};
 ghost use Rattle.whole.specs.Equal.{equalZ};
 ghost use Rattle.plane.specs.Point.{equalPoint};
 ghost use Rattle.plane.specs.Pulse.{codeOf};
-ghost use Rattle.line.specs.Register.{Axis, pulsesOf};
-ghost use Rattle.line.specs.Line.{movedBy, movedOf, pointOf, lineWidth, shortOf, lineOf, drawnOf, lineAt, steppedOf};
+ghost use Rattle.line.specs.computed.Register.{AxisFits};
+ghost use Rattle.line.specs.Register.{pulsesOf};
+ghost use Rattle.line.specs.Line.{axisSteps, axisMoved, linePoint, lineWidth, lineOf};
+ghost use Rattle.line.specs.computed.Line.{shortOf, drawnOf, lineAt, steppedOf};
 use crate::register::clock;
 use crate::register::has_moved;
 use crate::register::moved;
@@ -60,8 +62,8 @@ fn takes(q: u64, a: u64, b: u64) -> bool
 
 // Whether an axis that was to go `way` has gone `gone` after `done` of q cycles.
 fn axis_at(q: u64, done: u64, way: SignMagnitude, gone: SignMagnitude) -> bool
-    requires { ⌜ Axis q (way .magnitude) done ⌝ }
-    ensures { λ r. ⌜ r ≡ equalZ (joinOf gone) (movedOf q (joinOf way) done) ⌝ }
+    requires { ⌜ AxisFits q (way .magnitude) done ⌝ }
+    ensures { λ r. ⌜ r ≡ equalZ (joinOf gone) (axisMoved q (joinOf way) done) ⌝ }
 {
     if !has_moved(q, way.magnitude, done, gone.magnitude) {
         return false;
@@ -71,7 +73,7 @@ fn axis_at(q: u64, done: u64, way: SignMagnitude, gone: SignMagnitude) -> bool
 
 // The code of an axis in the next cycle, from what it has moved.
 fn axis_code(q: u64, done: u64, way: SignMagnitude, moved: u64) -> u8
-    requires { ⌜ Axis q (way .magnitude) done × (moved ≡ movedBy q (way .magnitude) done) ⌝ }
+    requires { ⌜ AxisFits q (way .magnitude) done × (moved ≡ axisSteps q (way .magnitude) done) ⌝ }
     ensures { λ r. ⌜ r ≡ codeOf (pulsesOf q (way .magnitude) done) (way .negative) ⌝ }
 {
     let k = clock(q, way.magnitude, register(q, way.magnitude, done, moved));
@@ -80,8 +82,8 @@ fn axis_code(q: u64, done: u64, way: SignMagnitude, moved: u64) -> u8
 
 // How far an axis has gone, in its direction.
 fn axis_moved(q: u64, done: u64, way: SignMagnitude) -> i64
-    requires { ⌜ Axis q (way .magnitude) done ⌝ }
-    ensures { λ r. ⌜ r ≡ movedOf q (joinOf way) done ⌝ }
+    requires { ⌜ AxisFits q (way .magnitude) done ⌝ }
+    ensures { λ r. ⌜ r ≡ axisMoved q (joinOf way) done ⌝ }
 {
     join(SignMagnitude {
         negative: way.negative,
@@ -147,7 +149,7 @@ impl Line {
     // Whether the line has reached this point, by products alone.
     fn has_reached(self, at: Point) -> bool
         requires { ⌜ drawnOf self ≡ true ⌝ }
-        ensures { λ r. ⌜ r ≡ equalPoint at (pointOf (self .start) (self .end) (self .done)) ⌝ }
+        ensures { λ r. ⌜ r ≡ equalPoint at (linePoint (self .start) (self .end) (self .done)) ⌝ }
     {
         let start = self.start;
         let end = self.end;
@@ -210,7 +212,7 @@ impl Line {
     // The point after the cycles done.
     pub fn point(self) -> Point
         requires { ⌜ drawnOf self ≡ true ⌝ }
-        ensures { λ r. ⌜ r ≡ pointOf (self .start) (self .end) (self .done) ⌝ }
+        ensures { λ r. ⌜ r ≡ linePoint (self .start) (self .end) (self .done) ⌝ }
     {
         let start = self.start;
         let end = self.end;

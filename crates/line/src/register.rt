@@ -3,8 +3,9 @@
 ghost use mathlib.Core.Path.{_≡_};
 ghost use Prim.Native.Nat.{_+_, _^_, _<_};
 ghost use lib.Dec.{eqb};
-ghost use Rattle.line.specs.Line.{movedBy};
-ghost use Rattle.line.specs.Register.{Axis, clockOf, registerOf};
+ghost use Rattle.line.specs.Line.{axisSteps};
+ghost use Rattle.line.specs.computed.Register.{AxisFits};
+ghost use Rattle.line.specs.Register.{clockOf, registerOf};
 
 // What a clock of the register gives.
 pub struct Clocked {
@@ -33,7 +34,7 @@ pub fn clock(capacity: u64, increment: u64, register: u64) -> Clocked
 
 // The register, from what the axis has moved: no division.
 pub fn register(capacity: u64, increment: u64, done: u64, moved: u64) -> u64
-    requires { ⌜ Axis capacity increment done × (moved ≡ movedBy capacity increment done) ⌝ }
+    requires { ⌜ AxisFits capacity increment done × (moved ≡ axisSteps capacity increment done) ⌝ }
     ensures { λ r. ⌜ r ≡ registerOf capacity increment done ⌝ }
 {
     capacity / 2 + increment * done - capacity * moved
@@ -41,16 +42,16 @@ pub fn register(capacity: u64, increment: u64, done: u64, moved: u64) -> u64
 
 // How far the axis has moved: the one division of a line.
 pub fn moved(capacity: u64, increment: u64, done: u64) -> u64
-    requires { ⌜ Axis capacity increment done ⌝ }
-    ensures { λ r. ⌜ r ≡ movedBy capacity increment done ⌝ }
+    requires { ⌜ AxisFits capacity increment done ⌝ }
+    ensures { λ r. ⌜ r ≡ axisSteps capacity increment done ⌝ }
 {
     (capacity / 2 + increment * done) / capacity
 }
 
 // Whether the axis has moved so far, by products alone; any number may be asked.
 pub fn has_moved(capacity: u64, increment: u64, done: u64, moved: u64) -> bool
-    requires { ⌜ Axis capacity increment done ⌝ }
-    ensures { λ r. ⌜ r ≡ eqb moved (movedBy capacity increment done) ⌝ }
+    requires { ⌜ AxisFits capacity increment done ⌝ }
+    ensures { λ r. ⌜ r ≡ eqb moved (axisSteps capacity increment done) ⌝ }
 {
     if increment < moved {
         return false;

@@ -2,9 +2,10 @@
 ghost use mathlib.Core.Path.{_≡_};
 ghost use mathlib.Core.Bool.{true};
 ghost use Prim.Native.Nat.{_+_, _^_, _≤_, _<_};
-ghost use Rattle.line.specs.Line.{movedBy, lineAt};
-ghost use Rattle.line.specs.Register.{Axis};
-ghost use Rattle.line.specs.Stepper.{trackOf, trackedOf, stepperOf, advancedOf, Fitting};
+ghost use Rattle.line.specs.Line.{axisSteps};
+ghost use Rattle.line.specs.computed.Line.{lineAt};
+ghost use Rattle.line.specs.computed.Register.{AxisFits};
+ghost use Rattle.line.specs.computed.Stepper.{trackOf, trackedOf, stepperOf, advancedOf, Fitting};
 use crate::line::Line;
 use crate::register::register;
 use plane::point::Point;
@@ -44,7 +45,7 @@ pub struct Advanced {
 
 // The axis after `done` cycles, from what it has moved.
 fn track_after(q: u64, done: u64, way: SignMagnitude, moved: u64) -> Track
-    requires { ⌜ Axis q (way .magnitude) done × (moved ≡ movedBy q (way .magnitude) done) ⌝ }
+    requires { ⌜ AxisFits q (way .magnitude) done × (moved ≡ axisSteps q (way .magnitude) done) ⌝ }
     ensures { λ r. ⌜ r ≡ trackOf q (way .magnitude) (way .negative) done ⌝ }
 {
     Track {

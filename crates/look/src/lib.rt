@@ -3,9 +3,9 @@
 ghost use mathlib.Core.Path.{_≡_};
 ghost use mathlib.Core.Bool.{true};
 ghost use Rattle.plane.specs.Point.{Near};
-ghost use Rattle.finish.specs.Finish.{worksOf};
-ghost use Rattle.machine.specs.Machine.{soundOf};
-ghost use Rattle.look.specs.Look.{refusing, tickingOf, aheadOf, passOf, wayOf};
+ghost use Rattle.finish.specs.computed.Finish.{worksOf};
+ghost use Rattle.machine.specs.computed.Machine.{soundOf};
+ghost use Rattle.look.specs.computed.Look.{refusing, tickingOf, aheadOf, passOf, wayOf};
 use bench::Answer;
 use finish::works;
 use machine::Machine;

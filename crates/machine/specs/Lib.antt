@@ -1,6 +1,5 @@
--- To be believed: Machine, Calls, Run. What inner code asks: Asked. Proved of them: laws.
+-- To be believed, in this order: Machine, Calls. What the code computes, or asks of its callers: computed. Proved: laws.
 pub mod Machine
 pub mod Calls
-pub mod Run
-pub mod Asked
+pub mod computed
 pub mod laws

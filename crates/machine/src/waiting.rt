@@ -3,12 +3,13 @@
 ghost use mathlib.Core.Path.{_≡_};
 ghost use mathlib.Core.Bool.{true};
 ghost use Prim.Native.Nat.{_-_, _≤_};
-ghost use Rattle.work.specs.Rest.{Countable};
+ghost use Rattle.work.specs.computed.Rest.{Countable};
 ghost use Rattle.settings.specs.Settings.{capacityOf};
-ghost use Rattle.bench.specs.Bench.{soundOf};
-ghost use Rattle.machine.specs.Machine.{waitingRight, startOf};
+ghost use Rattle.bench.specs.computed.Bench.{soundOf};
+ghost use Rattle.machine.specs.computed.Machine.{waitingRight};
+ghost use Rattle.machine.specs.Machine.{startOf};
 ghost use Rattle.machine.specs.Calls.{nextOf};
-ghost use Rattle.machine.specs.Asked.{lessOf, workOff, cyclesTold, Coming};
+ghost use Rattle.machine.specs.computed.Asked.{lessOf, workOff, cyclesTold, Coming};
 use crate::Machine;
 use bench::Bench;
 use bench::Tick;

@@ -1,4 +1,4 @@
--- To be believed: Point, Pulse, Byte, Travel. What the code asks: computed. Proved of them: laws.
+-- To be believed, in this order: Point, Pulse, Byte, Travel. What the code computes, or asks of its callers: computed. Proved: laws.
 pub mod Point
 pub mod Pulse
 pub mod Byte

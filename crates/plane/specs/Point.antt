@@ -1,14 +1,9 @@
--- A position is a pair of whole numbers; the way from one to another goes axis by axis.
+-- A position is a pair of whole numbers: whether two are the same, and within which bound one lies.
 use mathlib.Core.Bool.{Bool, _&&_}
 use Prim.Native.Nat.{ℕ, _≤_}
 use lib.IntN.{natAbs}
 use Rattle.whole.specs.Equal.{equalZ}
-use Rattle.whole.specs.Sign.{differenceOf}
 use Rattle.plane.specs.declared.point.Point.{Point}
-use Rattle.plane.specs.declared.point.Increments.{Increments}
-
-abbrev pub incrementsOf : (from to : Point) → Increments
-incrementsOf from to = record { x = differenceOf (from .x) (to .x); y = differenceOf (from .y) (to .y) }
 
 -- a test of equality that computes
 abbrev pub equalPoint : (p q : Point) → Bool

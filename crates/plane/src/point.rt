@@ -1,6 +1,7 @@
 // A position, and the way from one to another.
 ghost use mathlib.Core.Path.{_≡_};
-ghost use Rattle.plane.specs.Point.{incrementsOf, equalPoint};
+ghost use Rattle.plane.specs.computed.Point.{incrementsOf};
+ghost use Rattle.plane.specs.Point.{equalPoint};
 use whole::equal::equal;
 use whole::sign::SignMagnitude;
 

@@ -1,5 +1,5 @@
--- To be believed: Known, Progress. What the code asks: Right. Proved of them: laws.
+-- To be believed, in this order: Known, Progress. What the code computes, or asks of its callers: computed. Proved: laws.
 pub mod Known
 pub mod Progress
-pub mod Right
+pub mod computed
 pub mod laws

@@ -6,12 +6,11 @@ use Prim.Native.Nat.{ℕ}
 use lib.Dec.{eqb}
 use lib.IntN.{ℤ, pos}
 use Rattle.bench.specs.declared.Bench.{Bench}
-use Rattle.listing.specs.declared.Tally.{Tally}
+use Rattle.tally.specs.declared.Tally.{Tally}
 use Rattle.job.specs.declared.Stage.{Stage}
 use Rattle.job.specs.declared.Check.{Check}
-use Rattle.layout.specs.Words.{wordOf, countOf, at, sameWords}
+use Rattle.encoding.specs.Words.{wordOf, countOf, at}
 use Rattle.progress.specs.declared.progress.Progress.{Progress}
-use Rattle.progress.specs.declared.progress.DecodedProgress.{DecodedProgress}
 use Rattle.progress.specs.Known.{knownOf, readerOf}
 
 -- ---- progress as words
@@ -74,8 +73,3 @@ progressIn ws =
 -- the check at this bench that the words tell, if they are one's progress at all
 unfoldable pub checkIn : Bench → List ℤ → Check
 checkIn m ws = checkOf m (progressIn ws)
-
--- Words are a check's progress if they are those of the check that they tell. So a stage above 2, a negative count, and a G or F that tells
--- nothing make no progress.
-unfoldable pub decodeProgress : Bench → List ℤ → DecodedProgress
-decodeProgress m ws = record { ok = sameWords ws (encodeProgress (checkIn m ws)); check = checkIn m ws }

@@ -1,20 +1,22 @@
 // A check's progress as 8 words, and back. `specs/Progress.antt` says which word is what.
 ghost use mathlib.Core.Path.{_≡_};
-ghost use Rattle.progress.specs.Progress.{stageWord, progressOf, progressWords, encodeProgress, stageOf, tallyOf, checkOf, progressIn, decodeProgress};
-ghost use Rattle.progress.specs.Right.{countsRight, progressRight};
+ghost use Rattle.progress.specs.Progress.{stageWord, progressOf, progressWords, encodeProgress, stageOf, tallyOf, checkOf};
+ghost use Rattle.progress.specs.Progress.{progressIn};
+ghost use Rattle.progress.specs.computed.Progress.{decodeProgress};
+ghost use Rattle.progress.specs.computed.Right.{countsRight, progressRight};
 use crate::known::Known;
 use crate::known::known_of;
 use crate::known::known_right;
 use crate::known::reader_of;
 use bench::Bench;
+use encoding::number::count;
+use encoding::number::is_count;
+use encoding::number::word;
 use job::Check;
 use job::Stage;
-use layout::number::count;
-use layout::number::is_count;
-use layout::number::word;
-use listing::Tally;
 use plane::travel::Range;
 use plane::travel::within;
+use tally::Tally;
 
 pub struct Progress {
     pub stage: i64,

@@ -1,4 +1,4 @@
--- To be believed: Queue. What inner code computes: Test. Proved of them: laws.
+-- To be believed: Queue. What the code computes, or asks of its callers: computed. Proved: laws.
 pub mod Queue
-pub mod Test
+pub mod computed
 pub mod laws

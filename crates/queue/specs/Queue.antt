@@ -1,15 +1,12 @@
 -- 02 §3, Sixteen blocks waiting: "The machine shall hold up to 16 blocks after the one in work, first come first cut."
-use mathlib.Core.Bool.{Bool, true, _&&_}
 use mathlib.Core.List.{List, [], _∷_, _++_}
-use Prim.Native.Nat.{ℕ, _+_, _-_}
-use lib.Dec.{leb, eqb}
+use Prim.Native.Nat.{_+_, _-_}
 use lib.IntN.{pos}
 use lib.ListN.{length, take, drop, set, getD, replicate}
 use Rattle.plane.specs.declared.point.Point.{Point}
-use Rattle.plane.specs.declared.travel.Travel.{Travel}
 use Rattle.block.specs.declared.Block.{Block}
 use Rattle.block.specs.declared.Path.{Path}
-use Rattle.block.specs.Chain.{endAfter, chainAccepted, rootOf}
+use Rattle.block.specs.Chain.{endAfter, rootOf}
 use Rattle.queue.specs.declared.Waiting.{Waiting}
 use Rattle.queue.specs.declared.Queue.{Queue}
 
@@ -25,19 +22,6 @@ blocksOf (w ∷ l) = w .block ∷ blocksOf l
 
 abbrev pub waiting : Queue → List Block
 waiting q = blocksOf (places q)
-
--- ---- a sound queue
-
--- each keeps its own root, from the end of the one before
-unfoldable pub rootsRight : (start : Point) → List Waiting → Bool
-rootsRight start [] = true
-rootsRight start (w ∷ l) = eqb (w .root) (rootOf start (w .block)) && rootsRight (endAfter start (w .block)) l
-
--- "only waiting blocks that would be accepted in turn", behind a block that ends at from; and "up to 16". Every array has 16 places, so the
--- code need not ask that.
-unfoldable pub queueSound : (q0 : ℕ) → Travel → (from : Point) → Queue → Bool
-queueSound q0 t from q =
-    eqb (length (q .blocks)) 16 && (leb (q .len) 16 && (chainAccepted q0 t from (waiting q) && rootsRight from (places q)))
 
 -- ---- an empty queue, a block more, the first one less
 

@@ -7,8 +7,9 @@ ghost use Prim.Native.Nat.{_≤_, _<_};
 ghost use Rattle.plane.specs.Travel.{insideOf};
 ghost use Rattle.plane.specs.computed.Travel.{Wide};
 ghost use Rattle.block.specs.Chain.{chainEnd, chainCycles};
-ghost use Rattle.queue.specs.Queue.{waiting, queueSound, emptyQueue, pushedOf, firstOf, poppedOf};
-ghost use Rattle.queue.specs.Test.{takenOff};
+ghost use Rattle.queue.specs.Queue.{waiting, emptyQueue, pushedOf, firstOf, poppedOf};
+ghost use Rattle.queue.specs.computed.Queue.{queueSound};
+ghost use Rattle.queue.specs.computed.Test.{takenOff};
 use block::Block;
 use block::Path;
 use block::questions::load_no;
@@ -52,7 +53,7 @@ fn blank() -> Waiting
 }
 
 pub fn wrong() -> TakenOff
-    ensures { λ r. ⌜ r ≡ Rattle.queue.specs.Test.wrong ⌝ }
+    ensures { λ r. ⌜ r ≡ Rattle.queue.specs.computed.Test.wrong ⌝ }
 {
     TakenOff {
         right: false,

@@ -1,5 +1,4 @@
--- To be believed: Reader, Asked, TextLine. Proved of them: laws.
+-- To be believed: Reader. What the code computes, or asks of its callers: computed. Proved: laws.
 pub mod Reader
-pub mod Asked
-pub mod TextLine
+pub mod computed
 pub mod laws

@@ -5,7 +5,8 @@ ghost use Prim.Native.Nat.{_≤_};
 ghost use lib.ListN.{length};
 ghost use Rattle.words.specs.computed.Meaning.{meaningOf};
 ghost use Rattle.words.specs.computed.Scan.{firstLine};
-ghost use Rattle.reader.specs.Asked.{still, asked, blockAsked, askedOf};
+ghost use Rattle.reader.specs.computed.Asked.{asked, blockAsked, askedOf};
+ghost use Rattle.reader.specs.Reader.{goesNowhere};
 ghost use Rattle.reader.specs.declared.asked.ToLoad.the-variants.{Refused};
 ghost use Rattle.reader.specs.laws.Asked.{brokenNo};
 ghost use Rattle.reader.specs.laws.Small.{Writable};
@@ -41,7 +42,7 @@ pub struct AskedFirst {
 }
 
 fn stands_still(b: Block, place: Point) -> bool
-    ensures { λ r. ⌜ r ≡ still (b .end) place (b .path) ⌝ }
+    ensures { λ r. ⌜ r ≡ goesNowhere (b .end) place (b .path) ⌝ }
 {
     let end = b.end;
     let path = b.path;

@@ -1,7 +1,8 @@
 // The G and F known after a line, and the block that a line asks for.
 ghost use mathlib.Core.Path.{_≡_};
 ghost use Prim.Native.Nat.{_<_, _^_, _≤_};
-ghost use Rattle.reader.specs.Reader.{motionOf, motionAfter, feedAfter, readerAfter, pulsesOf, coordinate, pathOf, feedNumber, blockOf};
+ghost use Rattle.reader.specs.Reader.{motionOf, motionAfter, feedAfter, readerAfter, inPulses, coordinate, pathOf, feedNumber};
+ghost use Rattle.reader.specs.Reader.{blockOf};
 ghost use Rattle.reader.specs.laws.Small.{Small, SmallWords};
 use crate::Feed;
 use crate::Motion;
@@ -66,7 +67,7 @@ pub fn reader_after(k: Reader, ws: Words) -> Reader
 
 fn pulses(scale: u64, w: Word) -> i64
     requires { ⌜ Small scale w ⌝ }
-    ensures { λ r. ⌜ r ≡ pulsesOf scale w ⌝ }
+    ensures { λ r. ⌜ r ≡ inPulses scale w ⌝ }
 {
     join(SignMagnitude {
         negative: w.negative,

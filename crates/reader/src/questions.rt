@@ -1,6 +1,7 @@
 // Questions 34 to 37 about a line of words, and the number of the first "no" from 31 on.
 ghost use mathlib.Core.Path.{_≡_};
-ghost use Rattle.reader.specs.Reader.{motionRight, onPulse, allOnPulse, placed, centred, moving, motionKnown, feedKnown, allKnown, isArc, centreRight, lineNo};
+ghost use Rattle.reader.specs.computed.Reader.{motionRight, onPulse, allOnPulse, allKnown, centreRight, lineNo};
+ghost use Rattle.reader.specs.Reader.{endStands, centreStands, moving, motionKnown, feedKnown, isArc};
 ghost use Rattle.reader.specs.laws.Small.{Small, SmallWords};
 use crate::Feed;
 use crate::LONGEST_LINE;
@@ -56,7 +57,7 @@ fn all_on_pulse(scale: u64, ws: Words) -> bool
 }
 
 fn is_placed(ws: Words) -> bool
-    ensures { λ r. ⌜ r ≡ placed ws ⌝ }
+    ensures { λ r. ⌜ r ≡ endStands ws ⌝ }
 {
     let x = ws.x;
     let y = ws.y;
@@ -64,7 +65,7 @@ fn is_placed(ws: Words) -> bool
 }
 
 fn is_centred(ws: Words) -> bool
-    ensures { λ r. ⌜ r ≡ centred ws ⌝ }
+    ensures { λ r. ⌜ r ≡ centreStands ws ⌝ }
 {
     let i = ws.i;
     let j = ws.j;

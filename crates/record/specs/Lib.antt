@@ -1,5 +1,4 @@
--- To be believed: Words. What the code asks: Right; what it stores: Write. Proved of them: laws.
+-- To be believed: Words. What the code computes, or asks of its callers: computed. Proved: laws.
 pub mod Words
-pub mod Right
-pub mod Write
+pub mod computed
 pub mod laws

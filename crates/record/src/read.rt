@@ -1,19 +1,20 @@
 // What the words tell, whatever they are: each is read where it stands, and the words are not copied as a whole.
 ghost use mathlib.Core.Path.{_≡_};
 ghost use Prim.Native.Nat.{_≤_, _<_};
-ghost use Rattle.layout.specs.Words.{countOf, at, headIn, workWordsIn};
+ghost use Rattle.encoding.specs.Words.{countOf, at};
+ghost use Rattle.encoding.specs.computed.Words.{headIn, workWordsIn};
 ghost use Rattle.machine.specs.Machine.{startOf};
-ghost use Rattle.record.specs.Words.{blockWordsIn, pathOf, waitingOf, waitingIn, queueIn, figuresIn, lenIn, benchIn};
+ghost use Rattle.record.specs.computed.Words.{blockWordsIn, pathTold, waitingOf, waitingIn, queueIn, figuresIn, lenIn, benchIn};
 use bench::Bench;
 use block::Block;
 use block::Path;
 use circle::plane::Offset;
 use circle::plane::Turn;
-use layout::decode::machine_of;
-use layout::decode::work_of;
-use layout::encode::Head;
-use layout::encode::WorkWords;
-use layout::number::count;
+use encoding::decode::bench_of;
+use encoding::decode::work_of;
+use encoding::encode::Head;
+use encoding::encode::WorkWords;
+use encoding::number::count;
 use plane::point::Point;
 use queue::Waiting;
 use work::rest::end_of;
@@ -87,7 +88,7 @@ pub fn bench_in(words: &[i64; 134]) -> Bench
     ensures { λ r. ⌜ r ≡ benchIn (now (words .entry)) ⌝ }
 {
     let work = work_of(work_words_in(words));
-    machine_of(head_in(words), work)
+    bench_of(head_in(words), work)
 }
 
 pub fn block_words_in(words: &[i64; 134], place: usize) -> BlockWords
@@ -113,7 +114,7 @@ pub fn block_words_in(words: &[i64; 134], place: usize) -> BlockWords
 }
 
 fn path_of(b: BlockWords) -> Path
-    ensures { λ r. ⌜ r ≡ pathOf b ⌝ }
+    ensures { λ r. ⌜ r ≡ pathTold b ⌝ }
 {
     let centre = Offset { x: b.i, y: b.j };
     let kind = count(b.kind);

@@ -3,10 +3,10 @@ ghost use mathlib.Core.Path.{_≡_};
 ghost use mathlib.Core.Bool.{true};
 ghost use Rattle.plane.specs.Travel.{insideOf};
 ghost use Rattle.plane.specs.computed.Travel.{Wide};
-ghost use Rattle.bench.specs.Bench.{soundOf};
-ghost use Rattle.layout.specs.Words.{at};
-ghost use Rattle.record.specs.Words.{soundWords};
-ghost use Rattle.record.specs.Right.{figuresRight, isFront, isBlock, rowSound, waitingSound};
+ghost use Rattle.bench.specs.computed.Bench.{soundOf};
+ghost use Rattle.encoding.specs.Words.{at};
+ghost use Rattle.record.specs.computed.Words.{soundWords};
+ghost use Rattle.record.specs.computed.Right.{figuresRight, isFront, blockRowRight, rowSound, waitingSound};
 use crate::read::BlockWords;
 use crate::read::Figures;
 use crate::read::bench_in;
@@ -18,11 +18,11 @@ use crate::read::waiting_of;
 use crate::read::work_words_in;
 use bench::Bench;
 use bench::sound;
-use layout::encode::ABI;
-use layout::number::count;
-use layout::number::is_count;
-use layout::right::head_right;
-use layout::right::work_right;
+use encoding::encode::ABI;
+use encoding::number::count;
+use encoding::number::is_count;
+use encoding::right::head_right;
+use encoding::right::work_right;
 use machine::waiting::work_off;
 use plane::point::Point;
 use plane::travel::Travel;
@@ -66,7 +66,7 @@ fn is_front(words: &[i64; 134]) -> bool
 
 // Whether a block's words are those of what they tell.
 fn is_block(b: BlockWords) -> bool
-    ensures { λ r. ⌜ r ≡ isBlock b ⌝ }
+    ensures { λ r. ⌜ r ≡ blockRowRight b ⌝ }
 {
     if !is_count(b.feed) {
         return false;

@@ -1,6 +1,5 @@
--- To be believed: Decimal, Lines, Buffer, Numbers. Proved of them: laws.
+-- To be believed, in this order: Decimal, Lines. What the code computes, or asks of its callers: computed. Proved: laws.
 pub mod Decimal
 pub mod Lines
-pub mod Buffer
-pub mod Numbers
+pub mod computed
 pub mod laws

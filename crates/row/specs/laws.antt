@@ -1,10 +1,7 @@
-pub mod All
 pub mod Decimal
-pub mod Digits
 pub mod Lines
 pub mod Buffer
 pub mod Puts
 pub mod Numbers
 pub mod Behind
 pub mod Examples
-pub mod Fields

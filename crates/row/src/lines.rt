@@ -4,7 +4,7 @@ ghost use mathlib.Core.Path.{_≡_};
 ghost use Prim.Native.Nat.{_+_, _-_};
 ghost use lib.Dec.{leb};
 ghost use Rattle.row.specs.Lines.{kindLetter, headerLine, blockLine, totalLine, refusedLine};
-ghost use Rattle.row.specs.Buffer.{lineRoom, bufferAfter, placeAfter};
+ghost use Rattle.row.specs.computed.Buffer.{lineRoom, bufferAfter, placeAfter};
 
 // 160 bytes hold every line of the listing: none takes more than 128.
 pub const ROOM: usize = 160;

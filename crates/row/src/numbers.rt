@@ -4,7 +4,7 @@ use crate::push;
 ghost use mathlib.Core.Path.{_≡_};
 ghost use Prim.Native.Nat.{_+_, _*_, _≤_, _<_};
 ghost use lib.ListN.{length};
-ghost use Rattle.row.specs.Numbers.{bufferWith, placeWith};
+ghost use Rattle.row.specs.computed.Numbers.{bufferWith, placeWith};
 ghost use Rattle.row.specs.laws.Numbers.{PutsNumbers, EndsIn};
 
 const BLANK: u8 = 32;

@@ -1,5 +1,3 @@
--- To be believed: Run. Gap and Ending are what inner functions compute. Proved of them: laws.
-pub mod Run
-pub mod Gap
-pub mod Ending
+-- Nothing here is to be believed. What the code computes, or asks of its callers: computed. Proved: laws.
+pub mod computed
 pub mod laws

@@ -3,7 +3,7 @@
 ghost use mathlib.Core.Path.{_≡_};
 ghost use Prim.Native.Nat.{_≤_};
 ghost use lib.ListN.{length};
-ghost use Rattle.run.specs.Run.{stripOf, ranOf, written, SoundIn};
+ghost use Rattle.run.specs.computed.Run.{stripOf, ranOf, written, SoundIn};
 use crate::Ran;
 use crate::buffer::clear;
 use crate::buffer::least;

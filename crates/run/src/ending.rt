@@ -1,13 +1,13 @@
-// The end tick as far as a run asks it: exact where the run can reach it, else one beyond the run. Most runs of a long block cannot, and then
-// need no division, and on an arc no count of what is left and no root.
+// The end tick as far as a run asks it: exact where the run can reach it, else one beyond the run. Most runs of a long block cannot, and
+// then need no division, and on an arc no count of what is left and no root.
 ghost use mathlib.Core.Path.{_≡_};
 ghost use Prim.Native.Nat.{_-_, _*_, _≤_, _<_};
-ghost use Rattle.divider.specs.Divider.{lastTick};
-ghost use Rattle.arc.specs.Arc.{arcCycles};
-ghost use Rattle.arc.specs.Charge.{arcCharges};
+ghost use Rattle.divider.specs.computed.Divider.{lastTick};
+ghost use Rattle.arc.specs.computed.Arc.{arcCycles};
+ghost use Rattle.arc.specs.computed.Charge.{arcCharges};
 ghost use Rattle.work.specs.declared.Work.{Work};
-ghost use Rattle.run.specs.Run.{SoundIn};
-ghost use Rattle.run.specs.Ending.{shortOf, longerOf, Same};
+ghost use Rattle.run.specs.computed.Run.{SoundIn};
+ghost use Rattle.run.specs.computed.Ending.{fallsShort, longerOf, Same};
 use arc::arc::Arc;
 use circle::step::STRAIGHT;
 use divider::FEED_SCALE;
@@ -19,7 +19,7 @@ use plane::point::between;
 // Whether what so many ticks add does not reach this due. The bound keeps their product in 64 bits.
 fn falls_short(due: u64, added: u64, remainder: u64, ticks: u64) -> bool
     requires { ⌜ (added ≤ 1200000000000) × (remainder ≤ 1696800000000) ⌝ }
-    ensures { λ r. ⌜ r ≡ shortOf due added remainder ticks ⌝ }
+    ensures { λ r. ⌜ r ≡ fallsShort due added remainder ticks ⌝ }
 {
     if 10_000_000 <= ticks {
         return false;

@@ -1,9 +1,9 @@
-// The ticks of a run, over what is in work. A run does not go tick by tick: it clears its bytes at once, since most ticks have byte 0, and then goes
-// from cycle to cycle and writes the bytes of those.
+// The ticks of a run, over what is in work. A run does not go tick by tick: it clears its bytes at once, since most ticks have byte 0, and
+// then goes from cycle to cycle and writes the bytes of those.
 ghost use mathlib.Core.Path.{_≡_};
 ghost use Prim.Native.Nat.{min};
 ghost use lib.ListN.{length};
-ghost use Rattle.run.specs.Run.{stripOf, ranOf, written, SoundIn};
+ghost use Rattle.run.specs.computed.Run.{stripOf, ranOf, written, SoundIn};
 use arc_run::run_arc;
 use buffer::least;
 use line_run::run_line;
@@ -39,7 +39,8 @@ pub fn run_work(
 ) -> Ran
     requires { ⌜ SoundIn capacity at remainder work ⌝ }
     ensures { λ r. ⌜ r ≡ ranOf (stripOf capacity (min budget (length (now (out .entry)))) at remainder work) ⌝ }
-    ensures { λ r. ⌜ now (out .exit) ≡ written (stripOf capacity (min budget (length (now (out .entry)))) at remainder work .bytes) (now (out .entry)) ⌝ }
+    ensures { λ r. ⌜ now (out .exit) ≡ written (stripOf capacity (min budget (length (now (out .entry)))) at remainder work .bytes) (now
+        (out .entry)) ⌝ }
 {
     let most = least(budget, out.len() as u64);
     match work {

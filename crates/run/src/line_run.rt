@@ -1,9 +1,9 @@
-// A run along a line: n is where the ticks asked for or the line end, so no byte after it is touched. The loop does the cycles that cannot be the
-// line's last, and so tests nothing but the tick; the last one comes after it.
+// A run along a line: n is where the ticks asked for or the line end, so no byte after it is touched. The loop does the cycles that cannot
+// be the line's last, and so tests nothing but the tick; the last one comes after it.
 ghost use mathlib.Core.Path.{_≡_};
 ghost use Prim.Native.Nat.{_≤_};
 ghost use lib.ListN.{length};
-ghost use Rattle.run.specs.Run.{stripOf, ranOf, written, SoundIn};
+ghost use Rattle.run.specs.computed.Run.{stripOf, ranOf, written, SoundIn};
 use crate::Ran;
 use crate::buffer::clear;
 use crate::buffer::least;

@@ -2,10 +2,11 @@
 // point. The cost does not grow with the ticks.
 ghost use mathlib.Core.Path.{_≡_};
 ghost use Prim.Native.Nat.{_<_};
-ghost use Rattle.arc.specs.Arc.{arcCycles};
-ghost use Rattle.work.specs.Work.{cyclesLeft, lastTickFor};
-ghost use Rattle.work.specs.Rest.{leftOf};
-ghost use Rattle.run.specs.Run.{stripOf, ranOf, SoundIn};
+ghost use Rattle.arc.specs.computed.Arc.{arcCycles};
+ghost use Rattle.work.specs.Work.{cyclesLeft};
+ghost use Rattle.work.specs.computed.Work.{lastTickFor};
+ghost use Rattle.work.specs.computed.Rest.{leftOf};
+ghost use Rattle.run.specs.computed.Run.{stripOf, ranOf, SoundIn};
 use crate::Ran;
 use crate::buffer::least;
 use arc::arc::Arc;

@@ -4,4 +4,3 @@ pub mod Seek
 pub mod Bytes
 pub mod Stands
 pub mod Listed
-pub mod Ticks

@@ -2,9 +2,9 @@
 // blocks before it are finished, and the record after some of its own ticks is found, by closed forms. The cost grows with the text alone.
 ghost use mathlib.Core.Path.{_≡_};
 ghost use mathlib.Core.Bool.{true};
-ghost use Rattle.bench.specs.Bench.{soundOf};
-ghost use Rattle.seek.specs.Seek.{seekOf};
-ghost use Rattle.seek.specs.laws.Search.{Counted, Tested, startOf, passedOf, blockOf, refusedOf, lineOf};
+ghost use Rattle.bench.specs.computed.Bench.{soundOf};
+ghost use Rattle.seek.specs.computed.Seek.{seekOf};
+ghost use Rattle.seek.specs.laws.Search.{Counted, Tested, searchFrom, passedOf, blockOf, refusedOf, searchAfter};
 use ahead::after_ticks;
 use bench::Bench;
 use finish::finish;
@@ -45,7 +45,7 @@ struct Search {
 
 impl Search {
     fn start(settings: Settings, ticks: u64) -> Search
-        ensures { λ r. ⌜ r ≡ startOf settings ticks ⌝ }
+        ensures { λ r. ⌜ r ≡ searchFrom settings ticks ⌝ }
     {
         let made = Bench::make(settings);
         let bench = made.bench;
@@ -148,7 +148,7 @@ impl Search {
 
     fn line(self, read: ReadLine) -> Search
         requires { ⌜ Counted self × Tested read ⌝ }
-        ensures { λ r. ⌜ r ≡ lineOf self read ⌝ }
+        ensures { λ r. ⌜ r ≡ searchAfter self read ⌝ }
     {
         let reader = read.reader;
         let bench = read.bench;

@@ -1,6 +1,7 @@
 // The settings of a table, and questions 1 to 3.
 ghost use mathlib.Core.Path.{_≡_};
-ghost use Rattle.settings.specs.Settings.{capacityOf, inRange, axisRight, travelRight, settingsNo, standardSettings};
+ghost use Rattle.settings.specs.Settings.{capacityOf, standardSettings};
+ghost use Rattle.settings.specs.computed.Settings.{inRange, axisRight, travelRight, settingsNo};
 use plane::travel::Range;
 use plane::travel::Travel;
 use plane::travel::within;

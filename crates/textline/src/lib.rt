@@ -1,9 +1,9 @@
 // One line of a job, read at a machine: what it leaves out is that of the place where the next block starts, and its block may wait. The
 // reader and the record go in and come back beside the answer.
 ghost use mathlib.Core.Path.{_≡_};
-ghost use Rattle.machine.specs.Calls.{loadOf};
+ghost use Rattle.machine.specs.computed.Calls.{loadOf};
 ghost use Rattle.reader.specs.declared.«text_line».Read.the-variants.{Refused};
-ghost use Rattle.textline.specs.TextLine.{reads, loaded, takenOf, readLineOf};
+ghost use Rattle.textline.specs.computed.TextLine.{reads, loaded, takenOf, readLineOf};
 use bench::Answer;
 use block::Block;
 use machine::Machine;

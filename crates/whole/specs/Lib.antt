@@ -1,8 +1,10 @@
--- To be believed: First, Root, Width, Sign, Equal, Ask. Proved of them, and arithmetic for later proofs: laws.
+-- To be believed, in this order: First, Root, Width, Sign, Equal, Ask. What the code computes, or asks of its callers: computed. Proved:
+-- laws.
 pub mod First
 pub mod Root
 pub mod Width
 pub mod Sign
 pub mod Equal
 pub mod Ask
+pub mod computed
 pub mod laws

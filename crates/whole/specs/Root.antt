@@ -7,6 +7,7 @@ use Rattle.whole.specs.First.{firstFrom}
 unfoldable pub leastRoot : ℕ → ℕ
 leastRoot s = firstFrom (λ q. leb s (q * q)) s 0
 
--- 01, Arcs: "its m on an axis": the root of N to the nearest, which is the least r with N ≤ r² + r. No root lies halfway, since (r + 1/2)² is never whole.
+-- 01, Arcs: "its m on an axis": the root of N to the nearest, which is the least r with N ≤ r² + r. No root lies halfway, since (r + 1/2)²
+-- is never whole.
 unfoldable pub nearestRoot : ℕ → ℕ
 nearestRoot n = firstFrom (λ r. leb n (r * r + r)) n 0

@@ -4,7 +4,8 @@ ghost use Prim.Native.Nat.{_*_, _^_, _≤_};
 ghost use lib.Dec.{eqb};
 ghost use Rattle.whole.specs.Root.{leastRoot, nearestRoot};
 
-// The least q with q * q >= s, which is at most `reach`. Halves the gap between a number whose square is below s and one whose square is not.
+// The least q with q * q >= s, which is at most `reach`. Halves the gap between a number whose square is below s and one whose square is
+// not.
 fn root_within(s: u64, reach: u64) -> u64
     requires { ⌜ (1 ≤ s) × (s ≤ reach * reach) ⌝ }
     requires { ⌜ (1 ≤ reach) × (reach ≤ 2 ^ 32) ⌝ }

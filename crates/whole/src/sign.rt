@@ -2,7 +2,7 @@
 ghost use mathlib.Core.Path.{_≡_};
 ghost use mir.Syntax.{w64};
 ghost use mir.Val.{SFits};
-ghost use Rattle.whole.specs.Sign.{offsetOf, partOf, joinOf, differenceOf};
+ghost use Rattle.whole.specs.computed.Sign.{offsetOf, partOf, joinOf, differenceOf};
 
 // A whole number as sign and magnitude; 0 is not negative.
 pub struct SignMagnitude {

@@ -1,5 +1,5 @@
--- How a line of words is written. 01, Questions: "Is it made of zero or more words, with any number of blanks (byte 32) or none before, between and after?"
--- The letters, their bytes, and which of them take a sign and a point: `Letter` in crate `letters`.
+-- How a line of words is written. 01, Questions: "Is it made of zero or more words, with any number of blanks (byte 32) or none before,
+-- between and after?" The letters, their bytes, and which of them take a sign and a point: `Letter` in crate `letters`.
 use Prim.Native.Nat.{ℕ, _+_, _≤_, _<_}
 use mathlib.Core.Path.{_≡_}
 use mathlib.Core.List.{List, [], _∷_, _++_}

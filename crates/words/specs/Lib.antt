@@ -1,4 +1,4 @@
--- Believed: Grammar, then Meaning. Computed: the scan, and the answer that Means allows. `laws` proves that the scan gives that answer.
+-- To be believed, in this order: Grammar, Meaning. What the code computes, or asks of its callers: computed. Proved: laws.
 pub mod Grammar
 pub mod Meaning
 pub mod computed

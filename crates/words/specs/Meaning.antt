@@ -1,4 +1,5 @@
--- What a line of words means: of each letter nothing, one value, or that it stands twice. At the end, `Means` says what an answer about a line has to be.
+-- What a line of words means: of each letter nothing, one value, or that it stands twice. At the end, `Means` says what an answer about a
+-- line has to be.
 use Prim.Native.Nat.{ℕ, _+_, _-_, _*_, _^_}
 use mathlib.Core.Path.{_≡_}
 use mathlib.Core.List.{List, [], _∷_}
@@ -49,17 +50,17 @@ says l (word k s w f ∷ is) = cond (same l k) (andThen (isMinus s) (magnitudeOf
 
 -- ---- the same as the code answers it
 
-abbrev pub wordOf : Value → Word
-wordOf missing = missingWord
-wordOf (one n m) = oneWord n m
-wordOf twice = twiceWord
+abbrev pub wordSaying : Value → Word
+wordSaying missing = missingWord
+wordSaying (one n m) = oneWord n m
+wordSaying twice = twiceWord
 
 abbrev pub answerOf : (formed : Bool) → Words → Line
 answerOf formed ws = record { formed = formed; once = onceOf ws; words = ws }
 
 -- the answer about a line of items
 abbrev pub saidBy : List Item → Line
-saidBy is = answerOf true (wordsBy (λ l. wordOf (says l is)))
+saidBy is = answerOf true (wordsBy (λ l. wordSaying (says l is)))
 
 -- the answer about bytes that are no line of words
 abbrev pub notWords : Line

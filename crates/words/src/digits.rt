@@ -2,7 +2,7 @@
 ghost use mathlib.Core.Path.{_≡_};
 ghost use Prim.Native.Nat.{_≤_, _<_};
 ghost use lib.ListN.{length, drop};
-ghost use Rattle.words.specs.computed.Scan.{firstOf, isDigit, digitsOf, Sized};
+ghost use Rattle.words.specs.computed.Scan.{firstByte, isDigit, digitsOf, Sized};
 
 // What was read: the number that the digits write, after those that stood before, and how many of them there are.
 pub struct Digits {
@@ -13,7 +13,7 @@ pub struct Digits {
 // After its last byte a line has a blank more: it ends the last number and changes nothing else.
 pub fn byte_at(s: &[u8], i: usize) -> u8
     requires { ⌜ i ≤ length (now s) ⌝ }
-    ensures { λ r. ⌜ r ≡ firstOf (drop i (now (s .entry))) ⌝ }
+    ensures { λ r. ⌜ r ≡ firstByte (drop i (now (s .entry))) ⌝ }
 {
     if i < s.len() { s[i] } else { b' ' }
 }

@@ -7,7 +7,7 @@ ghost use mathlib.Core.Path.{_≡_};
 ghost use mathlib.Core.Bool.{cond};
 ghost use Prim.Native.Nat.{_+_, _-_, _^_, _≤_};
 ghost use lib.ListN.{length, drop};
-ghost use Rattle.words.specs.computed.Scan.{firstOf, signOf, amountOf, numberOf};
+ghost use Rattle.words.specs.computed.Scan.{firstByte, signOf, amountOf, numberOf};
 
 pub struct Sign {
     pub negative: bool,
@@ -40,7 +40,7 @@ fn one_if(b: bool) -> usize
 // A sign where the letter takes one. Signs come as they like, so this is written for a compiler to need no jump.
 fn read_sign(s: &[u8], from: usize, takes: bool) -> Sign
     requires { ⌜ from ≤ length (now s) ⌝ }
-    ensures { λ r. ⌜ r ≡ signOf takes (firstOf (drop from (now (s .entry)))) ⌝ }
+    ensures { λ r. ⌜ r ≡ signOf takes (firstByte (drop from (now (s .entry)))) ⌝ }
     ensures { λ r. ⌜ from + r .bytes ≤ length (now (s .entry)) ⌝ }
 {
     if !takes {

@@ -1,5 +1,4 @@
--- To be believed: Work. Rest is what inner functions compute, computed what they ask. Proved of them: laws.
+-- To be believed: Work. What the code computes, or asks of its callers: computed. Proved: laws.
 pub mod Work
-pub mod Rest
 pub mod computed
 pub mod laws

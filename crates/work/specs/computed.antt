@@ -1,1 +1,3 @@
 pub mod Work
+pub mod Rest
+pub mod Asked

@@ -5,12 +5,13 @@ ghost use mathlib.Core.Bool.{true};
 ghost use Prim.Native.Nat.{_≤_};
 ghost use Rattle.plane.specs.Travel.{insideOf};
 ghost use Rattle.plane.specs.computed.Travel.{Wide};
-ghost use Rattle.line.specs.Line.{lineAt};
-ghost use Rattle.arc.specs.Arc.{OnArc};
+ghost use Rattle.line.specs.computed.Line.{lineAt};
+ghost use Rattle.arc.specs.computed.Arc.{StandsOnArc};
 ghost use Rattle.divider.specs.Divider.{fedOf};
-ghost use Rattle.work.specs.Work.{isNothing, lineSound, arcSound, workSound, lineCycle, arcCycle, cycleOf, feedOf, chargeOf, dueOf, addedOf, advanceOf};
+ghost use Rattle.work.specs.Work.{isNothing, feedOf, addedOf};
+ghost use Rattle.work.specs.computed.Work.{lineSound, arcSound, workSound, lineCycle, arcCycle, cycleOf, chargeOf, dueOf, advanceOf};
 ghost use Rattle.work.specs.Work.{begunOf};
-ghost use Rattle.work.specs.computed.Work.{Cycling, Ready, Loadable};
+ghost use Rattle.work.specs.computed.Asked.{Cycling, Ready, Loadable};
 use arc::arc::Arc;
 use block::Block;
 use block::Path;
@@ -130,7 +131,7 @@ fn line_cycle(at: Point, l: Line) -> Cycle
 }
 
 fn arc_cycle(at: Point, a: Arc) -> Cycle
-    requires { ⌜ OnArc a at ⌝ }
+    requires { ⌜ StandsOnArc a at ⌝ }
     ensures { λ r. ⌜ r ≡ arcCycle at a ⌝ }
 {
     let s = a.step(at);

@@ -1,7 +1,8 @@
 // What is left of the block in work, without walking to its end.
 ghost use mathlib.Core.Path.{_≡_};
 ghost use Rattle.work.specs.Work.{cyclesLeft, endOf};
-ghost use Rattle.work.specs.Rest.{Countable, leftOf, rootIn, Rooted};
+ghost use Rattle.work.specs.computed.Rest.{Countable, leftOf, Rooted};
+ghost use Rattle.work.specs.Work.{rootIn};
 use crate::Work;
 use circle::step::STRAIGHT;
 use plane::point::Point;

@@ -1,2 +1,2 @@
--- To be believed: Table.
+-- The worked examples: Table. Nothing is believed by it; the checker computes it.
 pub mod Table

@@ -16,23 +16,24 @@ use Rattle.circle.specs.declared.plane.Turn.{Turn}
 use Rattle.circle.specs.declared.plane.Turn.the-variants.{Clockwise, Counterclockwise}
 use Rattle.circle.specs.Circle.{excess, onCircle, offset}
 use Rattle.circle.specs.computed.Step.{afterOf}
-use Rattle.circle.specs.computed.Count.{cyclesOf as cycles}
-use Rattle.divider.specs.Divider.{addedAt, endTick, lastTick}
+use Rattle.circle.specs.computed.Count.{circleCycles as cycles}
+use Rattle.divider.specs.Divider.{addedAt, endTick}
+use Rattle.divider.specs.computed.Divider.{lastTick}
 use Rattle.arc.specs.declared.arc.Arc.{Arc}
-use Rattle.arc.specs.Arc.{arcAfter, arcCycles}
-use Rattle.line.specs.Line.{cyclesOf, pointOf}
+use Rattle.arc.specs.computed.Arc.{arcAfter, arcCycles}
+use Rattle.line.specs.Line.{lineCycles, linePoint}
 use Rattle.block.specs.declared.Block.{Block}
 use Rattle.block.specs.declared.Path.{Path}
 use Rattle.block.specs.Block.{blockCycles}
 use Rattle.block.specs.Charge.{blockCharge}
 use Rattle.work.specs.Work.{workAlong}
-use Rattle.run.specs.Run.{Strip, stripOf}
+use Rattle.run.specs.computed.Run.{Strip, stripOf}
 use Rattle.settings.specs.declared.Settings.{Settings}
 use Rattle.bench.specs.declared.Answer.{Answer}
 use Rattle.bench.specs.declared.Tick.{Tick}
 use Rattle.machine.specs.declared.Machine.{Machine}
 use Rattle.machine.specs.Machine.{freshOf}
-use Rattle.machine.specs.Calls.{loadOf, tickOf}
+use Rattle.machine.specs.computed.Calls.{loadOf, tickOf}
 
 abbrev pub at : (x y : ℤ) → Point
 at x y = record { x = x; y = y }
@@ -40,7 +41,8 @@ at x y = record { x = x; y = y }
 pub data Row : Type 0 where
   -- a line of these increments takes q cycles, and after each it is at the next of the points, seen from its start
   line : (a b : ℤ) (q : ℕ) (points : List Point) → Row
-  -- load of this block into a fresh machine with this upper X bound, its other settings standard, answers this number; 0 where it accepts it
+  -- load of this block into a fresh machine with this upper X bound, its other settings standard, answers this number; 0 where it accepts
+  -- it
   load : (upper : ℕ) → Block → (number : ℕ) → Row
   -- the same after these blocks were loaded, one after the other, into a standard machine
   loadAfter : List Block → Block → (number : ℕ) → Row
@@ -66,7 +68,7 @@ pub data Row : Type 0 where
 -- the points of a line from (0, 0): n of them, the first after cycle c
 unfoldable pub points : (end : Point) (n c : ℕ) → List Point
 points end zero c = []
-points end (suc n) c = pointOf (at (pos 0) (pos 0)) end c ∷ points end n (suc c)
+points end (suc n) c = linePoint (at (pos 0) (pos 0)) end c ∷ points end n (suc c)
 
 unfoldable pub same : (ps qs : List Point) → Bool
 same [] [] = true
@@ -96,7 +98,12 @@ numberOf (Answer.Refused number) = number
 
 -- p 50, w 5,000 and the widest travel but for this upper X bound
 abbrev pub boundedBy : (upper : ℕ) → Settings
-boundedBy upper = record { scale = 50; clock = 5000; travel = record { x = record { lower = widest .lower; upper = pos upper }; y = widest } }
+boundedBy upper = record {
+  scale = 50;
+  clock = 5000;
+  travel =
+      record { x = record { lower = widest .lower; upper = pos upper }; y = widest };
+}
 
 abbrev pub lineBy : (end : Point) (feed : ℕ) → Block
 lineBy end f = record { path = Path.Line; end = end; feed = f }
@@ -151,7 +158,7 @@ toAndFro zero = []
 toAndFro (suc n) = lineTo (at (pos 1) (pos 0)) ∷ lineTo (at (pos 0) (pos 0)) ∷ toAndFro n
 
 unfoldable pub holds : Row → Bool
-holds (line a b q ps) = eqb (cyclesOf (at (pos 0) (pos 0)) (at a b)) q && same (points (at a b) q 1) ps
+holds (line a b q ps) = eqb (lineCycles (at (pos 0) (pos 0)) (at a b)) q && same (points (at a b) q 1) ps
 holds (load upper b number) = eqb (numberOf (loadOf (freshOf (boundedBy upper)) b .answer)) number
 holds (loadAfter bs b number) = eqb (numberOf (loadOf (loaded (freshOf (boundedBy 1000000)) bs) b .answer)) number
 holds (queued bs bytes p waiting left) =
@@ -164,7 +171,8 @@ holds (fullTurn N turn start k) = eqb (cycles N turn start start) k
 holds (endTest N end F accepted) = equalZ (excess N end) F && Bool·beq (onCircle N end) accepted
 holds (bounded a start k upper accepted) =
     eqb (arcCycles a start) k
-    && Bool·beq (visitsInside (record { x = record { lower = widest .lower; upper = pos upper }; y = widest }) (arcAfter a start) (arcCycles a start)) accepted
+    && Bool·beq (visitsInside (record { x = record { lower = widest .lower; upper = pos upper }; y = widest }) (arcAfter a start)
+    (arcCycles a start)) accepted
 holds (ends q0 f r C k tick) = eqb (lastTick (C * q0) (addedAt f) r k) tick
 holds (gives q0 f r C tick) = eqb (endTick (C * q0) (addedAt f) r) tick
 holds (charged b cs) = sameNumbers (chargesFrom b (blockCycles (at (pos 0) (pos 0)) b) 0) cs
@@ -191,9 +199,11 @@ table =
     ∷ line (pos 3) (pos 4) 5 (at (pos 1) (pos 1) ∷ at (pos 1) (pos 2) ∷ at (pos 2) (pos 2) ∷ at (pos 2) (pos 3) ∷ at (pos 3) (pos 4) ∷ [])
     -- "Line (0, 0): 13."
     ∷ load 1000000 (lineTo (at (pos 0) (pos 0))) 13
-    -- "N 25 from (5, 0) kind 3 to (0, 5), seen from the centre: (5, 1), (5, 2), (4, 3), (3, 4), (2, 5), (1, 5), (0, 5); seven cycles, as source 003's table."
+    -- "N 25 from (5, 0) kind 3 to (0, 5), seen from the centre: (5, 1), (5, 2), (4, 3), (3, 4), (2, 5), (1, 5), (0, 5); seven cycles, as
+    -- source 003's table."
     ∷ arc 25 Counterclockwise (offset (pos 5) (pos 0)) (offset (pos 0) (pos 5))
-    (offset (pos 5) (pos 1) ∷ offset (pos 5) (pos 2) ∷ offset (pos 4) (pos 3) ∷ offset (pos 3) (pos 4) ∷ offset (pos 2) (pos 5) ∷ offset (pos 1) (pos 5) ∷ offset (pos 0) (pos 5) ∷ [])
+    (offset (pos 5) (pos 1) ∷ offset (pos 5) (pos 2) ∷ offset (pos 4) (pos 3) ∷ offset (pos 3) (pos 4) ∷ offset (pos 2) (pos 5) ∷ offset
+    (pos 1) (pos 5) ∷ offset (pos 0) (pos 5) ∷ [])
     -- "N 25, full turn: 28 cycles. N 1: 4. N 2: 8."
     ∷ fullTurn 25 Counterclockwise (offset (pos 5) (pos 0)) 28
     ∷ fullTurn 25 Clockwise (offset (pos 5) (pos 0)) 28
@@ -212,7 +222,8 @@ table =
     ∷ load 4 (arcTo Counterclockwise (offset (pos 0) (pos 5)) (at (pos 0) (pos 10))) 16
     -- a clockwise arc that is not a full turn: the first one back
     ∷ arc 25 Clockwise (offset (pos 0) (pos 5)) (offset (pos 5) (pos 0))
-    (offset (pos 1) (pos 5) ∷ offset (pos 2) (pos 5) ∷ offset (pos 3) (pos 4) ∷ offset (pos 4) (pos 3) ∷ offset (pos 5) (pos 2) ∷ offset (pos 5) (pos 1) ∷ offset (pos 5) (pos 0) ∷ [])
+    (offset (pos 1) (pos 5) ∷ offset (pos 2) (pos 5) ∷ offset (pos 3) (pos 4) ∷ offset (pos 4) (pos 3) ∷ offset (pos 5) (pos 2) ∷ offset
+    (pos 5) (pos 1) ∷ offset (pos 5) (pos 0) ∷ [])
     -- "q0 300,000, r 0, k 1: f 150,000 ends on tick 2, 149,999 on tick 3.": one cycle, charged 1,000
     ∷ ends 300000 150000 0 1000 1 2
     ∷ ends 300000 149999 0 1000 1 3

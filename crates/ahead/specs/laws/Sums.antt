@@ -13,27 +13,30 @@ use Rattle.plane.specs.Point.{equalPoint}
 use Rattle.plane.specs.Pulse.{pulseOf, shiftedOf, pulsesBetween}
 use Rattle.plane.specs.Byte.{cycleByte, codeX, codeY}
 use Rattle.plane.specs.laws.Byte.{told}
-use Rattle.plane.specs.laws.Travel.{Inside, inside}
-use Rattle.line.specs.Line.{pointOf, steppedOf}
+use Rattle.plane.specs.laws.Travel.{Bounded, inside}
+use Rattle.line.specs.Line.{linePoint}
+use Rattle.line.specs.computed.Line.{steppedOf}
 use Rattle.line.specs.laws.Pulses.{point-next, pulses-next}
 use Rattle.line.specs.laws.Work.{some-cycle}
-use Rattle.arc.specs.Arc.{arcAfter, arcStepped}
+use Rattle.arc.specs.computed.Arc.{arcAfter, arcStepped}
 use Rattle.arc.specs.laws.Step.{after-none}
 use Rattle.divider.specs.Divider.{fedOf}
 use Rattle.work.specs.declared.Work.{Work}
-use Rattle.work.specs.Work.{isNothing, workSound, lineCycle, arcCycle, cycleOf, dueOf, addedOf, advanceBy, advanceOf}
+use Rattle.work.specs.Work.{isNothing, addedOf}
+use Rattle.work.specs.computed.Work.{workSound, lineCycle, arcCycle, cycleOf, dueOf, advanceBy, advanceOf}
 use Rattle.work.specs.laws.Sound.{line-work, arc-work}
 use Rattle.settings.specs.Settings.{capacityOf}
 use Rattle.bench.specs.declared.Bench.{Bench}
 use Rattle.bench.specs.declared.Tick.{Tick}
-use Rattle.bench.specs.Bench.{soundOf, movedOf}
-use Rattle.bench.specs.Calls.{ticks, working, tickOf}
+use Rattle.bench.specs.computed.Bench.{soundOf}
+use Rattle.bench.specs.Bench.{movedOf}
+use Rattle.bench.specs.computed.Calls.{ticks, working, tickOf}
 use Rattle.bench.specs.laws.Sound.{sound}
-use Rattle.keeps.specs.laws.Calls.{tick-keeps}
+use Rattle.invariant.specs.laws.Calls.{tick-keeps}
 use Rattle.book.specs.Sums.{pulsesIn}
 use Rattle.book.specs.laws.Byte.{sent-one, onward}
 use Rattle.book.specs.laws.Way.{arc-way}
-use Rattle.ahead.specs.Ahead.{inFront, tickingOf}
+use Rattle.ahead.specs.computed.Ahead.{inFront, tickingOf}
 
 -- these bytes lead from one point to the other
 pub record Leads (from : Point) (bytes : List ℕ) (to : Point) : Type 0 where
@@ -73,22 +76,22 @@ leads-byte from to last e =
 -- ---- a cycle, a working tick, a tick
 
 module _ (q0 : ℕ) (t : Travel) (at : Point) where
-  cycle-leads : (w : Work) → Inside t at → workSound q0 t at w ≡ true → Leads at (cycleOf at w .byte ∷ []) (cycleOf at w .at)
+  cycle-leads : (w : Work) → Bounded t at → workSound q0 t at w ≡ true → Leads at (cycleOf at w .byte ∷ []) (cycleOf at w .at)
   unfolding workSound cycleOf lineCycle arcCycle steppedOf arcStepped
   cycle-leads Work.Nothing here e = leads-zero at
   cycle-leads (Work.Line l) here e =
       let i = line-work e .line in
       let some = some-cycle l (i .drawing) in
-      let here = pointOf (l .start) (l .end) (l .done) in
+      let here = linePoint (l .start) (l .end) (l .done) in
       let pulses = sym (pulses-next (l .start) (l .end) some (l .done)) in
       rw (i .reached)
-      (leads-byte here (pointOf (l .start) (l .end) (l .done + 1)) (eqb (l .done + 1) (l .cycles))
+      (leads-byte here (linePoint (l .start) (l .end) (l .done + 1)) (eqb (l .done + 1) (l .cycles))
       (point-next (l .start) (l .end) some (l .done) ∙ ap (shiftedOf here) pulses))
   cycle-leads (Work.Arc a) here e =
       leads-byte at (arcAfter a at 1) (equalPoint (arcAfter a at 1) (a .end))
       (rw (after-none a at) at (arc-way here (arc-work e .arc) .pulses 0))
 
-  advance-leads : (r : ℕ) (w : Work) → Inside t at → workSound q0 t at w ≡ true
+  advance-leads : (r : ℕ) (w : Work) → Bounded t at → workSound q0 t at w ≡ true
       → Leads at (advanceOf q0 at r w .byte ∷ []) (advanceOf q0 at r w .at)
   unfolding advanceOf
   advance-leads r w here e = by (fedOf (dueOf q0 at w) (addedOf w) r .cycle)

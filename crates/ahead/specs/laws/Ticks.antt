@@ -2,24 +2,26 @@
 use mathlib.Core.Path.{_≡_, refl, sym, ap, subst, _∙_}
 use mathlib.Core.Bool.{Bool, true, false, _&&_, _||_, not}
 use mathlib.Core.List.{List, [], _∷_}
-use Prim.Native.Nat.{ℕ, zero, suc, _+_, _≤_}
+use Prim.Native.Nat.{ℕ, zero, suc, _≤_}
 use native.Mathlib.Omega.{arith}
 use lib.ListN.{length, take}
 use Rattle.work.specs.declared.Advance.{Advance}
-use Rattle.work.specs.Work.{isNothing, advanceOf}
-use Rattle.run.specs.Run.{Strip, inFront, stripOf}
+use Rattle.work.specs.Work.{isNothing}
+use Rattle.work.specs.computed.Work.{advanceOf}
+use Rattle.run.specs.computed.Run.{Strip, inFront, stripOf}
 use Rattle.settings.specs.Settings.{capacityOf}
 use Rattle.bench.specs.declared.Bench.{Bench}
 use Rattle.bench.specs.declared.Tick.{Tick}
 use Rattle.bench.specs.declared.Ticked.{Ticked}
-use Rattle.bench.specs.Bench.{soundOf, movedOf}
-use Rattle.bench.specs.Calls.{ticks, working, tickOf}
+use Rattle.bench.specs.computed.Bench.{soundOf}
+use Rattle.bench.specs.Bench.{movedOf}
+use Rattle.bench.specs.computed.Calls.{ticks, working, tickOf}
 use Rattle.bench.specs.laws.Calls.{tick-works}
-use Rattle.keeps.specs.laws.Calls.{tick-keeps}
-use Rattle.finish.specs.Finish.{worksOf}
+use Rattle.invariant.specs.laws.Calls.{tick-keeps}
+use Rattle.finish.specs.computed.Finish.{worksOf}
 use Rattle.finish.specs.laws.Record.{AtWork}
-use Rattle.ahead.specs.Ahead.{tickingOf}
-use Rattle.ahead.specs.Ahead.{inFront as tickInFront}
+use Rattle.ahead.specs.computed.Ahead.{tickingOf}
+use Rattle.ahead.specs.computed.Ahead.{inFront as tickInFront}
 
 -- ---- any sound record
 
@@ -27,13 +29,6 @@ pub ticking-sound : (n : ℕ) (m : Bench) → soundOf m ≡ true → soundOf (ti
 unfolding tickingOf
 ticking-sound zero m e = e
 ticking-sound (suc n) m e = ticking-sound n (tickOf m .bench) (tick-keeps m e)
-
-pub ticking-adds : (s t : ℕ) (m : Bench) → tickingOf (s + t) m .bench ≡ tickingOf t (tickingOf s m .bench) .bench
-unfolding tickingOf
-ticking-adds zero t m = let none : 0 + t ≡ t = omega arith in ap (λ (n : ℕ). tickingOf n m .bench) none
-ticking-adds (suc s) t m =
-    let one : suc s + t ≡ suc (s + t) = omega arith in
-    ap (λ (n : ℕ). tickingOf n m .bench) one ∙ ticking-adds s t (tickOf m .bench)
 
 -- ---- idle or held
 

@@ -12,20 +12,21 @@ use Rattle.whole.specs.laws.Test.{same-test}
 use Rattle.plane.specs.declared.point.Point.{Point}
 use Rattle.plane.specs.declared.travel.Travel.{Travel}
 use Rattle.plane.specs.Travel.{visitsInside}
-use Rattle.plane.specs.laws.Travel.{Inside, visits, visits-test}
+use Rattle.plane.specs.laws.Travel.{Bounded, visits, visits-test}
 use Rattle.circle.specs.declared.plane.Offset.{Offset}
 use Rattle.circle.specs.Circle.{Circle}
 use Rattle.circle.specs.Next.{ToVisit}
 use Rattle.circle.specs.computed.Step.{afterOf}
-use Rattle.circle.specs.computed.Count.{cyclesOf}
+use Rattle.circle.specs.computed.Count.{circleCycles}
 use Rattle.circle.specs.laws.Walk.{walk-of, walk-to, ends, ends-cycles}
 use Rattle.clearance.specs.declared.Room.{Room}
-use Rattle.clearance.specs.Inside.{Inside as InRoom}
+use Rattle.clearance.specs.computed.Inside.{Inside as InRoom}
 use Rattle.clearance.specs.computed.Travel.{staysInside}
 use Rattle.clearance.specs.laws.Inside.{stays-inside}
 use Rattle.arc.specs.declared.arc.Arc.{Arc}
-use Rattle.arc.specs.Centre.{seenFrom, backFrom, roomOf}
-use Rattle.arc.specs.Arc.{OnArc, arcAfter, arcCycles}
+use Rattle.arc.specs.Centre.{seenFrom, backFrom}
+use Rattle.arc.specs.computed.Centre.{roomOf}
+use Rattle.arc.specs.computed.Arc.{StandsOnArc, arcAfter, arcCycles}
 use Rattle.arc.specs.laws.Centre.{back-seen}
 use Rattle.arc.specs.laws.Step.{circles, circle-here, circle-there}
 
@@ -46,13 +47,13 @@ side-above c o l h =
     to-≤ℤ (negℤ o) (c -ℤ l) (omega (arith, negated (parts o), added (parts c) (parts o), added (parts c) (negated (parts l))))
 
 module _ (t : Travel) (c : Point) (o : Offset) where
-  pub on-table : InRoom (roomOf t c) o → Inside t (backFrom c o)
+  pub on-table : InRoom (roomOf t c) o → Bounded t (backFrom c o)
   on-table i = record {
     x = record { above = above-side (c .x) (o .x) (t .x .lower) (i .left); below = below-side (c .x) (o .x) (t .x .upper) (i .right) };
     y = record { above = above-side (c .y) (o .y) (t .y .lower) (i .down); below = below-side (c .y) (o .y) (t .y .upper) (i .up) };
   }
 
-  pub from-centre : Inside t (backFrom c o) → InRoom (roomOf t c) o
+  pub from-centre : Bounded t (backFrom c o) → InRoom (roomOf t c) o
   from-centre i = record {
     right = side-below (c .x) (o .x) (t .x .upper) (i .x .below);
     up = side-below (c .y) (o .y) (t .y .upper) (i .y .below);
@@ -62,14 +63,14 @@ module _ (t : Travel) (c : Point) (o : Offset) where
 
 -- ---- the test without a walk says that every point still to visit is in travel
 
-module _ (a : Arc) (at : Point) (on : OnArc a at) where
+module _ (a : Arc) (at : Point) (on : StandsOnArc a at) where
   on-here : Circle (a .square) (seenFrom (a .centre) at)
   on-here = circle-here a at (circles on)
 
   on-there : Circle (a .square) (seenFrom (a .centre) (a .end))
   on-there = circle-there a at (circles on)
 
-  pub stays-visits : (t : Travel) → Inside t at
+  pub stays-visits : (t : Travel) → Bounded t at
       → staysInside (roomOf t (a .centre)) (a .square) (a .turn) (seenFrom (a .centre) at) (seenFrom (a .centre) (a .end))
       ≡ visitsInside t (arcAfter a at) (arcCycles a at)
   unfolding arcAfter arcCycles
@@ -90,10 +91,10 @@ module _ (a : Arc) (at : Point) (on : OnArc a at) where
       test : (staysInside room N (a .turn) p e ≡ true) ↔ (InRoom room p × ((q : Offset) → ToVisit N (a .turn) p e q → InRoom room q))
       test = stays-inside (a .turn) room p e on-here on-there
 
-      to-visit : (c : ℕ) → 1 ≤ c → c ≤ cyclesOf N (a .turn) p e → ToVisit N (a .turn) p e (afterOf N (a .turn) p c)
+      to-visit : (c : ℕ) → 1 ≤ c → c ≤ circleCycles N (a .turn) p e → ToVisit N (a .turn) p e (afterOf N (a .turn) p c)
       to-visit c some most =
           record {
-            cycles = cyclesOf N (a .turn) p e;
+            cycles = circleCycles N (a .turn) p e;
             ends = ends (a .turn) e on-there p on-here;
             cycle = c;
             begun = some;
@@ -102,12 +103,12 @@ module _ (a : Arc) (at : Point) (on : OnArc a at) where
           }
 
       to : staysInside room N (a .turn) p e ≡ true
-          → visitsInside t (λ c. backFrom (a .centre) (afterOf N (a .turn) p c)) (cyclesOf N (a .turn) p e) ≡ true
+          → visitsInside t (λ c. backFrom (a .centre) (afterOf N (a .turn) p c)) (circleCycles N (a .turn) p e) ≡ true
       to h =
           visits-test t _ _
           (λ c some most. on-table t (a .centre) (afterOf N (a .turn) p c) (test .0 h .1 (afterOf N (a .turn) p c) (to-visit c some most)))
 
-      from : visitsInside t (λ c. backFrom (a .centre) (afterOf N (a .turn) p c)) (cyclesOf N (a .turn) p e) ≡ true
+      from : visitsInside t (λ c. backFrom (a .centre) (afterOf N (a .turn) p c)) (circleCycles N (a .turn) p e) ≡ true
           → staysInside room N (a .turn) p e ≡ true
       from v =
           test .1 (

@@ -21,9 +21,9 @@ use Rattle.charges.specs.laws.Sum.{charges-range, charges-closed, charges-front
 use Rattle.charges.specs.laws.Paid.{Grows, Most, most-unique, charges-grow}
 use Rattle.arc.specs.declared.arc.Arc.{Arc}
 use Rattle.arc.specs.Centre.{seenFrom}
-use Rattle.arc.specs.Arc.{arcAfter, arcCycles}
-use Rattle.arc.specs.Charge.{arcCharge, arcChargesIn, arcCharges, arcPaidOf}
-use Rattle.arc.specs.Stepper.{arcTracer}
+use Rattle.arc.specs.computed.Arc.{arcAfter, arcCycles}
+use Rattle.arc.specs.computed.Charge.{arcCharge, arcChargesIn, arcCharges, arcPaidOf}
+use Rattle.arc.specs.computed.Stepper.{arcTracer}
 use Rattle.arc.specs.laws.Step.{Circles, seen-after, seen-next, circle-here, circle-there, last-cycle, more-cycles}
 
 pub arc-charge-range : (a : Arc) (at : Point) → (1000 ≤ arcCharge a at) × (arcCharge a at ≤ 1414)

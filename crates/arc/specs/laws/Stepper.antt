@@ -20,14 +20,15 @@ use Rattle.circle.specs.declared.step.Move.{Move}
 use Rattle.circle.specs.declared.step.Move.the-variants.{Rise, Slant, Fall}
 use Rattle.circle.specs.declared.step.Stepper.{Stepper}
 use Rattle.circle.specs.computed.Step.{nextQuadrant, stepOf, afterOf}
-use Rattle.circle.specs.computed.Stepper.{enterOf, leaveOf, moveOf, advanceOf, pulseOf, Entered}
+use Rattle.circle.specs.computed.Stepper.{enterOf, leaveOf, moveOf, advancedBy, stepPulse, Entered}
 use Rattle.circle.specs.laws.Circle.{on-circle-small}
 use Rattle.circle.specs.laws.Stepper.{entered-bounds, enter-entered, advance-enter, advance-turn, leave-enter, pulse-enter}
 use Rattle.arc.specs.declared.arc.Arc.{Arc}
 use Rattle.arc.specs.declared.stepper.Tracer.{Tracer}
-use Rattle.arc.specs.Centre.{Reach, seenFrom, backFrom}
-use Rattle.arc.specs.Arc.{arcAfter, arcStepped}
-use Rattle.arc.specs.Stepper.{wayCode, moveCode, pickCode, tracerOf, arcTracer, tracedOf, tracerAt, Tracing}
+use Rattle.arc.specs.computed.Centre.{Reach}
+use Rattle.arc.specs.Centre.{seenFrom, backFrom}
+use Rattle.arc.specs.computed.Arc.{arcAfter, arcStepped}
+use Rattle.arc.specs.computed.Stepper.{wayCode, moveCode, pickCode, tracerOf, arcTracer, tracedOf, tracerAt, Tracing}
 use Rattle.arc.specs.laws.Centre.{back-seen}
 use Rattle.arc.specs.laws.Step.{Circles, seen-next}
 
@@ -86,9 +87,9 @@ pick-code t (suc (suc (suc (suc k)))) h Slant = absurd (omega arith)
 -- ---- one cycle, as the code puts it together
 
 module _ (t : Tracer) (h : Tracing t) {code : ℕ} (picked : code ≡ pickCode (t .rise) (t .fall) (t .next))
-    {s : Stepper} (e : s ≡ advanceOf (t .circle)) where
-  picked-is : code ≡ wayCode (pulseOf (t .circle))
-  unfolding pulseOf moveCode
+    {s : Stepper} (e : s ≡ advancedBy (t .circle)) where
+  picked-is : code ≡ wayCode (stepPulse (t .circle))
+  unfolding stepPulse moveCode
   picked-is =
       picked
       ∙ (λ i. pickCode (h .is i .rise) (h .is i .fall) (h .is i .next))
@@ -99,7 +100,7 @@ module _ (t : Tracer) (h : Tracing t) {code : ℕ} (picked : code ≡ pickCode (
       → record { tracer = record { circle = s; rise = t .rise; fall = t .fall; next = m }; code = code } ≡ tracedOf t
   unfolding tracedOf
   traced-on same {m} n =
-      let u = advanceOf (t .circle) in
+      let u = advancedBy (t .circle) in
       let stays : (m : Move) → moveCode (t .circle .turn) (t .circle .quadrant) m ≡ moveCode (u .turn) (u .quadrant) m =
       λ m. ap₂ (λ (u : Turn) (k : ℕ). moveCode u k m) (sym (advance-turn (t .circle))) (sym same ∙ ap (λ (x : Stepper). x .quadrant) e) in
       let rise = ap (λ (x : Tracer). x .rise) (h .is) ∙ stays Rise in
@@ -153,7 +154,7 @@ across : (c p s : ℤ) → (c +ℤ s) -ℤ p ≡ s -ℤ (p -ℤ c)
 across c p s = ring ((var c ⊕ var s) ⊖ var p) (var s ⊖ (var p ⊖ var c)) (omega arith)
 
 module _ (a : Arc) (at : Point) (on : Circles a at) where
-  code-is : wayCode (pulseOf (enterOf (a .square) (a .turn) (seenFrom (a .centre) at))) ≡ bothCodes (arcStepped a at .pulses)
+  code-is : wayCode (stepPulse (enterOf (a .square) (a .turn) (seenFrom (a .centre) at))) ≡ bothCodes (arcStepped a at .pulses)
   unfolding wayCode arcStepped arcAfter afterOf
   code-is =
       let s = stepOf (a .square) (a .turn) (seenFrom (a .centre) at) in

@@ -16,7 +16,7 @@ use Rattle.circle.specs.laws.Next.{step-close}
 use Rattle.circle.specs.laws.Stepper.{after-on}
 use Rattle.arc.specs.declared.arc.Arc.{Arc}
 use Rattle.arc.specs.Centre.{seenFrom}
-use Rattle.arc.specs.Arc.{arcCycles}
+use Rattle.arc.specs.computed.Arc.{arcCycles}
 use Rattle.arc.specs.laws.Step.{Circles, seen-after, arc-end}
 
 -- two ways, one after the other

@@ -11,11 +11,11 @@ use Rattle.plane.specs.declared.travel.Travel.{Travel}
 use Rattle.plane.specs.Travel.{insideOf, visitsInside}
 use Rattle.plane.specs.Point.{Near}
 use Rattle.plane.specs.computed.Travel.{Wide}
-use Rattle.plane.specs.laws.Travel.{Inside, inside, visits, visits-test, travel-near}
+use Rattle.plane.specs.laws.Travel.{InRange, Bounded, inside, inside-test, visits, visits-test, travel-near}
 use Rattle.circle.specs.Circle.{onCircle}
 use Rattle.arc.specs.declared.arc.Arc.{Arc}
 use Rattle.arc.specs.Centre.{seenFrom}
-use Rattle.arc.specs.Arc.{OnArc, arcAfter, arcCycles, arcAt, centres}
+use Rattle.arc.specs.computed.Arc.{StandsOnArc, arcAfter, arcCycles, arcAt, centres}
 use Rattle.arc.specs.laws.Step.{Circles, cycles-bounds, arc-end, more-cycles, next-circles, after-next}
 
 -- a number between -b and b has at most the magnitude b
@@ -54,16 +54,17 @@ module _ {t : Travel} {a : Arc} {at : Point} (i : ArcAt t a at) where
   both-on : Circles a at
   both-on = record { on = i .on; end-on = i .end-on }
 
-  pub visited : (c : ℕ) → 1 ≤ c → c ≤ arcCycles a at → Inside t (arcAfter a at c)
+  pub visited : (c : ℕ) → 1 ≤ c → c ≤ arcCycles a at → Bounded t (arcAfter a at c)
   visited c some most = visits t (arcAfter a at) (arcCycles a at) (i .stays) c some most
 
-  pub end-inside : Inside t (a .end)
-  end-inside = let b = cycles-bounds a at both-on in subst (Inside t) (arc-end a at both-on) (visited (arcCycles a at) (b .0) (omega arith))
+  pub end-inside : Bounded t (a .end)
+  end-inside = let b = cycles-bounds a at both-on in
+      subst (Bounded t) (arc-end a at both-on) (visited (arcCycles a at) (b .0) (omega arith))
 
-  pub next-inside : Inside t (arcAfter a at 1)
+  pub next-inside : Bounded t (arcAfter a at 1)
   next-inside = visited 1 (omega arith) (cycles-bounds a at both-on .0)
 
-  pub on-arc : Wide t → Inside t at → OnArc a at
+  pub on-arc : Wide t → Bounded t at → StandsOnArc a at
   on-arc w here =
       record {
         centre = centre-near (i .centre);
@@ -85,3 +86,11 @@ module _ {t : Travel} {a : Arc} {at : Point} (i : ArcAt t a at) where
             visits-test t _ _
             (λ c some most. rw (after-next a at c) (visited (suc c) (omega arith) (omega (arith, more-cycles a at both-on f))));
       }
+
+-- a centre within ±2,000,000 is one that the test of an arc lets through
+pub centre-inside : (p : Point) → Near 2000000 p → insideOf centres p ≡ true
+centre-inside p n = inside-test {t = centres} {p = p} (record { x = by (p .x) (n .x); y = by (p .y) (n .y) })
+  where
+    by : (z : ℤ) → natAbs z ≤ 2000000 → InRange (centres .x) z
+    by (pos a) h = record { above = omega arith; below = omega arith }
+    by (negsuc a) h = record { above = omega arith; below = omega arith }

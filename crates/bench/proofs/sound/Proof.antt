@@ -6,7 +6,7 @@ use native.Mathlib.Omega.{arith}
 use borrow.Author.Tests.{not-true, not-false}
 use Rattle.whole.specs.laws.Test.{refuted, same-test}
 use Rattle.plane.specs.Travel.{insideOf}
-use Rattle.settings.specs.Settings.{settingsNo}
+use Rattle.settings.specs.computed.Settings.{settingsNo}
 use Rattle.settings.specs.laws.Right.{settings-right}
 use Rattle.bench.specs.laws.Sound.{sound, sound-test}
 use Rattle.bench.proofs.sound.Statement.{statement}
@@ -16,7 +16,9 @@ use Rattle.bench.proofs.sound.Tie as tie
 settings-pass : (c : tie.Else1) → settingsNo (c .before .before .args .settings) ≡ 0
 settings-pass c = sym (c .before .settings-no .ensures) ∙ c .if1 .left
 
-in-travel : (c : tie.Else2) → insideOf (c .before .before .before .before .before .args .settings .travel) (c .before .before .before .before .before .args .at) ≡ true
+in-travel : (c : tie.Else2)
+    → insideOf (c .before .before .before .before .before .args .settings .travel) (c .before .before .before .before .before .args .at)
+    ≡ true
 in-travel c = sym (c .before .inside .ensures) ∙ not-false _ (c .if2 .left)
 
 settings-no-requires : tie.Need-settings-no-requires
@@ -41,7 +43,10 @@ returns-3 : tie.Need-returns-3
 returns-3 c = sym (refuted _ (λ e. omega (arith, sound e .below, c .before .capacity .ensures)))
 
 work-sound-requires : tie.Need-work-sound-requires
-work-sound-requires c κs = (settings-right _ (settings-pass (c .before .before .before .before .before)) .wide, in-travel (c .before .before))
+work-sound-requires c κs = (
+  settings-right _ (settings-pass (c .before .before .before .before .before)) .wide,
+  in-travel (c .before .before),
+)
 
 returns-4 : tie.Need-returns-4
 returns-4 c =

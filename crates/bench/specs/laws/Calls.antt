@@ -4,15 +4,19 @@ use mathlib.Core.Bool.{true, false}
 use Prim.Native.Nat.{ℕ, zero, suc}
 use Rattle.block.specs.declared.Block.{Block}
 use Rattle.work.specs.declared.Advance.{Advance}
-use Rattle.work.specs.Work.{isNothing, advanceOf}
+use Rattle.work.specs.Work.{isNothing}
+use Rattle.work.specs.computed.Work.{advanceOf}
 use Rattle.settings.specs.declared.Settings.{Settings}
 use Rattle.bench.specs.declared.Bench.{Bench}
 use Rattle.bench.specs.declared.Answer.{Answer}
-use Rattle.settings.specs.Settings.{capacityOf, settingsNo, standardSettings}
-use Rattle.bench.specs.Bench.{soundOf, freshOf}
-use Rattle.bench.specs.Calls.{answers, makeWith, makeOf, loadWith, working, tickOf}
+use Rattle.settings.specs.Settings.{capacityOf, standardSettings}
+use Rattle.settings.specs.computed.Settings.{settingsNo}
+use Rattle.bench.specs.computed.Bench.{soundOf}
+use Rattle.bench.specs.Bench.{freshOf}
+use Rattle.bench.specs.computed.Calls.{answers, makeWith, makeOf, loadWith, working, tickOf}
 
-pub make-refused : (s : Settings) {n : ℕ} → n ≡ settingsNo s → (n ≡ 0 → ⊥) → answers (Answer.Refused n) (freshOf standardSettings) ≡ makeOf s
+pub make-refused : (s : Settings) {n : ℕ} → n ≡ settingsNo s → (n ≡ 0 → ⊥)
+    → answers (Answer.Refused n) (freshOf standardSettings) ≡ makeOf s
 unfolding makeOf
 make-refused s {n} e some = by n some ∙ ap (makeWith s) e
   where

@@ -7,13 +7,14 @@ use lib.Dec.{leb}
 use lib.ListN.{length}
 use Rattle.work.specs.Work.{isNothing}
 use Rattle.run.specs.declared.Ran.{Ran as Work}
-use Rattle.run.specs.Run.{Strip, stripOf, ranOf, written}
+use Rattle.run.specs.computed.Run.{Strip, stripOf, ranOf, written}
 use Rattle.bench.specs.declared.Bench.{Bench}
 use Rattle.bench.specs.declared.Report.{Report}
 use Rattle.bench.specs.declared.Ran.{Ran}
 use Rattle.settings.specs.Settings.{capacityOf}
-use Rattle.bench.specs.Bench.{soundOf, movedOf}
-use Rattle.bench.specs.Run.{Run, reportOf, ranOver, noTick, runOf}
+use Rattle.bench.specs.computed.Bench.{soundOf}
+use Rattle.bench.specs.Bench.{movedOf}
+use Rattle.bench.specs.computed.Run.{Run, reportOf, ranOver, noTick, runOf}
 
 module _ (m : Bench) (budget : ℕ) (out : List ℕ) where
   -- what a run promises of its answer and of its buffer
@@ -41,7 +42,8 @@ module _ (m : Bench) (budget : ℕ) (out : List ℕ) where
   abbrev pub ticking : Strip
   ticking = stripOf (capacityOf (m .settings)) (min budget (length out)) (m .at) (m .remainder) (m .work)
 
-  pub run-works : soundOf m ≡ true → isNothing (m .work) ≡ false → m .held ≡ false → {r : Work} {after : List ℕ} → r ≡ ranOf ticking → after ≡ written (ticking .bytes) out
+  pub run-works : soundOf m ≡ true → isNothing (m .work) ≡ false → m .held ≡ false → {r : Work} {after : List ℕ} → r ≡ ranOf ticking
+      → after ≡ written (ticking .bytes) out
       → Done
       (record {
         report = reportOf (r .ended) (leb budget (r .ticks));
@@ -56,10 +58,12 @@ module _ (m : Bench) (budget : ℕ) (out : List ℕ) where
 -- as many ticks as bytes
 pub ticks-are : (m : Bench) (budget buffer : ℕ) → runOf m budget buffer .ran .ticks ≡ length (runOf m budget buffer .bytes)
 unfolding runOf
-ticks-are m budget buffer = by (soundOf m) (isNothing (m .work)) (m .held) (ranOver m budget (stripOf (capacityOf (m .settings)) (min budget buffer) (m .at) (m .remainder) (m .work))) refl
+ticks-are m budget buffer = by (soundOf m) (isNothing (m .work)) (m .held) (ranOver m budget
+    (stripOf (capacityOf (m .settings)) (min budget buffer) (m .at) (m .remainder) (m .work))) refl
   where
     by : (sound idle held : Bool) (run : Run) → run .ran .ticks ≡ length (run .bytes)
-        → (let r = cond sound (cond idle (noTick m Report.Idle) (cond held (noTick m Report.Held) run)) (noTick m (Report.Refused 9)) in r .ran .ticks ≡ length (r .bytes))
+        → (let r = cond sound (cond idle (noTick m Report.Idle) (cond held (noTick m Report.Held) run)) (noTick m (Report.Refused 9)) in
+        r .ran .ticks ≡ length (r .bytes))
     by true true held run e = refl
     by true false true run e = refl
     by true false false run e = e

@@ -18,16 +18,19 @@ use Rattle.block.specs.declared.Block.{Block}
 use Rattle.block.specs.declared.Path.{Path}
 use Rattle.block.specs.Questions.{feedRight, pathNo, loadNo}
 use Rattle.whole.specs.laws.Ask.{answered}
-use Rattle.line.specs.Line.{incrementX, incrementY, shortOf}
+use Rattle.line.specs.Line.{incrementX, incrementY}
+use Rattle.line.specs.computed.Line.{shortOf}
 use Rattle.work.specs.declared.Work.{Work}
-use Rattle.work.specs.Work.{isNothing, workSound}
-use Rattle.work.specs.computed.Work.{Ready, Loadable}
+use Rattle.work.specs.Work.{isNothing}
+use Rattle.work.specs.computed.Work.{workSound}
+use Rattle.work.specs.computed.Asked.{Ready, Loadable}
 use Rattle.work.specs.laws.Keep.{ready as work-ready}
-use Rattle.run.specs.Run.{SoundIn}
+use Rattle.run.specs.computed.Run.{SoundIn}
 use Rattle.settings.specs.declared.Settings.{Settings}
-use Rattle.settings.specs.Settings.{capacityOf, settingsNo}
+use Rattle.settings.specs.Settings.{capacityOf}
+use Rattle.settings.specs.computed.Settings.{settingsNo}
 use Rattle.settings.specs.laws.Right.{settings-right}
-use Rattle.bench.specs.Bench.{soundParts}
+use Rattle.bench.specs.computed.Bench.{soundParts}
 
 -- ---- a sound record
 
@@ -51,7 +54,8 @@ sound-test i = joined (eq-eqb _ 0 (i .settings)) (joined (i .in-travel) (joined 
 
 -- ---- what the code of a tick asks
 
-pub ready : {s : Settings} {at : Point} {r : ℕ} {w : Work} → Sound s at r w → isNothing w ≡ false → Ready at r w × (capacityOf s ≤ 1200000000)
+pub ready : {s : Settings} {at : Point} {r : ℕ} {w : Work} → Sound s at r w → isNothing w ≡ false
+    → Ready at r w × (capacityOf s ≤ 1200000000)
 ready {s} {w = w} i busy =
     let c = settings-right s (i .settings) in (
       work-ready (capacityOf s) (s .travel) w busy (c .wide) (omega (arith, c .clock-most))
@@ -63,7 +67,16 @@ ready {s} {w = w} i busy =
 pub running : {s : Settings} {at : Point} {r : ℕ} {w : Work} → Sound s at r w → isNothing w ≡ false → SoundIn (capacityOf s) at r w
 running {s} i busy =
     let c = settings-right s (i .settings) in
-    record { travel = s .travel; wide = c .wide; capacity = omega (arith, c .clock-most); inside = i .in-travel; below = i .below; sound = i .work; busy = busy }
+    record {
+      travel = s .travel;
+      wide = c .wide;
+      capacity = omega (arith, c .clock-most);
+      inside = i .in-travel;
+      below = i .below;
+      sound =
+          i .work;
+      busy = busy;
+    }
 
 -- ---- what the code of a load asks of a block that no question refuses
 

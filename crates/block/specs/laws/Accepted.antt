@@ -13,15 +13,16 @@ use Rattle.plane.specs.Travel.{insideOf}
 use Rattle.plane.specs.Point.{Near}
 use Rattle.plane.specs.computed.Travel.{Wide}
 use Rattle.plane.specs.laws.Travel.{inside, travel-near}
-use Rattle.line.specs.Line.{incrementX, incrementY, shortOf}
+use Rattle.line.specs.Line.{incrementX, incrementY}
+use Rattle.line.specs.computed.Line.{shortOf}
 use Rattle.line.specs.laws.Cycles.{cycles-bound, cycles-some, differ-apart}
-use Rattle.arc.specs.Arc.{OnArc}
+use Rattle.arc.specs.computed.Arc.{StandsOnArc}
 use Rattle.arc.specs.laws.Step.{cycles-bounds}
 use Rattle.block.specs.declared.Block.{Block}
 use Rattle.block.specs.declared.Path.{Path}
 use Rattle.block.specs.Block.{arcOf, cyclesAlong, blockCycles}
 use Rattle.block.specs.Questions.{offsetRight, feedRight, pathNo, loadNo}
-use Rattle.block.specs.Chain.{Accepted}
+use Rattle.block.specs.computed.Chain.{Accepted}
 use Rattle.whole.specs.laws.Ask.{answered}
 use Rattle.block.specs.laws.Begin.{begins}
 
@@ -43,7 +44,7 @@ yes q0 t room start b e =
 -- what the code asks of an accepted path
 abbrev pub Ready : (start : Point) → Block → Path → Type 0
 Ready start b Path.Line = shortOf start (b .end) ≡ true
-Ready start b (Path.Arc turn centre) = Near 1000000 start × (offsetRight centre ≡ true) × OnArc (arcOf start b turn centre) start
+Ready start b (Path.Arc turn centre) = Near 1000000 start × (offsetRight centre ≡ true) × StandsOnArc (arcOf start b turn centre) start
 
 module _ {t : Travel} (start : Point) (b : Block)
     (wide : Wide t) (here : insideOf t start ≡ true) (there : insideOf t (b .end) ≡ true) where

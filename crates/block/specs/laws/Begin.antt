@@ -22,7 +22,8 @@ use Rattle.circle.specs.Circle.{onCircle}
 use Rattle.arc.specs.Centre.{seenFrom, backFrom}
 use Rattle.block.specs.declared.Block.{Block}
 use Rattle.block.specs.Block.{squareOf, arcOf}
-use Rattle.block.specs.Questions.{Begins, offsetRight}
+use Rattle.block.specs.computed.Questions.{Begins}
+use Rattle.block.specs.Questions.{offsetRight}
 
 -- question 14 as facts
 pub record OffsetRight (o : Offset) : Type 0 where
@@ -69,7 +70,8 @@ start-on start o r =
     (le-leb (a * a + b * b) (a * a + b * b + max a b) (omega arith)))))
 
 -- so the arc of an accepted block is one that the code can test
-pub begins : {t : Travel} (start : Point) (b : Block) (turn : Turn) (o : Offset) → Wide t → insideOf t start ≡ true → insideOf t (b .end) ≡ true → offsetRight o ≡ true
+pub begins : {t : Travel} (start : Point) (b : Block) (turn : Turn) (o : Offset) → Wide t → insideOf t start ≡ true
+    → insideOf t (b .end) ≡ true → offsetRight o ≡ true
     → Begins t start (arcOf start b turn o)
 unfolding arcOf
 begins start b turn o w s e right =
@@ -79,6 +81,10 @@ begins start b turn o w s e right =
       wide = w;
       start-in = s;
       end-in = e;
-      centre = record { x = omega (arith, abs-add (start .x) (o .x), n .x, r .x); y = omega (arith, abs-add (start .y) (o .y), n .y, r .y) };
+      centre = record {
+        x = omega (arith, abs-add (start .x) (o .x), n .x, r .x);
+        y =
+            omega (arith, abs-add (start .y) (o .y), n .y, r .y);
+      };
       on = start-on start o r;
     }

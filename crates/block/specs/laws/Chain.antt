@@ -15,15 +15,11 @@ use Rattle.plane.specs.computed.Travel.{Wide}
 use Rattle.block.specs.declared.Block.{Block}
 use Rattle.block.specs.Block.{blockCycles}
 use Rattle.block.specs.Questions.{loadNo}
-use Rattle.block.specs.Chain.{chainEnd, chainAccepted, chainCycles, Accepted}
+use Rattle.block.specs.Chain.{chainEnd, chainCycles}
+use Rattle.block.specs.computed.Chain.{chainAccepted, Accepted}
 use Rattle.block.specs.laws.Accepted.{yes, cycles-range}
 
 -- ---- one more at the end
-
-pub end-more : (start : Point) (l : List Block) (b : Block) → chainEnd start (l ++ (b ∷ [])) ≡ b .end
-unfolding chainEnd
-end-more start [] b = refl
-end-more start (x ∷ l) b = end-more (x .end) l b
 
 pub cycles-more : (start : Point) (l : List Block) (b : Block)
     → chainCycles start (l ++ (b ∷ [])) ≡ chainCycles start l + blockCycles (chainEnd start l) b

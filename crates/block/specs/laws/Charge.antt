@@ -14,8 +14,8 @@ use Rattle.circle.specs.computed.Charge.{stepCharge}
 use Rattle.charges.specs.computed.Sum.{chargesIn}
 use Rattle.arc.specs.declared.arc.Arc.{Arc}
 use Rattle.arc.specs.Centre.{seenFrom, backFrom}
-use Rattle.arc.specs.Arc.{arcAfter}
-use Rattle.arc.specs.Charge.{arcCharge}
+use Rattle.arc.specs.computed.Arc.{arcAfter}
+use Rattle.arc.specs.computed.Charge.{arcCharge}
 use Rattle.arc.specs.laws.Step.{seen-after}
 use Rattle.arc.specs.laws.Charge.{charge-codes}
 use Rattle.block.specs.declared.Block.{Block}

@@ -7,15 +7,15 @@ use Prim.Native.Nat.{ℕ, zero, suc, _*_, _<_}
 use native.Mathlib.Omega.{arith}
 use Rattle.plane.specs.declared.point.Point.{Point}
 use Rattle.plane.specs.declared.travel.Travel.{Travel}
-use Rattle.plane.specs.laws.Travel.{Inside, inside}
+use Rattle.plane.specs.laws.Travel.{Bounded, inside}
 use Rattle.circle.specs.Charge.{straight}
 use Rattle.block.specs.declared.Block.{Block}
 use Rattle.block.specs.Questions.{loadNo}
-use Rattle.block.specs.Chain.{chainAccepted}
+use Rattle.block.specs.computed.Chain.{chainAccepted}
 use Rattle.block.specs.laws.Accepted.{yes}
 use Rattle.block.specs.laws.Chain.{accepted-first}
 use Rattle.book.specs.Bench.{InWork, Bench, endIn, workEnd}
-use Rattle.book.specs.Book.{Book, Call, freshBook, startOf, hasRoom, loaded, loadEntry, entry, closing}
+use Rattle.book.specs.Book.{Book, Call, freshBook, startOf, fewerWait, loaded, loadEntry, entry, closing}
 use Rattle.book.specs.Ledger.{Fate, Account, comesIn, opened, whileInWork, newest, worked, unbegun, accountsAfter, ledger, accounts}
 use Rattle.book.specs.Ledger.{Every}
 use Rattle.book.specs.laws.Settings.{SettingsRight}
@@ -40,10 +40,10 @@ module _ (P : Block → (start : Point) (remainder : ℕ) → Type 0) where
       by Fate.stoppedWaiting = h .0
 
   module _ (q0 : ℕ) (t : Travel) (settings : SettingsRight q0 t)
-      (begins : (start : Point) (r : ℕ) (k : Block) → Inside t start → r < straight * q0 → loadNo q0 t true start k ≡ 0
+      (begins : (start : Point) (r : ℕ) (k : Block) → Bounded t start → r < straight * q0 → loadNo q0 t true start k ≡ 0
       → LoadRight q0 t start k → P k start r) where
     -- the first of an accepted chain
-    first-holds : (start : Point) (r : ℕ) (b : Block) (l : List Block) → Inside t start → r < straight * q0
+    first-holds : (start : Point) (r : ℕ) (b : Block) (l : List Block) → Bounded t start → r < straight * q0
         → chainAccepted q0 t start (b ∷ l) ≡ true → P b start r
     first-holds start r b l here below e =
         let asked = accepted-first q0 t start b l e .0 in
@@ -59,7 +59,7 @@ module _ (P : Block → (start : Point) (remainder : ℕ) → Type 0) where
         by InWork.nothing (b ∷ l) below e = (first-holds (k .at) (k .remainder) b l (s .inside) below e, h)
         by (InWork.working j) l below e = h
 
-    unbegun-holds : (f : Fate) (start : Point) (l : List Block) (older : List Account) → Inside t start → chainAccepted q0 t start l ≡ true
+    unbegun-holds : (f : Fate) (start : Point) (l : List Block) (older : List Account) → Bounded t start → chainAccepted q0 t start l ≡ true
         → Every Holds older → Every Holds (unbegun f start l older)
     unbegun-holds f start [] older here e h = h
     unbegun-holds f start (b ∷ l) older here e h =
@@ -70,9 +70,9 @@ module _ (P : Block → (start : Point) (remainder : ℕ) → Type 0) where
     load-holds : (b : Book) (k : Block) (older : List Account) → Sound q0 t b → Every Holds older
         → Every Holds (opened b k (loadEntry q0 t b k .reply) older)
     unfolding loadEntry
-    load-holds b k older s h = by (loadNo q0 t (hasRoom b) (startOf b) k) refl
+    load-holds b k older s h = by (loadNo q0 t (fewerWait b) (startOf b) k) refl
       where
-        by : (n : ℕ) → loadNo q0 t (hasRoom b) (startOf b) k ≡ n
+        by : (n : ℕ) → loadNo q0 t (fewerWait b) (startOf b) k ≡ n
             → Every Holds (opened b k (loaded b k n .reply) older)
         by zero e = comes-holds (b .bench) (b .waiting ++ (k ∷ [])) older (s .bench) (load-joins q0 t b k s e .accepted) h
         by (suc n) e = h

@@ -9,7 +9,7 @@ use lib.ListN.{length, replicate}
 use Rattle.plane.specs.declared.point.Point.{Point}
 use Rattle.plane.specs.declared.travel.Travel.{Travel}
 use Rattle.block.specs.declared.Block.{Block}
-use Rattle.book.specs.Bench.{Job, InWork, Bench, isNothing, addedBy, jobDue, benchTick, inFront, strip, benchRun}
+use Rattle.book.specs.Bench.{BlockInWork, InWork, Bench, isNothing, addedBy, cycleDue, benchTick, inFront, ticksDone, benchRun}
 use Rattle.book.specs.Book.{Book, Call, settled, runEntry}
 use Rattle.book.specs.Sums.{tickBytes, feedsSince}
 use Rattle.book.specs.Ledger.{Fate, Account, comesIn, whileInWork, worked, fateAt, ledger}
@@ -23,16 +23,16 @@ account a older f n = record { block = a .block; start = a .start; remainder = a
 
 module _ (q0 : ℕ) (t : Travel) where
   -- n ticks from b on, the block j in work and l waiting, that leave `after`
-  pub record Adds (b : Bench) (l : List Block) (j : Job) (n : ℕ) (after : Bench) : Type 0 where
+  pub record Adds (b : Bench) (l : List Block) (j : BlockInWork) (n : ℕ) (after : Bench) : Type 0 where
     pub feeds : (before : ℕ)
         → feedsSince q0 t before (record { bench = b; waiting = l }) (replicate n Call.tick) ≡ before + n * addedBy (j .block)
     pub accounts : (a : Account) (older : List Account) → a .fate ≡ Fate.inWork
         → ledger q0 t (a ∷ older) (record { bench = b; waiting = l }) (replicate n Call.tick)
         ≡ comesIn after (after .work) l (worked n (fateAt (after .at) (after .work)) a ∷ older)
 
-  pub strip-adds : (l : List Block) (most : ℕ) (at : Point) (r : ℕ) (j : Job) → JobSound q0 t at j → r < jobDue q0 j
-      → (let b = benchOf at false r (InWork.working j) in Adds b l j (length (strip q0 most b .codes)) (strip q0 most b .last))
-  unfolding strip feedsSince ledger settled
+  pub strip-adds : (l : List Block) (most : ℕ) (at : Point) (r : ℕ) (j : BlockInWork) → JobSound q0 t at j → r < cycleDue q0 j
+      → (let b = benchOf at false r (InWork.working j) in Adds b l j (length (ticksDone q0 most b .bytes)) (ticksDone q0 most b .last))
+  unfolding ticksDone feedsSince ledger settled
   strip-adds l zero at r j s low =
       record {
         feeds = λ before. omega arith;
@@ -40,7 +40,7 @@ module _ (q0 : ℕ) (t : Travel) where
       }
   strip-adds l (suc n) at r j s low =
       let k = benchTick q0 (benchOf at false r (InWork.working j)) in
-      by (k .code) (k .after .at) (k .after .mark) (k .after .remainder) (k .after .work) refl (one-tick q0 t at r j s low) (strip-adds l n)
+      by (k .byte) (k .after .at) (k .after .mark) (k .after .remainder) (k .after .work) refl (one-tick q0 t at r j s low) (strip-adds l n)
     where
       b : Bench
       b = benchOf at false r (InWork.working j)
@@ -53,16 +53,17 @@ module _ (q0 : ℕ) (t : Travel) where
 
       by : (byte : ℕ) (mid : Point) (mark : Bool) (r′ : ℕ) (w : InWork) → benchTick q0 b .after ≡ benchOf mid mark r′ w
           → Stretch q0 t at r j (byte ∷ []) (benchOf mid mark r′ w)
-          → ((at : Point) (r : ℕ) (j : Job) → JobSound q0 t at j → r < jobDue q0 j
-          → (let b = benchOf at false r (InWork.working j) in Adds b l j (length (strip q0 n b .codes)) (strip q0 n b .last)))
-          → (let s = inFront (isNothing w) (record { code = byte; after = benchOf mid mark r′ w }) (strip q0 n (benchOf mid mark r′ w)) in
-          Adds b l j (length (s .codes)) (s .last))
+          → ((at : Point) (r : ℕ) (j : BlockInWork) → JobSound q0 t at j → r < cycleDue q0 j
+          → (let b = benchOf at false r (InWork.working j) in Adds b l j (length (ticksDone q0 n b .bytes)) (ticksDone q0 n b .last)))
+          → (let s = inFront (isNothing w) (record { byte = byte; after = benchOf mid mark r′ w })
+          (ticksDone q0 n (benchOf mid mark r′ w)) in
+          Adds b l j (length (s .bytes)) (s .last))
       by byte mid true r′ w is x later = absurd (true≢false (x .free))
       by byte mid false r′ InWork.nothing is x later =
           record { feeds = λ before. omega arith; accounts = λ a older e. ap₂ (then a older 0) e is }
       by byte mid false r′ (InWork.working next) is x later =
-          let m = length (strip q0 n (benchOf mid false r′ (InWork.working next)) .codes) in
-          let last = strip q0 n (benchOf mid false r′ (InWork.working next)) .last in
+          let m = length (ticksDone q0 n (benchOf mid false r′ (InWork.working next)) .bytes) in
+          let last = ticksDone q0 n (benchOf mid false r′ (InWork.working next)) .last in
           let rest = later mid r′ next (x .sound .work) (x .sound .below) in
           let feed = ap (λ (k : Block). m * addedBy k) (x .left .block) in
           record {
@@ -105,7 +106,7 @@ module _ (q0 : ℕ) (t : Travel) where
           }
       by at false r (InWork.working j) l (a ∷ older) s alone h =
           let x = strip-adds l (min budget buffer) at r j (s .work) (s .below) in
-          let last = strip q0 (min budget buffer) (benchOf at false r (InWork.working j)) .last in
+          let last = ticksDone q0 (min budget buffer) (benchOf at false r (InWork.working j)) .last in
           record {
             feeds = λ before. sym (x .feeds before);
             accounts = ap (λ (c : Account). comesIn last (last .work) l (c ∷ older)) (touched (worked _ _) (h .0))

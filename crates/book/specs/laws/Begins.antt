@@ -9,9 +9,9 @@ use native.Mathlib.Omega.{arith}
 use Rattle.plane.specs.declared.point.Point.{Point}
 use Rattle.plane.specs.declared.travel.Travel.{Travel}
 use Rattle.plane.specs.computed.Travel.{Wide}
-use Rattle.plane.specs.laws.Travel.{Inside}
+use Rattle.plane.specs.laws.Travel.{Bounded}
 use Rattle.circle.specs.Charge.{straight}
-use Rattle.divider.specs.Divider.{lastTick}
+use Rattle.divider.specs.computed.Divider.{lastTick}
 use Rattle.divider.specs.laws.Ticks.{total}
 use Rattle.divider.specs.laws.Last.{Reaches, end-tick, end-enough, last-is-end}
 use Rattle.block.specs.declared.Block.{Block}
@@ -80,7 +80,7 @@ pub record Begun (q0 r : ℕ) (start : Point) (b : Block) : Type 0 where
   pub ends : lastTick (blockCharges start b * q0) (addedBy b) r (blockCycles start b) ≡ blockTicks q0 r start b
   pub below : blockLeaves q0 r start b < straight * q0
 
-pub accepted-begins : (q0 : ℕ) (t : Travel) → Wide t → (start : Point) (b : Block) → Inside t start → loadNo q0 t true start b ≡ 0
+pub accepted-begins : (q0 : ℕ) (t : Travel) → Wide t → (start : Point) (b : Block) → Bounded t start → loadNo q0 t true start b ≡ 0
     → (r : ℕ) → r < straight * q0 → Begun q0 r start b
 accepted-begins q0 t wide start b here accepted r below =
     let right = load-right q0 t wide start b here accepted in

@@ -9,17 +9,21 @@ use Rattle.arc.specs.declared.arc.Arc.{Arc}
 use Rattle.arc.specs.laws.Step.{after-within}
 use Rattle.block.specs.declared.Path.{Path}
 use Rattle.block.specs.Block.{arcOf, pointAlong, blockPoint}
-use Rattle.book.specs.Bench.{Job, InWork}
+use Rattle.book.specs.Bench.{BlockInWork, InWork}
 use Rattle.book.specs.Book.{Book, Call, freshBook, closing}
-use Rattle.book.specs.Bounds.{OnPath, OnWork, InBounds}
+use Rattle.book.specs.Bounds.{OnPath, OnWork}
 use Rattle.book.specs.laws.Settings.{SettingsRight}
 use Rattle.book.specs.laws.Way.{PathRight}
 use Rattle.book.specs.laws.Sound.{JobSound, WorkSound, Sound}
 use Rattle.book.specs.laws.Call.{history-sound}
 use Rattle.book.specs.laws.Counts.{counted-along}
 
+abbrev pub InBounds : Book → Type 0
+InBounds b = OnWork (b .bench .at) (b .bench .work)
+
 module _ (q0 : ℕ) (t : Travel) where
-  path-bounds : (j : Job) (p : Path) → PathRight t (j .start) (j .block) p → OnPath j (pointAlong (j .start) (j .block) p (j .done)) p
+  path-bounds : (j : BlockInWork) (p : Path) → PathRight t (j .start) (j .block) p
+      → OnPath j (pointAlong (j .start) (j .block) p (j .done)) p
   unfolding arcOf
   path-bounds j Path.Line r =
       let start = j .start in
@@ -40,7 +44,7 @@ module _ (q0 : ℕ) (t : Travel) where
         ends = counted .ends;
       }
 
-  job-bounds : (at : Point) (j : Job) → JobSound q0 t at j → OnPath j at (j .block .path)
+  job-bounds : (at : Point) (j : BlockInWork) → JobSound q0 t at j → OnPath j at (j .block .path)
   unfolding blockPoint
   job-bounds at j s = rw (s .point) (path-bounds j (j .block .path) (s .path))
 

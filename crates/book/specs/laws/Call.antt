@@ -9,10 +9,10 @@ use borrow.Author.Tests.{ltb-true}
 use Rattle.plane.specs.declared.travel.Travel.{Travel}
 use Rattle.block.specs.declared.Block.{Block}
 use Rattle.block.specs.Questions.{loadNo}
-use Rattle.block.specs.Chain.{chainAccepted}
+use Rattle.block.specs.computed.Chain.{chainAccepted}
 use Rattle.block.specs.laws.Chain.{accepted-more}
 use Rattle.book.specs.Bench.{workEnd, benchTick, benchRun}
-use Rattle.book.specs.Book.{Book, Call, freshBook, startOf, hasRoom, marked, loaded, loadEntry, entry, closing}
+use Rattle.book.specs.Book.{Book, Call, freshBook, startOf, fewerWait, marked, loaded, loadEntry, entry, closing}
 use Rattle.book.specs.laws.Load.{room-asked}
 use Rattle.book.specs.laws.Settings.{SettingsRight}
 use Rattle.book.specs.laws.Sound.{Sound, fresh-sound}
@@ -25,9 +25,9 @@ module _ (q0 : ℕ) (t : Travel) where
     pub few : length (b .waiting ++ (k ∷ [])) ≤ 16
     pub accepted : chainAccepted q0 t (workEnd (b .bench)) (b .waiting ++ (k ∷ [])) ≡ true
 
-  pub load-joins : (b : Book) (k : Block) → Sound q0 t b → loadNo q0 t (hasRoom b) (startOf b) k ≡ 0 → Joins b k
+  pub load-joins : (b : Book) (k : Block) → Sound q0 t b → loadNo q0 t (fewerWait b) (startOf b) k ≡ 0 → Joins b k
   load-joins b k s e =
-      let r = room-asked q0 t (hasRoom b) (startOf b) k e in
+      let r = room-asked q0 t (fewerWait b) (startOf b) k e in
       let few = ltb-true (length (b .waiting)) 16 (r .0) in
       let long : length (b .waiting ++ (k ∷ [])) ≡ length (b .waiting) + 1 = length-append (b .waiting) (k ∷ []) in
       record { few = omega (arith, few, long); accepted = accepted-more q0 t (workEnd (b .bench)) (b .waiting) k (s .accepted) (r .1) }
@@ -35,9 +35,9 @@ module _ (q0 : ℕ) (t : Travel) where
   module _ (settings : SettingsRight q0 t) where
     load-kept : (b : Book) (k : Block) → Sound q0 t b → Sound q0 t (loadEntry q0 t b k .next)
     unfolding loadEntry
-    load-kept b k s = by (loadNo q0 t (hasRoom b) (startOf b) k) refl
+    load-kept b k s = by (loadNo q0 t (fewerWait b) (startOf b) k) refl
       where
-        by : (n : ℕ) → loadNo q0 t (hasRoom b) (startOf b) k ≡ n → Sound q0 t (loaded b k n .next)
+        by : (n : ℕ) → loadNo q0 t (fewerWait b) (startOf b) k ≡ n → Sound q0 t (loaded b k n .next)
         by zero e =
             let joins = load-joins b k s e in
             settled-kept q0 t settings (b .bench) (b .waiting ++ (k ∷ [])) (s .bench) (joins .few) (joins .accepted)

@@ -12,7 +12,7 @@ use Rattle.circle.specs.laws.Circle.{on-circle-to}
 use Rattle.circle.specs.laws.Walk.{walk-of, ends}
 use Rattle.arc.specs.declared.arc.Arc.{Arc}
 use Rattle.arc.specs.Centre.{seenFrom, backFrom}
-use Rattle.arc.specs.Arc.{arcCycles}
+use Rattle.arc.specs.computed.Arc.{arcCycles}
 use Rattle.arc.specs.laws.Step.{seen-after}
 use Rattle.block.specs.declared.Block.{Block}
 use Rattle.block.specs.declared.Path.{Path}

@@ -11,8 +11,8 @@ use Rattle.divider.specs.laws.AddUp.{fewer, exactly}
 use Rattle.block.specs.declared.Block.{Block}
 use Rattle.block.specs.Charge.{chargesTo}
 use Rattle.block.specs.Questions.{loadNo}
-use Rattle.book.specs.Bench.{Job, InWork, Bench, addedBy, jobDue, workEnd, benchTick, benchRun}
-use Rattle.book.specs.Book.{Book, Call, freshBook, startOf, hasRoom, settledWith, settled, loaded, loadEntry, entry, closing}
+use Rattle.book.specs.Bench.{BlockInWork, InWork, Bench, addedBy, cycleDue, workEnd, benchTick, benchRun}
+use Rattle.book.specs.Book.{Book, Call, freshBook, startOf, fewerWait, settledWith, settled, loaded, loadEntry, entry, closing}
 use Rattle.book.specs.Ledger.{Fate, Account, account, comesIn, opened, whileInWork, newest, worked, fateAt, unbegun, accountsAfter}
 use Rattle.book.specs.Ledger.{ledger, accounts, ticksGiven, RightFate, Right, Every}
 use Rattle.book.specs.laws.Settings.{SettingsRight}
@@ -24,7 +24,7 @@ use Rattle.book.specs.laws.Call.{call-kept, history-sound}
 -- ---- the accounts and the book
 
 -- the account of the block in work
-pub record Open (q0 : ℕ) (r : ℕ) (j : Job) (a : Account) : Type 0 where
+pub record Open (q0 : ℕ) (r : ℕ) (j : BlockInWork) (a : Account) : Type 0 where
   pub fate : a .fate ≡ Fate.inWork
   pub block : a .block ≡ j .block
   pub start : a .start ≡ j .start
@@ -61,11 +61,12 @@ all-right q0 [] h = tt
 all-right q0 (a ∷ l) h = (closed-right q0 a (a .fate) (h .0), all-right q0 l (h .1))
 
 -- the block in work has had fewer ticks than it will have had at its end
-open-fewer : {q0 : ℕ} {t : Travel} {at : Point} {r : ℕ} {j : Job} {a : Account} → JobSound q0 t at j → r < jobDue q0 j → Open q0 r j a
+open-fewer : {q0 : ℕ} {t : Travel} {at : Point} {r : ℕ} {j : BlockInWork} {a : Account} → JobSound q0 t at j → r < cycleDue q0 j
+    → Open q0 r j a
     → a .ticks < ticksGiven q0 a
 open-fewer {q0} {r = r} {j = j} {a = a} s below o =
     rw (o .block, o .start)
-    (fewer (jobCharges j * q0) (addedBy (j .block)) (a .remainder) (omega (arith, s .some)) (a .ticks) (jobPaid j * q0) r (jobDue q0 j)
+    (fewer (jobCharges j * q0) (addedBy (j .block)) (a .remainder) (omega (arith, s .some)) (a .ticks) (jobPaid j * q0) r (cycleDue q0 j)
     (o .fed) below (due-within s))
 
 work-right : (q0 : ℕ) (t : Travel) (at : Point) (r : ℕ) (w : InWork) (l : List Account) → WorkSound q0 t at w → Below q0 w r
@@ -90,7 +91,7 @@ untouched q0 g [] h = refl
 untouched q0 g (a ∷ l) h = ap (λ (c : Account). c ∷ l) (closed-same q0 g a (a .fate) (h .0))
 
 -- the account in work is
-pub touched : {q0 r : ℕ} {j : Job} {a : Account} (g : Account → Account) → Open q0 r j a → whileInWork g a (a .fate) ≡ g a
+pub touched : {q0 r : ℕ} {j : BlockInWork} {a : Account} (g : Account → Account) → Open q0 r j a → whileInWork g a (a .fate) ≡ g a
 touched {a = a} g o = ap (whileInWork g a) (o .fate)
 
 -- accounts of blocks that did not come into work
@@ -112,7 +113,7 @@ module _ (q0 : ℕ) (t : Travel) where
       )
 
   -- a stretch
-  stretched : {at : Point} {r : ℕ} {j : Job} {bytes : List ℕ} {after : Bench} (n : ℕ) → n ≡ length bytes → JobSound q0 t at j
+  stretched : {at : Point} {r : ℕ} {j : BlockInWork} {bytes : List ℕ} {after : Bench} (n : ℕ) → n ≡ length bytes → JobSound q0 t at j
       → Stretch q0 t at r j bytes after → (l : List Account) → Agree q0 r (InWork.working j) l
       → Agree q0 (after .remainder) (after .work) (newest (worked n (fateAt (after .at) (after .work))) l)
   stretched n len s x [] h = absurd h
@@ -184,7 +185,7 @@ module _ (q0 : ℕ) (t : Travel) where
   load-agrees : (b : Book) (k : Block) (older : List Account) → Agree q0 (b .bench .remainder) (b .bench .work) older
       → (let e = loadEntry q0 t b k in Agree q0 (e .next .bench .remainder) (e .next .bench .work) (opened b k (e .reply) older))
   unfolding loadEntry
-  load-agrees b k older h = by (loadNo q0 t (hasRoom b) (startOf b) k)
+  load-agrees b k older h = by (loadNo q0 t (fewerWait b) (startOf b) k)
     where
       by : (n : ℕ) → (let e = loaded b k n in Agree q0 (e .next .bench .remainder) (e .next .bench .work) (opened b k (e .reply) older))
       by zero = comes-agrees (b .bench) (b .waiting ++ (k ∷ [])) older h

@@ -3,19 +3,19 @@ use mathlib.Core.Path.{_≡_, refl}
 use mathlib.Core.Bool.{Bool, true, false}
 use Prim.Native.Nat.{ℕ, _≤_}
 use native.Mathlib.Omega.{arith}
-use lib.IntN.{ℤ, pos, negsuc, natAbs, _+ℤ_}
 use Rattle.whole.specs.laws.Order.{abs-add}
 use Rattle.plane.specs.declared.point.Point.{Point}
 use Rattle.plane.specs.declared.travel.Travel.{Travel}
 use Rattle.plane.specs.Travel.{insideOf}
 use Rattle.plane.specs.Point.{Near}
 use Rattle.plane.specs.computed.Travel.{Wide}
-use Rattle.plane.specs.laws.Travel.{Within, Inside, inside, inside-test, travel-near}
+use Rattle.plane.specs.laws.Travel.{Bounded, inside, travel-near}
+use Rattle.arc.specs.laws.Work.{centre-inside}
 use Rattle.circle.specs.declared.plane.Offset.{Offset}
 use Rattle.line.specs.laws.Cycles.{differ-apart}
 use Rattle.arc.specs.declared.arc.Arc.{Arc}
 use Rattle.arc.specs.Centre.{backFrom}
-use Rattle.arc.specs.Arc.{centres}
+use Rattle.arc.specs.computed.Arc.{centres}
 use Rattle.block.specs.declared.Block.{Block}
 use Rattle.block.specs.declared.Path.{Path}
 use Rattle.block.specs.Block.{arcOf}
@@ -25,16 +25,12 @@ use Rattle.whole.specs.laws.Ask.{answered}
 use Rattle.block.specs.laws.Begin.{OffsetRight, offset-right, start-on}
 use Rattle.book.specs.laws.Way.{PathRight}
 
-centre-inside : (o : Offset) → OffsetRight o → (start : Point) → Near 1000000 start → insideOf centres (backFrom start o) ≡ true
-centre-inside o right start near =
-    inside-test {t = centres} {p = backFrom start o} (record {
-      x = by (start .x +ℤ o .x) (omega (arith, near .x, right .x, abs-add (start .x) (o .x)));
-      y = by (start .y +ℤ o .y) (omega (arith, near .y, right .y, abs-add (start .y) (o .y)));
+centre-within : (o : Offset) → OffsetRight o → (start : Point) → Near 1000000 start → insideOf centres (backFrom start o) ≡ true
+centre-within o right start near =
+    centre-inside (backFrom start o) (record {
+      x = omega (arith, near .x, right .x, abs-add (start .x) (o .x));
+      y = omega (arith, near .y, right .y, abs-add (start .y) (o .y));
     })
-  where
-    by : (z : ℤ) → natAbs z ≤ 2000000 → Within (centres .x) z
-    by (pos a) h = omega arith
-    by (negsuc a) h = omega arith
 
 -- ---- all together
 
@@ -51,7 +47,7 @@ room-asked q0 t true start b e = (refl, e)
 room-asked q0 t false start b e = absurd (omega arith)
 
 module _ (q0 : ℕ) (t : Travel) (wide : Wide t) where
-  path-right : (start : Point) (b : Block) → Inside t start → Inside t (b .end) → (p : Path) → pathNo t start b p ≡ 0
+  path-right : (start : Point) (b : Block) → Bounded t start → Bounded t (b .end) → (p : Path) → pathNo t start b p ≡ 0
       → PathRight t start b p
   unfolding arcOf
   path-right start b here there Path.Line e = record { end-inside = there; apart = differ-apart start (b .end) (answered 12 e .0) }
@@ -62,14 +58,14 @@ module _ (q0 : ℕ) (t : Travel) (wide : Wide t) where
       record {
         offset = offset .0;
         at = record {
-          centre = centre-inside centre (offset-right centre (offset .0)) start (travel-near wide here);
+          centre = centre-within centre (offset-right centre (offset .0)) start (travel-near wide here);
           on = start-on start centre (offset-right centre (offset .0));
           end-on = end .0;
           stays = visits .0;
         };
       }
 
-  pub load-right : (start : Point) (b : Block) → Inside t start → loadNo q0 t true start b ≡ 0 → LoadRight q0 t start b
+  pub load-right : (start : Point) (b : Block) → Bounded t start → loadNo q0 t true start b ≡ 0 → LoadRight q0 t start b
   load-right start b here e =
       let y = yes q0 t true start b e in
       record { some = y .some; short = y .most; path = path-right start b here (inside (y .end-in)) (b .path) (y .path) }

@@ -8,7 +8,8 @@ use Rattle.plane.specs.declared.travel.Travel.{Travel}
 use Rattle.block.specs.declared.Block.{Block}
 use Rattle.block.specs.Questions.{loadNo}
 use Rattle.book.specs.Bench.{InWork, Bench, workEnd, benchTick, benchRun}
-use Rattle.book.specs.Book.{Book, Call, freshBook, startOf, hasRoom, settledWith, settled, loaded, loadEntry, entry, replies, closing}
+use Rattle.book.specs.Book.{Book, Call, freshBook, startOf, fewerWait, settledWith, settled, loaded, loadEntry, entry, replies}
+use Rattle.book.specs.Book.{closing}
 use Rattle.book.specs.Ledger.{Fate, Account, comesIn, opened, whileInWork, newest, worked, unbegun, accountsAfter, ledger, accounts}
 use Rattle.book.specs.Ledger.{inOrder, takenBy, taken}
 
@@ -46,7 +47,7 @@ module _ (q0 : ℕ) (t : Travel) where
       → (let e = loadEntry q0 t b k in
       inOrder (opened b k (e .reply) older) ++ e .next .waiting ≡ (inOrder older ++ b .waiting) ++ takenBy (Call.load k) (e .reply))
   unfolding loadEntry
-  load-order b k older = by (loadNo q0 t (hasRoom b) (startOf b) k)
+  load-order b k older = by (loadNo q0 t (fewerWait b) (startOf b) k)
     where
       by : (n : ℕ)
           → (let e = loaded b k n in

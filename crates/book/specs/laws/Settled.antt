@@ -8,7 +8,7 @@ use lib.ListN.{length}
 use Rattle.plane.specs.declared.travel.Travel.{Travel}
 use Rattle.block.specs.declared.Block.{Block}
 use Rattle.block.specs.Questions.{loadNo}
-use Rattle.block.specs.Chain.{chainAccepted}
+use Rattle.block.specs.computed.Chain.{chainAccepted}
 use Rattle.block.specs.laws.Chain.{accepted-first}
 use Rattle.book.specs.Bench.{InWork, Bench, isNothing, endIn, workEnd, begun}
 use Rattle.book.specs.Book.{Book, settledWith, settled}

@@ -19,33 +19,33 @@ use Rattle.block.specs.declared.Block.{Block}
 use Rattle.block.specs.Block.{blockCycles, blockPoint}
 use Rattle.block.specs.Charge.{chargeBy, chargesTo, blockCharges}
 use Rattle.block.specs.laws.Charge.{charge-is, charges-suc}
-use Rattle.book.specs.Bench.{Job, InWork, Bench, Ticked, Strip, isNothing, addedBy, jobDue}
-use Rattle.book.specs.Bench.{cycleTick, fedTick, benchTick, inFront, strip}
+use Rattle.book.specs.Bench.{BlockInWork, InWork, Bench, Ticked, TicksDone, isNothing, addedBy, cycleDue}
+use Rattle.book.specs.Bench.{cycleTick, fedTick, benchTick, inFront, ticksDone}
 use Rattle.book.specs.Sums.{pulsesIn, chargeMarked, chargesMarked}
 use Rattle.book.specs.laws.Byte.{sent-one, onward, Silent, zero-silent, none-silent}
 use Rattle.book.specs.laws.Sound.{benchOf, JobSound, WorkSound, BenchSound, jobCharge, jobPaid, jobCharges, Below, below-due}
 use Rattle.book.specs.laws.Sound.{job-way, job-inside}
 
 -- the block goes on, or its last cycle was done: then the remainder is less than a tick adds, for the tick before had not reached the due
-pub record Going (j : Job) (charges : ℕ) (next : Job) : Type 0 where
+pub record Going (j : BlockInWork) (charges : ℕ) (next : BlockInWork) : Type 0 where
   pub block : next .block ≡ j .block
   pub start : next .start ≡ j .start
   pub paid : jobPaid next ≡ jobPaid j + charges
 
-pub record Over (j : Job) (charges : ℕ) (at : Point) (r : ℕ) : Type 0 where
+pub record Over (j : BlockInWork) (charges : ℕ) (at : Point) (r : ℕ) : Type 0 where
   pub reached : at ≡ j .block .end
   pub paid : jobPaid j + charges ≡ jobCharges j
   pub early : r < addedBy (j .block)
 
-abbrev pub Left : Job → (charges : ℕ) → Point → ℕ → InWork → Type 0
+abbrev pub Left : BlockInWork → (charges : ℕ) → Point → ℕ → InWork → Type 0
 Left j charges at r InWork.nothing = Over j charges at r
 Left j charges at r (InWork.working next) = Going j charges next
 
 -- what the bytes of a stretch are charged
-abbrev pub stretchCharges : Job → (bytes : List ℕ) → ℕ
+abbrev pub stretchCharges : BlockInWork → (bytes : List ℕ) → ℕ
 stretchCharges j bytes = chargesMarked (j .block .path) bytes
 
-pub record Stretch (q0 : ℕ) (t : Travel) (at : Point) (r : ℕ) (j : Job) (bytes : List ℕ) (after : Bench) : Type 0 where
+pub record Stretch (q0 : ℕ) (t : Travel) (at : Point) (r : ℕ) (j : BlockInWork) (bytes : List ℕ) (after : Bench) : Type 0 where
   pub x : after .at .x ≡ at .x +ℤ pulsesIn codeX bytes
   pub y : after .at .y ≡ at .y +ℤ pulsesIn codeY bytes
   pub feeds : stretchCharges j bytes * q0 + after .remainder ≡ r + length bytes * addedBy (j .block)
@@ -54,14 +54,14 @@ pub record Stretch (q0 : ℕ) (t : Travel) (at : Point) (r : ℕ) (j : Job) (byt
   pub left : Left j (stretchCharges j bytes) (after .at) (after .remainder) (after .work)
 
 module _ (q0 : ℕ) (t : Travel) where
-  abbrev TickStretch : Point → ℕ → Job → Ticked → Type 0
-  TickStretch at r j k = Stretch q0 t at r j (k .code ∷ []) (k .after)
+  abbrev TickStretch : Point → ℕ → BlockInWork → Ticked → Type 0
+  TickStretch at r j k = Stretch q0 t at r j (k .byte ∷ []) (k .after)
 
   -- ---- one tick
 
   -- without a cycle only the remainder grows
-  standing : {bytes : List ℕ} → Silent bytes → (at : Point) (r : ℕ) (j : Job) → JobSound q0 t at j
-      → (r′ : ℕ) → r′ ≡ r + length bytes * addedBy (j .block) → r′ < jobDue q0 j
+  standing : {bytes : List ℕ} → Silent bytes → (at : Point) (r : ℕ) (j : BlockInWork) → JobSound q0 t at j
+      → (r′ : ℕ) → r′ ≡ r + length bytes * addedBy (j .block) → r′ < cycleDue q0 j
       → Stretch q0 t at r j bytes (benchOf at false r′ (InWork.working j))
   standing silent at r j s r′ adds below =
       let none = silent .charges (j .block .path) in
@@ -74,8 +74,8 @@ module _ (q0 : ℕ) (t : Travel) where
         left = record { block = refl; start = refl; paid = rw none (omega arith) };
       }
 
-  one-cycle : (at : Point) (r : ℕ) (j : Job) → JobSound q0 t at j → r < jobDue q0 j
-      → (r′ : ℕ) → jobDue q0 j + r′ ≡ r + addedBy (j .block)
+  one-cycle : (at : Point) (r : ℕ) (j : BlockInWork) → JobSound q0 t at j → r < cycleDue q0 j
+      → (r′ : ℕ) → cycleDue q0 j + r′ ≡ r + addedBy (j .block)
       → TickStretch at r j (cycleTick (benchOf at false r (InWork.working j)) j r′)
   unfolding cycleTick
   one-cycle at r j s low r′ adds = by (eqb (j .done + 1) (blockCycles (j .start) (j .block))) refl
@@ -134,24 +134,24 @@ module _ (q0 : ℕ) (t : Travel) where
           })
       by false e =
           let more = eqb-false (j .done + 1) (blockCycles (j .start) (j .block)) e in
-          let job : Job = record { block = j .block; start = j .start; done = j .done + 1 } in
+          let job : BlockInWork = record { block = j .block; start = j .start; done = j .done + 1 } in
           with-work _ false refl (InWork.working job) (below-due q0 job (omega (arith, small, s .short)))
           (record { some = s .some; short = s .short; more = omega (arith, s .more, more); point = refl; start = s .start; path = s .path })
           (record { block = refl; start = refl; paid = sym (paid _ false refl) })
 
-  pub one-tick : (at : Point) (r : ℕ) (j : Job) → JobSound q0 t at j → r < jobDue q0 j
+  pub one-tick : (at : Point) (r : ℕ) (j : BlockInWork) → JobSound q0 t at j → r < cycleDue q0 j
       → TickStretch at r j (benchTick q0 (benchOf at false r (InWork.working j)))
   unfolding benchTick
-  one-tick at r j s low = by (tick (jobDue q0 j) (addedBy (j .block)) r)
+  one-tick at r j s low = by (tick (cycleDue q0 j) (addedBy (j .block)) r)
     where
-      by : {f : Fed} → Tick (jobDue q0 j) (addedBy (j .block)) r f
+      by : {f : Fed} → Tick (cycleDue q0 j) (addedBy (j .block)) r f
           → TickStretch at r j (fedTick (benchOf at false r (InWork.working j)) j f)
       by (does-one {rest} e) = one-cycle at r j s low rest e
       by (does-none {rest} l e) = standing zero-silent at r j s rest (omega arith) l
 
   -- ---- one tick, and a stretch after it
 
-  module _ (at : Point) (r : ℕ) (j : Job) (byte : ℕ) (mid : Point) (r′ : ℕ) (next : Job) (bytes : List ℕ) where
+  module _ (at : Point) (r : ℕ) (j : BlockInWork) (byte : ℕ) (mid : Point) (r′ : ℕ) (next : BlockInWork) (bytes : List ℕ) where
     joined-axis : (code : ℕ → ℕ) (u v w : ℤ) → v ≡ u +ℤ pulsesIn code (byte ∷ []) → w ≡ v +ℤ pulsesIn code bytes
         → w ≡ u +ℤ pulsesIn code (byte ∷ bytes)
     joined-axis code u v w e f =
@@ -197,16 +197,16 @@ module _ (q0 : ℕ) (t : Travel) where
 
   -- ---- a run's ticks
 
-  pub record Stripped (most : ℕ) (at : Point) (r : ℕ) (j : Job) (s : Strip) : Type 0 where
-    pub stretch : Stretch q0 t at r j (s .codes) (s .last)
+  pub record Stripped (most : ℕ) (at : Point) (r : ℕ) (j : BlockInWork) (s : TicksDone) : Type 0 where
+    pub stretch : Stretch q0 t at r j (s .bytes) (s .last)
     pub ended : s .ended ≡ isNothing (s .last .work)
-    pub within : length (s .codes) ≤ most
+    pub within : length (s .bytes) ≤ most
     -- where the block has not ended
-    pub used-up : s .ended ≡ false → length (s .codes) ≡ most
+    pub used-up : s .ended ≡ false → length (s .bytes) ≡ most
 
-  pub strip-stretch : (most : ℕ) (at : Point) (r : ℕ) (j : Job) → JobSound q0 t at j → r < jobDue q0 j
-      → Stripped most at r j (strip q0 most (benchOf at false r (InWork.working j)))
-  unfolding strip
+  pub strip-stretch : (most : ℕ) (at : Point) (r : ℕ) (j : BlockInWork) → JobSound q0 t at j → r < cycleDue q0 j
+      → Stripped most at r j (ticksDone q0 most (benchOf at false r (InWork.working j)))
+  unfolding ticksDone
   strip-stretch zero at r j s low =
       record {
         stretch = standing none-silent at r j s r (omega arith) low;
@@ -216,13 +216,13 @@ module _ (q0 : ℕ) (t : Travel) where
       }
   strip-stretch (suc n) at r j s low =
       let k = benchTick q0 (benchOf at false r (InWork.working j)) in
-      by (k .code) (k .after .at) (k .after .mark) (k .after .remainder) (k .after .work) (one-tick at r j s low) (strip-stretch n)
+      by (k .byte) (k .after .at) (k .after .mark) (k .after .remainder) (k .after .work) (one-tick at r j s low) (strip-stretch n)
     where
       by : (byte : ℕ) (mid : Point) (mark : Bool) (r′ : ℕ) (w : InWork) → Stretch q0 t at r j (byte ∷ []) (benchOf mid mark r′ w)
-          → ((at : Point) (r : ℕ) (j : Job) → JobSound q0 t at j → r < jobDue q0 j
-          → Stripped n at r j (strip q0 n (benchOf at false r (InWork.working j))))
-          → (let first : Ticked = record { code = byte; after = benchOf mid mark r′ w } in
-          Stripped (suc n) at r j (inFront (isNothing w) first (strip q0 n (benchOf mid mark r′ w))))
+          → ((at : Point) (r : ℕ) (j : BlockInWork) → JobSound q0 t at j → r < cycleDue q0 j
+          → Stripped n at r j (ticksDone q0 n (benchOf at false r (InWork.working j))))
+          → (let first : Ticked = record { byte = byte; after = benchOf mid mark r′ w } in
+          Stripped (suc n) at r j (inFront (isNothing w) first (ticksDone q0 n (benchOf mid mark r′ w))))
       by byte mid true r′ w a rest = absurd (true≢false (a .free))
       by byte mid false r′ InWork.nothing a rest =
           record { stretch = a; ended = refl; within = omega arith; used-up = λ e. absurd (true≢false e) }

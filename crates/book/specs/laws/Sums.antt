@@ -12,7 +12,7 @@ use Rattle.plane.specs.Byte.{codeX, codeY}
 use Rattle.block.specs.declared.Block.{Block}
 use Rattle.block.specs.Questions.{loadNo}
 use Rattle.book.specs.Bench.{InWork, Bench, benchTick, benchRun}
-use Rattle.book.specs.Book.{Book, Call, Reply, freshBook, startOf, hasRoom, settled, loaded, loadEntry, entry, replies, closing}
+use Rattle.book.specs.Book.{Book, Call, Reply, freshBook, startOf, fewerWait, settled, loaded, loadEntry, entry, replies, closing}
 use Rattle.book.specs.Sums.{tickBytes, pulsesIn, pulsesSent, sinceStop, chargesTold, chargesSince, ticksWork, addedIn, workingTicks}
 use Rattle.book.specs.Sums.{feedsSince}
 use Rattle.book.specs.laws.Byte.{onward, Silent, none-silent}
@@ -88,7 +88,7 @@ module _ (q0 : ℕ) (t : Travel) where
 
   load-moves : (b : Book) (k : Block) → (let e = loadEntry q0 t b k in Moves (b .bench) (tickBytes (e .reply)) (e .next .bench))
   unfolding loadEntry
-  load-moves b k = by (loadNo q0 t (hasRoom b) (startOf b) k)
+  load-moves b k = by (loadNo q0 t (fewerWait b) (startOf b) k)
     where
       by : (n : ℕ) → (let e = loaded b k n in Moves (b .bench) (tickBytes (e .reply)) (e .next .bench))
       by zero = settled-moves (b .bench) (b .bench) (b .waiting ++ (k ∷ [])) (stands (b .bench) (b .bench) [] refl refl refl)
@@ -97,7 +97,7 @@ module _ (q0 : ℕ) (t : Travel) where
   load-feeds : (b : Book) (k : Block)
       → (let c = Call.load k in Feeds q0 (b .bench) (chargedBy b c) (fedBy b c) (loadEntry q0 t b k .next .bench))
   unfolding loadEntry
-  load-feeds b k = by (loadNo q0 t (hasRoom b) (startOf b) k)
+  load-feeds b k = by (loadNo q0 t (fewerWait b) (startOf b) k)
     where
       by : (n : ℕ)
           → (let e = loaded b k n in

@@ -7,7 +7,7 @@ use lib.ListN.{length}
 use Rattle.plane.specs.declared.point.Point.{Point}
 use Rattle.plane.specs.declared.travel.Travel.{Travel}
 use Rattle.block.specs.declared.Block.{Block}
-use Rattle.book.specs.Bench.{Job, InWork, Bench, endIn, workEnd, benchTick, benchRun}
+use Rattle.book.specs.Bench.{BlockInWork, InWork, Bench, endIn, workEnd, benchTick, benchRun}
 use Rattle.book.specs.Book.{Book, Call}
 use Rattle.book.specs.Sums.{workingTicks}
 use Rattle.book.specs.laws.Byte.{Silent, zero-silent, none-silent}
@@ -18,13 +18,13 @@ module _ (q0 : ℕ) (t : Travel) where
   -- a tick or a run at b, where w is in work: its bytes, its working ticks and the bench after it
   pub data Ticking (b : Bench) : InWork → (bytes : List ℕ) (working : ℕ) (after : Bench) → Type 0 where
     rests : {w : InWork} {bytes : List ℕ} → Silent bytes → Ticking b w bytes 0 b
-    works : {j : Job} {bytes : List ℕ} {n : ℕ} {after : Bench}
+    works : {j : BlockInWork} {bytes : List ℕ} {n : ℕ} {after : Bench}
         → n ≡ length bytes → Stretch q0 t (b .at) (b .remainder) j bytes after → Ticking b (InWork.working j) bytes n after
 
   tick-parts : (at : Point) (mark : Bool) (r : ℕ) (w : InWork) (l : List Block) → BenchSound q0 t (benchOf at mark r w)
       → (let k = benchOf at mark r w in
       let b : Book = record { bench = k; waiting = l } in
-      Ticking k w (benchTick q0 k .code ∷ []) (workingTicks q0 t b Call.tick) (benchTick q0 k .after))
+      Ticking k w (benchTick q0 k .byte ∷ []) (workingTicks q0 t b Call.tick) (benchTick q0 k .after))
   unfolding benchTick
   tick-parts at mark r InWork.nothing l s = rests zero-silent
   tick-parts at true r (InWork.working j) l s = rests zero-silent
@@ -34,7 +34,7 @@ module _ (q0 : ℕ) (t : Travel) where
       → (let k = benchOf at mark r w in
       let b : Book = record { bench = k; waiting = l } in
       let ran = benchRun q0 k budget buffer in
-      Ticking k w (ran .codes) (workingTicks q0 t b (Call.run budget buffer)) (ran .after))
+      Ticking k w (ran .bytes) (workingTicks q0 t b (Call.run budget buffer)) (ran .after))
   unfolding benchRun
   run-parts budget buffer at mark r InWork.nothing l s = rests none-silent
   run-parts budget buffer at true r (InWork.working j) l s = rests none-silent
@@ -43,12 +43,12 @@ module _ (q0 : ℕ) (t : Travel) where
 
   pub tick-does : (b : Book) → BenchSound q0 t (b .bench)
       → (let k = benchTick q0 (b .bench) in
-      Ticking (b .bench) (b .bench .work) (k .code ∷ []) (workingTicks q0 t b Call.tick) (k .after))
+      Ticking (b .bench) (b .bench .work) (k .byte ∷ []) (workingTicks q0 t b Call.tick) (k .after))
   tick-does b s = let k = b .bench in tick-parts (k .at) (k .mark) (k .remainder) (k .work) (b .waiting) s
 
   pub run-does : (b : Book) (budget buffer : ℕ) → BenchSound q0 t (b .bench)
       → (let ran = benchRun q0 (b .bench) budget buffer in
-      Ticking (b .bench) (b .bench .work) (ran .codes) (workingTicks q0 t b (Call.run budget buffer)) (ran .after))
+      Ticking (b .bench) (b .bench .work) (ran .bytes) (workingTicks q0 t b (Call.run budget buffer)) (ran .after))
   run-does b budget buffer s =
       let k = b .bench in run-parts budget buffer (k .at) (k .mark) (k .remainder) (k .work) (b .waiting) s
 

@@ -7,7 +7,7 @@ use denote.Ref.{now}
 use mir.Syntax.{w64}
 use mir.Val.{SFits}
 use mir.Facts.{toZ-ofZ}
-use Rattle.record.specs.Words.{soundWords}
+use Rattle.record.specs.computed.Words.{soundWords}
 use Rattle.calls.specs.laws.Told.{told-refused, load-told}
 use Rattle.calls.specs.laws.Load.{sixteen-most}
 use Rattle.calls.proofs.load.Statement.{statement}

@@ -4,7 +4,7 @@ use denote.Ref.{now}
 use mir.Syntax.{w64}
 use mir.Val.{SFits}
 use mir.Facts.{toZ-ofZ}
-use Rattle.layout.specs.Words.{settingsOf}
+use Rattle.encoding.specs.Words.{settingsOf}
 use Rattle.calls.specs.laws.Make.{make-told}
 use Rattle.calls.proofs.make.Statement.{statement}
 use Rattle.calls.proofs.make.Tie as tie

@@ -8,10 +8,10 @@ use denote.Ref.{now}
 use mir.Syntax.{w64}
 use mir.Val.{SFits}
 use mir.Facts.{toZ-ofZ}
-use Rattle.run.specs.Run.{written}
+use Rattle.run.specs.computed.Run.{written}
 use Rattle.bench.specs.declared.Bench.{Bench}
-use Rattle.bench.specs.Run.{runOf}
-use Rattle.record.specs.Words.{benchIn, soundWords}
+use Rattle.bench.specs.computed.Run.{runOf}
+use Rattle.record.specs.computed.Words.{benchIn, soundWords}
 use Rattle.calls.specs.laws.Told.{run-refused, bench-sound, run-enough, run-stores, run-told}
 use Rattle.calls.proofs.run.Statement.{statement}
 use Rattle.calls.proofs.run.Tie as tie

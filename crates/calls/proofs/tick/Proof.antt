@@ -7,8 +7,8 @@ use denote.Ref.{now}
 use mir.Syntax.{w64}
 use mir.Val.{SFits}
 use mir.Facts.{toZ-ofZ}
-use Rattle.bench.specs.Calls.{tickOf}
-use Rattle.record.specs.Words.{benchIn, soundWords}
+use Rattle.bench.specs.computed.Calls.{tickOf}
+use Rattle.record.specs.computed.Words.{benchIn, soundWords}
 use Rattle.calls.specs.laws.Told.{told-refused, bench-sound, tick-enough, tick-stores, tick-told}
 use Rattle.calls.specs.laws.Rest.{held-told, idle-told}
 use Rattle.calls.proofs.tick.Statement.{statement}
@@ -20,7 +20,8 @@ sound c = sym (c .before .is-sound .ensures) ∙ not-false _ (c .if1 .left)
 
 -- the bench's tick
 ticked : (c : tie.After-tick-sound)
-    → c .tick-sound .result ≡ tickOf (benchIn (now (c .before .before .before .before .before .before .before .before .before .args .words)))
+    → c .tick-sound .result ≡ tickOf (benchIn
+    (now (c .before .before .before .before .before .before .before .before .before .args .words)))
 ticked c = c .tick-sound .ensures ∙ ap tickOf (c .before .before .before .before .bench-in .ensures)
 
 is-sound-requires : tie.Need-is-sound-requires

@@ -13,23 +13,25 @@ use Rattle.block.specs.declared.Block.{Block}
 use Rattle.block.specs.Questions.{loadNo}
 use Rattle.work.specs.declared.Work.{Work}
 use Rattle.work.specs.Work.{begunOf}
-use Rattle.settings.specs.Settings.{capacityOf, settingsNo}
+use Rattle.settings.specs.Settings.{capacityOf}
+use Rattle.settings.specs.computed.Settings.{settingsNo}
 use Rattle.bench.specs.declared.Bench.{Bench}
 use Rattle.bench.specs.declared.Answer.{Answer}
 use Rattle.bench.specs.laws.Sound.{sound as bench-parts}
 use Rattle.machine.specs.declared.Machine.{Machine}
 use Rattle.machine.specs.declared.Answered.{Answered}
 use Rattle.machine.specs.Machine.{startOf}
-use Rattle.machine.specs.Calls.{loadWith, loadOf}
+use Rattle.machine.specs.computed.Calls.{loadWith, loadOf}
 use Rattle.machine.specs.laws.Right.{Sound, sound}
 use Rattle.machine.specs.laws.Onward.{wide}
 use Rattle.machine.specs.laws.Load.{start-inside}
 use Rattle.machine.specs.laws.Calls.{load-refused}
-use Rattle.record.specs.Words.{encodeOf, over, queueIn, lenIn, machineIn, isRecord, soundWords}
-use Rattle.record.specs.Write.{Loading}
+use Rattle.record.specs.Words.{encodeOf, over}
+use Rattle.record.specs.computed.Words.{queueIn, lenIn, machineIn, isRecord, soundWords}
+use Rattle.record.specs.computed.Write.{Loading}
 use Rattle.record.specs.laws.Record.{record-words}
 use Rattle.record.specs.laws.Write.{told-sound}
-use Rattle.calls.specs.Asked.{Asking}
+use Rattle.calls.specs.computed.Asked.{Asking}
 use Rattle.calls.specs.laws.Told.{bench-sound}
 
 module _ (ws : List ℤ) (t : soundWords ws ≡ true) where

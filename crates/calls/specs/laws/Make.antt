@@ -10,17 +10,19 @@ use lib.Seq.{paste, paste-suc, take-length, drop-drop}
 use Rattle.block.specs.Chain.{chainCycles}
 use Rattle.queue.specs.Queue.{emptyQueue}
 use Rattle.settings.specs.declared.Settings.{Settings}
-use Rattle.settings.specs.Settings.{settingsNo, standardSettings}
+use Rattle.settings.specs.computed.Settings.{settingsNo}
+use Rattle.settings.specs.Settings.{standardSettings}
 use Rattle.bench.specs.declared.Bench.{Bench}
 use Rattle.bench.specs.declared.Answered.{Answered}
 use Rattle.bench.specs.Bench.{freshOf as freshBench}
-use Rattle.bench.specs.Calls.{makeWith as benchWith, makeOf as benchMake}
+use Rattle.bench.specs.computed.Calls.{makeWith as benchWith, makeOf as benchMake}
 use Rattle.machine.specs.Machine.{toDo, machineOf, freshOf}
-use Rattle.machine.specs.Calls.{makeWith, makeOf}
-use Rattle.layout.specs.Words.{abi, wordOf, refusalOf, headOf, workWordsOf, wordsOf}
-use Rattle.layout.specs.Words.{encodeOf as benchWords}
+use Rattle.machine.specs.computed.Calls.{makeWith, makeOf}
+use Rattle.encoding.specs.Words.{abi, wordOf, refusalOf, headOf, workWordsOf, wordsOf}
+use Rattle.encoding.specs.Words.{encodeOf as benchWords}
 use Rattle.record.specs.Words.{figuresOf, frontOf, queueWords, encodeOf, over}
-use Rattle.calls.specs.Calls.{answerNumber, tells, toldAnswer, madeOf}
+use Rattle.calls.specs.Calls.{answerNumber}
+use Rattle.calls.specs.computed.Calls.{tells, toldAnswer, madeOf}
 
 -- a record of which no block is left to do
 abbrev freshWords : Bench → List ℤ

@@ -5,33 +5,36 @@ use mathlib.Core.List.{List}
 use Prim.Native.Nat.{ℕ, _-_, _≤_}
 use lib.IntN.{ℤ, pos, negsuc}
 use lib.ListN.{length}
-use Rattle.run.specs.Run.{written}
+use Rattle.run.specs.computed.Run.{written}
 use Rattle.block.specs.declared.Block.{Block}
 use Rattle.bench.specs.declared.Bench.{Bench}
 use Rattle.bench.specs.declared.Answer.{Answer}
 use Rattle.bench.specs.declared.Ticked.{Ticked}
 use Rattle.bench.specs.declared.Ran.{Ran}
-use Rattle.bench.specs.Bench.{soundOf}
-use Rattle.bench.specs.Calls.{tickOf as benchTick}
-use Rattle.bench.specs.Run.{runOf as benchRun}
+use Rattle.bench.specs.computed.Bench.{soundOf}
+use Rattle.bench.specs.computed.Calls.{tickOf as benchTick}
+use Rattle.bench.specs.computed.Run.{runOf as benchRun}
 use Rattle.machine.specs.declared.Machine.{Machine}
-use Rattle.machine.specs.Calls.{markOf, nextOf, loadOf, tickOf, holdOf, releaseOf, stopOf}
-use Rattle.machine.specs.Run.{runOf}
-use Rattle.machine.specs.Asked.{cyclesTold}
+use Rattle.machine.specs.Calls.{markOf, nextOf}
+use Rattle.machine.specs.computed.Calls.{loadOf, tickOf, holdOf, releaseOf, stopOf}
+use Rattle.machine.specs.computed.Run.{runOf}
+use Rattle.machine.specs.computed.Asked.{cyclesTold}
 use Rattle.machine.specs.laws.Right.{Sound, sound}
 use Rattle.machine.specs.laws.Onward.{tick-onward, tick-left, run-onward, run-left}
 use Rattle.machine.specs.laws.Next.{left-less}
-use Rattle.layout.specs.Words.{at, countOf}
-use Rattle.record.specs.Write.{idleOf}
-use Rattle.record.specs.Words.{encodeOf, over, benchIn, machineIn, soundWords}
-use Rattle.record.specs.Write.{Later}
+use Rattle.encoding.specs.Words.{at, countOf}
+use Rattle.record.specs.computed.Write.{idleOf}
+use Rattle.record.specs.Words.{encodeOf, over}
+use Rattle.record.specs.computed.Words.{benchIn, machineIn, soundWords}
+use Rattle.record.specs.computed.Write.{Later}
 use Rattle.record.specs.laws.Write.{told-sound}
 use Rattle.record.specs.laws.Later.{tick-later, run-later}
-use Rattle.calls.specs.Calls.{answerNumber, tickNumber, reportNumber, Call, tells, callOf, refused, toldOf, tellsRun}
-use Rattle.calls.specs.Calls.{toldRunOf}
-use Rattle.calls.specs.Asked.{marks}
+use Rattle.calls.specs.Calls.{answerNumber, tickNumber, reportNumber, WordCall}
+use Rattle.calls.specs.computed.Calls.{tells, callOf, refused, toldOf, tellsRun}
+use Rattle.calls.specs.computed.Calls.{toldRunOf}
+use Rattle.calls.specs.computed.Asked.{marks}
 
-pub told-refused : (ws : List ℤ) → soundWords ws ≡ false → (call : Call) → refused ws ≡ toldOf ws call
+pub told-refused : (ws : List ℤ) → soundWords ws ≡ false → (call : WordCall) → refused ws ≡ toldOf ws call
 unfolding toldOf
 told-refused ws t call = rw t
 
@@ -41,23 +44,23 @@ unfolding toldRunOf
 run-refused ws t budget out = rw t
 
 module _ (ws : List ℤ) (t : soundWords ws ≡ true) where
-  pub told-call : (call : Call) → callOf ws (machineIn ws) call ≡ toldOf ws call
+  pub told-call : (call : WordCall) → callOf ws (machineIn ws) call ≡ toldOf ws call
   unfolding toldOf
   told-call call = rw t
 
   pub mark-told : (held : Bool) → tells (pos 0) (over (encodeOf (markOf (machineIn ws) held)) ws) ≡ toldOf ws (marks held)
   unfolding callOf holdOf releaseOf
-  mark-told true = rw (told-sound ws t) at (told-call Call.hold)
-  mark-told false = rw (told-sound ws t) at (told-call Call.release)
+  mark-told true = rw (told-sound ws t) at (told-call WordCall.hold)
+  mark-told false = rw (told-sound ws t) at (told-call WordCall.release)
 
-  pub stop-told : tells (pos 0) (over (encodeOf (idleOf (machineIn ws))) ws) ≡ toldOf ws Call.stop
+  pub stop-told : tells (pos 0) (over (encodeOf (idleOf (machineIn ws))) ws) ≡ toldOf ws WordCall.stop
   unfolding callOf stopOf machineIn
-  stop-told = rw (told-sound ws t) at (told-call Call.stop)
+  stop-told = rw (told-sound ws t) at (told-call WordCall.stop)
 
   pub load-told : (b : Block) {answer : Answer} {after : List ℤ} → answer ≡ loadOf (machineIn ws) b .answer
-      → after ≡ over (encodeOf (loadOf (machineIn ws) b .machine)) ws → tells (answerNumber answer) after ≡ toldOf ws (Call.load b)
+      → after ≡ over (encodeOf (loadOf (machineIn ws) b .machine)) ws → tells (answerNumber answer) after ≡ toldOf ws (WordCall.load b)
   unfolding callOf
-  load-told b is stored = rw (is, stored) (told-call (Call.load b))
+  load-told b is stored = rw (is, stored) (told-call (WordCall.load b))
 
   -- ---- ticks: what the functions below ask, and what is told
 
@@ -83,9 +86,9 @@ module _ (ws : List ℤ) (t : soundWords ws ≡ true) where
     tick-stores e = tick-later ws t is (e ∙ ap (λ (n : ℕ). n - cyclesTold (r .tick)) left-is)
 
   pub tick-told : {r : Ticked} → r ≡ benchTick (benchIn ws)
-      → tells (tickNumber (r .tick)) (over (encodeOf (nextOf (r .bench) (machineIn ws .queue))) ws) ≡ toldOf ws Call.tick
+      → tells (tickNumber (r .tick)) (over (encodeOf (nextOf (r .bench) (machineIn ws .queue))) ws) ≡ toldOf ws WordCall.tick
   unfolding callOf tickOf machineIn
-  tick-told is = rw is (rw (told-sound ws t) at (told-call Call.tick))
+  tick-told is = rw is (rw (told-sound ws t) at (told-call WordCall.tick))
 
   -- ---- runs
 

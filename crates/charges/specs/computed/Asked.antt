@@ -7,7 +7,7 @@ use Rattle.circle.specs.Circle.{onCircle}
 use Rattle.circle.specs.computed.Count.{rankOf}
 use Rattle.circle.specs.computed.Asked.{Ranked}
 use Rattle.charges.specs.declared.jump.Start.{Start}
-use Rattle.charges.specs.computed.Jump.{startOf}
+use Rattle.charges.specs.computed.Jump.{jumpStart}
 
 -- a toll
 pub record Tolled (Q R : ℕ) (q : Place) : Type 0 where
@@ -27,4 +27,4 @@ pub record Placed (n Q i : ℕ) : Type 0 where
 -- a start on a circle point
 pub record Started (s : Start) : Type 0 where
   pub on : onCircle (s .n) (s .at) ≡ true
-  pub is : s ≡ startOf (s .n) (s .turn) (s .at)
+  pub is : s ≡ jumpStart (s .n) (s .turn) (s .at)

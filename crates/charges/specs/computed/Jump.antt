@@ -7,7 +7,7 @@ use Rattle.circle.specs.declared.plane.Offset.{Offset}
 use Rattle.circle.specs.declared.plane.Turn.{Turn}
 use Rattle.circle.specs.declared.quadrant.Place.{Place}
 use Rattle.circle.specs.computed.Step.{place, seenPlace, afterOf}
-use Rattle.circle.specs.computed.Count.{quarterOf}
+use Rattle.circle.specs.Circle.{quarterOf}
 use Rattle.charges.specs.declared.jump.Arrived.{Arrived}
 use Rattle.charges.specs.declared.jump.Start.{Start}
 use Rattle.charges.specs.computed.Sum.{chargesIn, spanTo}
@@ -25,8 +25,8 @@ unfoldable pub placeAt : (N Q r : ℕ) → Place
 placeAt N Q r = placeIn N Q (r / Q % 4) (r % Q)
 
 -- where cycles are counted from
-unfoldable pub startOf : ℕ → Turn → Offset → Start
-startOf N turn p =
+unfoldable pub jumpStart : ℕ → Turn → Offset → Start
+jumpStart N turn p =
     let Q = quarterOf N in
     let R = nearestRoot N in
     record { n = N; turn = turn; at = p; quarter = Q; radius = R; place = seenPlace turn p; from = spanTo Q R (seenPlace turn p) }

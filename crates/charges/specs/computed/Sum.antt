@@ -5,7 +5,8 @@ use Rattle.circle.specs.declared.plane.Offset.{Offset}
 use Rattle.circle.specs.declared.plane.Turn.{Turn}
 use Rattle.circle.specs.declared.quadrant.Place.{Place}
 use Rattle.circle.specs.computed.Step.{seenPlace, afterOf}
-use Rattle.circle.specs.computed.Count.{quarterOf, rankOf, onward, cyclesOf}
+use Rattle.circle.specs.computed.Count.{rankOf, onward, circleCycles}
+use Rattle.circle.specs.Circle.{quarterOf}
 use Rattle.circle.specs.computed.Charge.{stepCharge}
 use Rattle.charges.specs.declared.Span.{Span}
 
@@ -16,7 +17,7 @@ chargesIn N turn p (suc c) = chargesIn N turn p c + stepCharge N turn (afterOf N
 
 -- the way from p on to e: its cycles, and the sum of their charges
 unfoldable pub spanOf : ℕ → Turn → (p e : Offset) → Span
-spanOf N turn p e = record { cycles = cyclesOf N turn p e; charges = chargesIn N turn p (cyclesOf N turn p e) }
+spanOf N turn p e = record { cycles = circleCycles N turn p e; charges = chargesIn N turn p (circleCycles N turn p e) }
 
 -- ---- in closed form: k steps that send L pulses are charged 586 × k + 414 × L, since L - k of them are diagonal
 

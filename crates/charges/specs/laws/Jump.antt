@@ -16,8 +16,9 @@ use Rattle.circle.specs.declared.plane.Offset.{Offset}
 use Rattle.circle.specs.declared.plane.Turn.{Turn}
 use Rattle.circle.specs.declared.quadrant.Place.{Place}
 use Rattle.circle.specs.Circle.{Circle, largestN, onCircle}
-use Rattle.circle.specs.computed.Step.{place, seen, pointOf, seenPlace, stepOf, afterOf}
-use Rattle.circle.specs.computed.Count.{quarterOf, rankOf, onward, placesTo, cyclesOf}
+use Rattle.circle.specs.computed.Step.{place, seen, pointAt, seenPlace, stepOf, afterOf}
+use Rattle.circle.specs.computed.Count.{rankOf, onward, placesTo, circleCycles}
+use Rattle.circle.specs.Circle.{quarterOf}
 use Rattle.circle.specs.laws.Octant.{Octant, Axis, apart, apart-le, self-square, some, within-axis, nearest-axis}
 use Rattle.circle.specs.laws.Circle.{OnCircle, on-circle-to, radius-bound, seen-seen}
 use Rattle.circle.specs.laws.Code.{turned-small}
@@ -31,7 +32,7 @@ use Rattle.charges.specs.declared.Span.{Span}
 use Rattle.charges.specs.declared.jump.Start.{Start}
 use Rattle.charges.specs.computed.Sum.{chargesIn, tollOf, roundChargesOf, chargesOf, spanTo}
 use Rattle.charges.specs.computed.Asked.{Placed, Tolled, Started}
-use Rattle.charges.specs.computed.Jump.{beside, placeIn, placeAt, startOf, pointOn, chargesOn, arrivedOf}
+use Rattle.charges.specs.computed.Jump.{beside, placeIn, placeAt, jumpStart, pointOn, chargesOn, arrivedOf}
 use Rattle.charges.specs.laws.Sum.{charges-closed, tolled, toll-bound, round-bound}
 
 -- ---- the place of a rank
@@ -132,8 +133,8 @@ module _ {n : ℕ} (t : Turn) (p : Offset) (o : Circle n p) where
       place-injective (quarter-axis o) (a .on) (on q (after-circle t p c o)) (a .rank ∙ sym (after-rank c))
 
   -- to a full turn, the cycles there are those that led there ..
-  pub cycles-after : (c : ℕ) → 1 ≤ c → c ≤ 4 * Q → cyclesOf n t p (afterOf n t p c) ≡ c
-  unfolding cyclesOf placesTo
+  pub cycles-after : (c : ℕ) → 1 ≤ c → c ≤ 4 * Q → circleCycles n t p (afterOf n t p c) ≡ c
+  unfolding circleCycles placesTo
   cycles-after c l h = by (rank (afterOf n t p c)) (after-onward c) (place-lt (quarter-axis o) (on p o))
     where
       by : (s : ℕ) → Onward (4 * Q) (rank p) c s → rank p < 4 * Q → onward (4 * Q) (rank p) s ≡ c
@@ -180,8 +181,8 @@ module _ (n : ℕ) (any : 1 ≤ n) (bound : n ≤ largestN) where
 
 -- ---- a start
 
-pub started : (n : ℕ) (t : Turn) (p : Offset) → onCircle n p ≡ true → Started (startOf n t p)
-unfolding startOf
+pub started : (n : ℕ) (t : Turn) (p : Offset) → onCircle n p ≡ true → Started (jumpStart n t p)
+unfolding jumpStart
 started n t p e = record { on = e; is = refl }
 
 pub record StartBounds (s : Start) : Type 0 where
@@ -197,19 +198,19 @@ module _ {s : Start} (h : Started s) where
   start-on = on-circle-to (s .n) (s .at) (h .on)
 
   pub quarter-is : s .quarter ≡ quarterOf (s .n)
-  unfolding startOf
+  unfolding jumpStart
   quarter-is = ap (λ (x : Start). x .quarter) (h .is)
 
   pub radius-is : s .radius ≡ nearestRoot (s .n)
-  unfolding startOf
+  unfolding jumpStart
   radius-is = ap (λ (x : Start). x .radius) (h .is)
 
   pub place-is : s .place ≡ seenPlace (s .turn) (s .at)
-  unfolding startOf
+  unfolding jumpStart
   place-is = ap (λ (x : Start). x .place) (h .is)
 
   pub from-is : s .from ≡ spanTo (quarterOf (s .n)) (nearestRoot (s .n)) (seenPlace (s .turn) (s .at))
-  unfolding startOf
+  unfolding jumpStart
   from-is = ap (λ (x : Start). x .from) (h .is)
 
   -- its numbers are small
@@ -253,7 +254,7 @@ module _ {s : Start} (h : Started s) where
       λ i. record { cycles = c; charges = sum i; place = there i }
 
 -- back from quadrant form
-pub seen-point : {n : ℕ} (t : Turn) (p : Offset) → Circle n p → seen t (pointOf (seenPlace t p)) ≡ p
+pub seen-point : {n : ℕ} (t : Turn) (p : Offset) → Circle n p → seen t (pointAt (seenPlace t p)) ≡ p
 seen-point t p o = ap (seen t) (seen-form t p o .is) ∙ seen-seen t p
 
 -- small coordinates
@@ -261,7 +262,7 @@ pub record SmallPlace (q : Place) : Type 0 where
   pub four : q .quadrant < 4
   pub along : q .along ≤ 1414214
   pub across : q .across ≤ 1414214
-  pub height : natAbs (pointOf q .y) ≤ 1414214
+  pub height : natAbs (pointAt q .y) ≤ 1414214
 
 pub reached-small : {s : Start} → Started s → (c : ℕ) → SmallPlace (arrivedOf s c .place)
 unfolding arrivedOf

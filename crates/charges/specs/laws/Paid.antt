@@ -11,7 +11,7 @@ use Rattle.circle.specs.declared.plane.Offset.{Offset}
 use Rattle.circle.specs.declared.plane.Turn.{Turn}
 use Rattle.circle.specs.declared.quadrant.Place.{Place}
 use Rattle.circle.specs.Circle.{onCircle}
-use Rattle.circle.specs.computed.Step.{seen, pointOf, afterOf}
+use Rattle.circle.specs.computed.Step.{seen, pointAt, afterOf}
 use Rattle.circle.specs.laws.Octant.{unless}
 use Rattle.circle.specs.laws.Circle.{on-circle-to}
 use Rattle.circle.specs.laws.Stepper.{after-on}
@@ -20,7 +20,7 @@ use Rattle.charges.specs.declared.jump.Start.{Start}
 use Rattle.charges.specs.Paid.{mostPaid}
 use Rattle.charges.specs.computed.Sum.{chargesIn}
 use Rattle.charges.specs.computed.Paid.{paidOf}
-use Rattle.charges.specs.computed.Jump.{startOf, chargesOn, arrivedOf}
+use Rattle.charges.specs.computed.Jump.{jumpStart, chargesOn, arrivedOf}
 use Rattle.charges.specs.computed.Asked.{Started}
 use Rattle.charges.specs.laws.Sum.{charges-more}
 use Rattle.charges.specs.laws.Jump.{place-is, seen-point}
@@ -175,12 +175,12 @@ module _ (s : Start) (most sum : ℕ) where
 
 -- what is found, back from quadrant form
 pub paid-is : (n : ℕ) (t : Turn) (p : Offset) (most sum : ℕ) → onCircle n p ≡ true → {r : Arrived} {at : Offset}
-    → r ≡ arrivedOf (startOf n t p) (mostPaid (chargesIn n t p) sum most) → at ≡ seen t (pointOf (r .place))
+    → r ≡ arrivedOf (jumpStart n t p) (mostPaid (chargesIn n t p) sum most) → at ≡ seen t (pointAt (r .place))
     → record { cycles = r .cycles; charges = r .charges; at = at } ≡ paidOf n t p most sum
-unfolding startOf arrivedOf paidOf
+unfolding jumpStart arrivedOf paidOf
 paid-is n t p most sum on e f =
     let c = mostPaid (chargesIn n t p) sum most in
     let place = ap (λ (x : Arrived). x .place) e in
     let on-there = on-circle-to n (afterOf n t p c) (after-on n t p c on) in
-    let there = f ∙ ap (λ (q : Place). seen t (pointOf q)) place ∙ seen-point t (afterOf n t p c) (on-there .circle) in
+    let there = f ∙ ap (λ (q : Place). seen t (pointAt q)) place ∙ seen-point t (afterOf n t p c) (on-there .circle) in
     λ i. record { cycles = e i .cycles; charges = e i .charges; at = there i }

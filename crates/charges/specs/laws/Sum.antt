@@ -14,8 +14,9 @@ use Rattle.circle.specs.declared.plane.Turn.{Turn}
 use Rattle.circle.specs.declared.quadrant.Place.{Place}
 use Rattle.circle.specs.Circle.{Circle, onCircle}
 use Rattle.circle.specs.computed.Step.{place, nextQuadrant, seenPlace}
-use Rattle.circle.specs.computed.Step.{firstStep, placed, nextPlace, stepOf, afterOf}
-use Rattle.circle.specs.computed.Count.{quarterOf, rankOf, onward, placesTo, cyclesOf}
+use Rattle.circle.specs.computed.Step.{firstStep, inQuadrant, nextPlace, stepOf, afterOf}
+use Rattle.circle.specs.computed.Count.{rankOf, onward, placesTo, circleCycles}
+use Rattle.circle.specs.Circle.{quarterOf}
 use Rattle.circle.specs.computed.Charge.{stepCharge}
 use Rattle.circle.specs.laws.Octant.{Axis, unique, under-axis, nearest-axis, some}
 use Rattle.circle.specs.laws.Step.{Step, step-is, stays, ahead}
@@ -49,7 +50,7 @@ charged n p o = by (firstStep n (p .along) (p .across)) (step-is (p .along) (p .
         onto (next-quadrant (p .quadrant) (o .four)) refl (rw z at st) (ap (λ (t : ℕ). byPulses (p .along) (p .across) (t, b)) z)
     at a b false e st = within refl st refl
 
-    by : (s : ℕ × ℕ) → Step n (p .along) (p .across) s → Charged n p (placed (p .quadrant) s) (byPulses (p .along) (p .across) s)
+    by : (s : ℕ × ℕ) → Step n (p .along) (p .across) s → Charged n p (inQuadrant (p .quadrant) s) (byPulses (p .along) (p .across) s)
     by s st = at (s .0) (s .1) (eqb (s .0) 0) refl st
 
 pub data Tolls (Q R : ℕ) (p s : Place) (w : ℕ) : Type 0 where
@@ -161,17 +162,17 @@ module _ (n : ℕ) (t : Turn) where
 
   -- to a higher rank the way does not come over the X axis, to another it does once
   data Span (p e : Offset) : Type 0 where
-    straight-on : rank p < rank e → toll e ≡ toll p + chargesIn n t p (cyclesOf n t p e) → Span p e
-    over : rank e ≤ rank p → toll e + round ≡ toll p + chargesIn n t p (cyclesOf n t p e) → Span p e
+    straight-on : rank p < rank e → toll e ≡ toll p + chargesIn n t p (circleCycles n t p e) → Span p e
+    over : rank e ≤ rank p → toll e + round ≡ toll p + chargesIn n t p (circleCycles n t p e) → Span p e
 
   way : (p e : Offset) → Circle n p → Circle n e → Span p e
-  unfolding cyclesOf placesTo
-  way p e o on = by (along t p (cyclesOf n t p e) o)
+  unfolding circleCycles placesTo
+  way p e o on = by (along t p (circleCycles n t p e) o)
     where
       some-quarter : 1 ≤ quarterOf n
       some-quarter = some (quarter-axis o)
 
-      there : afterOf n t p (cyclesOf n t p e) ≡ e
+      there : afterOf n t p (circleCycles n t p e) ≡ e
       there = after-cycles t e on p o
 
       at : (v C : ℕ) → rank e + v * (4 * quarterOf n) ≡ rank p + to p e → toll e + v * round ≡ toll p + C
@@ -189,11 +190,11 @@ module _ (n : ℕ) (t : Turn) where
           turn (suc zero) r m g = omega arith
           turn (suc (suc v)) r m g = absurd (omega (arith, onward-ge (4 * quarterOf n) (rank p) (rank e) g, some-quarter, below))
 
-      by : (v : ℕ) × Along n t p (cyclesOf n t p e) v → Span p e
+      by : (v : ℕ) × Along n t p (circleCycles n t p e) v → Span p e
       by (v, i) = done (at v C (rw there at (i .rank)) (rw there at (i .toll)) (decLt (rank p) (rank e)))
         where
           C : ℕ
-          C = chargesIn n t p (cyclesOf n t p e)
+          C = chargesIn n t p (circleCycles n t p e)
 
           done : ((rank p < rank e) × (toll e ≡ toll p + C)) ⊎ ((rank e ≤ rank p) × (toll e + round ≡ toll p + C)) → Span p e
           done (inl (h, m)) = straight-on h m
@@ -204,7 +205,7 @@ module _ (n : ℕ) (t : Turn) where
   toll-lt p e o on h = by (way p e o on)
     where
       by : Span p e → toll p < toll e
-      by (straight-on g m) = omega (arith, charges-range n t p (cyclesOf n t p e), cycles-range t e on p o .0)
+      by (straight-on g m) = omega (arith, charges-range n t p (circleCycles n t p e), cycles-range t e on p o .0)
       by (over g m) = absurd (omega arith)
 
   toll-le : (p e : Offset) → Circle n p → Circle n e → rank e ≤ rank p → toll e ≤ toll p
@@ -218,11 +219,11 @@ module _ (n : ℕ) (t : Turn) where
       by (no f) = let l = toll-lt e p on o (omega arith) in omega arith
 
   -- the sum of the charges from p on to e, full turns and passes over axes included, in closed form
-  pub charges-closed : (p e : Offset) → Circle n p → Circle n e → chargesIn n t p (cyclesOf n t p e) ≡ chargesOf n t p e
+  pub charges-closed : (p e : Offset) → Circle n p → Circle n e → chargesIn n t p (circleCycles n t p e) ≡ chargesOf n t p e
   unfolding chargesOf
   charges-closed p e o on = by (way p e o on)
     where
-      by : Span p e → chargesIn n t p (cyclesOf n t p e) ≡ onward round (toll p) (toll e)
+      by : Span p e → chargesIn n t p (circleCycles n t p e) ≡ onward round (toll p) (toll e)
       by (straight-on h m) = omega (arith, onward-lt round (toll p) (toll e) (toll-lt p e o on h))
       by (over h m) = omega (arith, onward-ge round (toll p) (toll e) (toll-le p e o on h))
 
@@ -230,7 +231,7 @@ module _ (n : ℕ) (t : Turn) where
   pub span-closed : (p e : Offset) → Circle n p → Circle n e → (cycles charges : ℕ)
       → cycles ≡ onward (4 * quarterOf n) (rank p) (rank e) → charges ≡ onward round (toll p) (toll e)
       → record { cycles = cycles; charges = charges } ≡ spanOf n t p e
-  unfolding spanOf cyclesOf placesTo chargesOf
+  unfolding spanOf circleCycles placesTo chargesOf
   span-closed p e o on cycles charges c h = λ i. record { cycles = c i; charges = (h ∙ sym (charges-closed p e o on)) i }
 
   -- ---- step by step

@@ -2,15 +2,11 @@
 use mathlib.Core.Bool.{cond}
 use Prim.Native.Nat.{ℕ, _+_, _-_, _*_}
 use lib.Dec.{leb, ltb}
-use Rattle.whole.specs.Root.{nearestRoot}
 use Rattle.circle.specs.declared.plane.Offset.{Offset}
 use Rattle.circle.specs.declared.plane.Turn.{Turn}
 use Rattle.circle.specs.declared.quadrant.Place.{Place}
 use Rattle.circle.specs.computed.Step.{seenPlace}
-
--- the cycles of a quarter turn: √2 times the radius √N, to the nearest
-abbrev pub quarterOf : ℕ → ℕ
-quarterOf N = nearestRoot (2 * N)
+use Rattle.circle.specs.Circle.{quarterOf}
 
 -- the rank in a quadrant of Q points: to the diagonal each cycle adds 1 to b, from there on each takes 1 off a
 unfoldable pub rankIn : (Q a b : ℕ) → ℕ
@@ -26,5 +22,5 @@ onward T r s = cond (ltb r s) (s - r) (s + T - r)
 unfoldable pub placesTo : ℕ → Place → Place → ℕ
 placesTo Q p e = onward (4 * Q) (rankOf Q p) (rankOf Q e)
 
-unfoldable pub cyclesOf : ℕ → Turn → Offset → Offset → ℕ
-cyclesOf N turn p e = placesTo (quarterOf N) (seenPlace turn p) (seenPlace turn e)
+unfoldable pub circleCycles : ℕ → Turn → Offset → Offset → ℕ
+circleCycles N turn p e = placesTo (quarterOf N) (seenPlace turn p) (seenPlace turn e)

@@ -31,8 +31,8 @@ turned (suc k) p = quarterTurn (turned k p)
 
 -- ---- quadrant form: (along, across), with along not 0, after so many quarter turns
 
-abbrev pub pointOf : Place → Offset
-pointOf q = turned (q .quadrant) (offset (pos (q .along)) (pos (q .across)))
+abbrev pub pointAt : Place → Offset
+pointAt q = turned (q .quadrant) (offset (pos (q .along)) (pos (q .across)))
 
 -- quadrant 0 is x > 0, y ≥ 0; an axis belongs to the quadrant that it begins
 abbrev pub placeOf : ℤ → ℤ → Place
@@ -57,17 +57,17 @@ firstStep N a b =
 abbrev pub nextQuadrant : ℕ → ℕ
 nextQuadrant k = cond (eqb k 3) 0 (k + 1)
 
-abbrev pub placed : ℕ → ℕ × ℕ → Place
-placed k s = cond (eqb (s .0) 0) (place (nextQuadrant k) (s .1) 0) (place k (s .0) (s .1))
+abbrev pub inQuadrant : ℕ → ℕ × ℕ → Place
+inQuadrant k s = cond (eqb (s .0) 0) (place (nextQuadrant k) (s .1) 0) (place k (s .0) (s .1))
 
 unfoldable pub nextPlace : ℕ → Place → Place
-nextPlace N q = placed (q .quadrant) (firstStep N (q .along) (q .across))
+nextPlace N q = inQuadrant (q .quadrant) (firstStep N (q .along) (q .across))
 
 abbrev pub seenPlace : Turn → Offset → Place
 seenPlace turn p = placeOf (seen turn p .x) (seen turn p .y)
 
 unfoldable pub stepOf : ℕ → Turn → Offset → Offset
-stepOf N turn p = seen turn (pointOf (nextPlace N (seenPlace turn p)))
+stepOf N turn p = seen turn (pointAt (nextPlace N (seenPlace turn p)))
 
 -- the point after c cycles
 unfoldable pub afterOf : ℕ → Turn → Offset → ℕ → Offset

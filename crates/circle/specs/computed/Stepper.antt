@@ -12,7 +12,7 @@ use Rattle.circle.specs.declared.step.Move.the-variants.{Rise, Slant, Fa
 use Rattle.circle.specs.declared.step.Stepper.{Stepper}
 use Rattle.circle.specs.declared.step.Cycled.{Cycled}
 use Rattle.circle.specs.Circle.{onCircle, offset}
-use Rattle.circle.specs.computed.Step.{place, seen, turned, pointOf, nextQuadrant, seenPlace}
+use Rattle.circle.specs.computed.Step.{place, seen, turned, pointAt, nextQuadrant, seenPlace}
 
 -- what is added to the excess, so that it is never negative
 abbrev pub bias : ℕ
@@ -26,11 +26,11 @@ enterOf N turn p =
     let q = seenPlace turn p in
     carry turn q (q .along * q .along + q .across * q .across + bias - N)
 
-abbrev pub placeIn : Stepper → Place
-placeIn s = place (s .quadrant) (s .along) (s .across)
+abbrev pub stepperPlace : Stepper → Place
+stepperPlace s = place (s .quadrant) (s .along) (s .across)
 
 unfoldable pub leaveOf : Stepper → Offset
-leaveOf s = seen (s .turn) (pointOf (placeIn s))
+leaveOf s = seen (s .turn) (pointAt (stepperPlace s))
 
 -- the tests of the step, with N - S moved to the other side
 abbrev pub pick : Bool → Move → Move → Move
@@ -49,15 +49,15 @@ moved Slant s = carry (s .turn) (place (s .quadrant) (s .along - 1) (s .across +
 moved Fall s = carry (s .turn) (place (s .quadrant) (s .along - 1) (s .across)) (s .excess + 1 - 2 * s .along)
 
 -- (0, b) is the axis that begins the next quadrant
-abbrev pub settled : Stepper → Stepper
-settled s = cond (eqb (s .along) 0) (carry (s .turn) (place (nextQuadrant (s .quadrant)) (s .across) 0) (s .excess)) s
+abbrev pub broughtOn : Stepper → Stepper
+broughtOn s = cond (eqb (s .along) 0) (carry (s .turn) (place (nextQuadrant (s .quadrant)) (s .across) 0) (s .excess)) s
 
-unfoldable pub advanceOf : Stepper → Stepper
-advanceOf s = settled (moved (moveOf s) s)
+unfoldable pub advancedBy : Stepper → Stepper
+advancedBy s = broughtOn (moved (moveOf s) s)
 
 -- one cycle, and the move that it makes
 abbrev pub cycledOf : Stepper → Cycled
-cycledOf s = record { stepper = advanceOf s; made = moveOf s }
+cycledOf s = record { stepper = advancedBy s; made = moveOf s }
 
 -- the pulses of one advance, -1, 0 or 1 on each axis: those of the quadrant, turned as the point is
 abbrev pub quadrantPulse : Move → Offset
@@ -65,8 +65,8 @@ quadrantPulse Rise = offset (pos 0) (pos 1)
 quadrantPulse Slant = offset (negsuc 0) (pos 1)
 quadrantPulse Fall = offset (negsuc 0) (pos 0)
 
-unfoldable pub pulseOf : Stepper → Offset
-pulseOf s = seen (s .turn) (turned (s .quadrant) (quadrantPulse (moveOf s)))
+unfoldable pub stepPulse : Stepper → Offset
+stepPulse s = seen (s .turn) (turned (s .quadrant) (quadrantPulse (moveOf s)))
 
 -- a stepper that stands on a circle point
 pub record Entered (s : Stepper) : Type 0 where

@@ -12,8 +12,8 @@ use Rattle.circle.specs.declared.plane.Turn.{Turn}
 use Rattle.circle.specs.declared.plane.Turn.the-variants.{Clockwise, Counterclockwise}
 use Rattle.circle.specs.declared.step.Move.{Move}
 use Rattle.circle.specs.Circle.{Circle, onCircle}
-use Rattle.circle.specs.computed.Step.{seen, quarterTurn, turned, pointOf, seenPlace}
-use Rattle.circle.specs.computed.Step.{firstStep, placed, nextPlace, stepOf}
+use Rattle.circle.specs.computed.Step.{seen, quarterTurn, turned, pointAt, seenPlace}
+use Rattle.circle.specs.computed.Step.{firstStep, inQuadrant, nextPlace, stepOf}
 use Rattle.circle.specs.computed.Charge.{chargeBetween, stepCharge, moveCharge}
 use Rattle.circle.specs.computed.Stepper.{enterOf, moveOf}
 use Rattle.circle.specs.laws.Step.{Step, rise, cut, cross, fall, climb, step-is}
@@ -73,8 +73,8 @@ step-charge {n} t p c =
     let f = seen-form t p c in
     let q = seenPlace t p in
     let s = firstStep n (q .along) (q .across) in
-    sym (seen-charge t p (seen t (pointOf (placed (q .quadrant) s))))
-    ∙ ap₂ chargeBetween (sym (f .is)) (seen-seen t (pointOf (placed (q .quadrant) s)) ∙ point-placed (q .quadrant) s (f .on .four))
+    sym (seen-charge t p (seen t (pointAt (inQuadrant (q .quadrant) s))))
+    ∙ ap₂ chargeBetween (sym (f .is)) (seen-seen t (pointAt (inQuadrant (q .quadrant) s)) ∙ point-placed (q .quadrant) s (f .on .four))
     ∙ turned-charge (q .quadrant) (first (q .along) (q .across)) (first (s .0) (s .1))
     ∙ charge-first (step-is (q .along) (q .across) (f .on .some))
 

@@ -8,7 +8,8 @@ use Rattle.circle.specs.declared.plane.Offset.{Offset}
 use Rattle.circle.specs.declared.plane.Turn.{Turn}
 use Rattle.circle.specs.Circle.{onCircle}
 use Rattle.circle.specs.computed.Step.{seen, seenPlace}
-use Rattle.circle.specs.computed.Count.{quarterOf, rankOf}
+use Rattle.circle.specs.computed.Count.{rankOf}
+use Rattle.circle.specs.Circle.{quarterOf}
 use Rattle.circle.specs.computed.Asked.{Ranked}
 use Rattle.circle.specs.laws.Octant.{under-axis, nearest-axis, within-axis, above, minor}
 use Rattle.circle.specs.laws.Circle.{on-circle-to, on-circle-of, radius-bound, seen-circle}

@@ -14,7 +14,8 @@ use Rattle.circle.specs.declared.plane.Turn.the-variants.{Clockwise, Cou
 use Rattle.circle.specs.declared.quadrant.Place.{Place}
 use Rattle.circle.specs.Circle.{Circle, offset}
 use Rattle.circle.specs.Next.{cross, OnSide, Follows, Next}
-use Rattle.circle.specs.computed.Step.{place, mirror, seen, quarterTurn, turned, pointOf, placeOf, firstStep, nextQuadrant, placed}
+use Rattle.circle.specs.computed.Step.{place, mirror, seen, quarterTurn, turned, pointAt, placeOf, firstStep, nextQuadrant}
+use Rattle.circle.specs.computed.Step.{inQuadrant}
 use Rattle.circle.specs.computed.Step.{nextPlace, seenPlace, stepOf}
 use Rattle.circle.specs.laws.Octant.{Quadrant, swapped, some, ray}
 use Rattle.circle.specs.laws.Step.{Step, step-is, stays, ahead, between, opposite}
@@ -145,7 +146,7 @@ pub record On (n : ℕ) (q : Place) : Type 0 where
   pub on : Quadrant n (q .along) (q .across)
 
 pub record Form (n : ℕ) (p : Offset) (q : Place) : Type 0 where
-  pub is : pointOf q ≡ p
+  pub is : pointAt q ≡ p
   pub on : On n q
 
 module _ {n : ℕ} where
@@ -167,7 +168,7 @@ module _ {n : ℕ} where
   seen-form t p c = form (seen t p) (seen-circle t p c)
 
 -- and the form is the only one
-pub place-point : (k a b : ℕ) → k < 4 → placeOf (pointOf (place k (suc a) b) .x) (pointOf (place k (suc a) b) .y) ≡ place k (suc a) b
+pub place-point : (k a b : ℕ) → k < 4 → placeOf (pointAt (place k (suc a) b) .x) (pointAt (place k (suc a) b) .y) ≡ place k (suc a) b
 place-point zero a b l = refl
 place-point (suc zero) a zero l = refl
 place-point (suc zero) a (suc b) l = refl
@@ -177,15 +178,15 @@ place-point (suc (suc (suc zero))) a zero l = refl
 place-point (suc (suc (suc zero))) a (suc b) l = refl
 place-point (suc (suc (suc (suc k)))) a b l = absurd (omega arith)
 
-pub point-place : {n : ℕ} (q : Place) → On n q → placeOf (pointOf q .x) (pointOf q .y) ≡ q
+pub point-place : {n : ℕ} (q : Place) → On n q → placeOf (pointAt q .x) (pointAt q .y) ≡ q
 point-place q o = by (q .quadrant) (q .along) (q .across) (o .four) (o .some)
   where
-    by : (k a b : ℕ) → k < 4 → 1 ≤ a → placeOf (pointOf (place k a b) .x) (pointOf (place k a b) .y) ≡ place k a b
+    by : (k a b : ℕ) → k < 4 → 1 ≤ a → placeOf (pointAt (place k a b) .x) (pointAt (place k a b) .y) ≡ place k a b
     by k zero b l s = absurd (omega arith)
     by k (suc a) b l s = place-point k a b l
 
 -- a point of the next axis is written in the next quadrant
-point-axis : (k b : ℕ) → k < 4 → pointOf (place (nextQuadrant k) b 0) ≡ turned k (first 0 b)
+point-axis : (k b : ℕ) → k < 4 → pointAt (place (nextQuadrant k) b 0) ≡ turned k (first 0 b)
 point-axis zero b l = refl
 point-axis (suc zero) zero l = refl
 point-axis (suc zero) (suc b) l = refl
@@ -195,10 +196,10 @@ point-axis (suc (suc (suc zero))) zero l = refl
 point-axis (suc (suc (suc zero))) (suc b) l = refl
 point-axis (suc (suc (suc (suc k)))) b l = absurd (omega arith)
 
-pub point-placed : (k : ℕ) (s : ℕ × ℕ) → k < 4 → pointOf (placed k s) ≡ turned k (first (s .0) (s .1))
+pub point-placed : (k : ℕ) (s : ℕ × ℕ) → k < 4 → pointAt (inQuadrant k s) ≡ turned k (first (s .0) (s .1))
 point-placed k s l = by (s .0) (s .1)
   where
-    by : (a b : ℕ) → pointOf (placed k (a, b)) ≡ turned k (first a b)
+    by : (a b : ℕ) → pointAt (inQuadrant k (a, b)) ≡ turned k (first a b)
     by zero b = point-axis k b l
     by (suc a) b = rw (ne-eqb (suc a) 0 (λ e. omega arith))
 
@@ -208,17 +209,17 @@ module _ {n : ℕ} where
   sole-first : (a b : ℕ) → Quadrant n a b → 1 ≤ a → Sole n Counterclockwise (first a b) (first (firstStep n a b .0) (firstStep n a b .1))
   sole-first a b c l = record { is = next-first c (step-is a b l); only = λ q h. only-first c (step-is a b l) (q .x) (q .y) h }
 
-  sole-left : (p : Offset) → Circle n p → Sole n Counterclockwise p (pointOf (nextPlace n (placeOf (p .x) (p .y))))
+  sole-left : (p : Offset) → Circle n p → Sole n Counterclockwise p (pointAt (nextPlace n (placeOf (p .x) (p .y))))
   unfolding nextPlace
   sole-left p c =
       let f = form p c in
       let q = placeOf (p .x) (p .y) in
       let s = firstStep n (q .along) (q .across) in
-      let h : Sole n Counterclockwise (pointOf q) (pointOf (placed (q .quadrant) s)) =
-      subst (λ (t : Offset). Sole n Counterclockwise (pointOf q) t) (sym (point-placed (q .quadrant) s (f .on .four)))
+      let h : Sole n Counterclockwise (pointAt q) (pointAt (inQuadrant (q .quadrant) s)) =
+      subst (λ (t : Offset). Sole n Counterclockwise (pointAt q) t) (sym (point-placed (q .quadrant) s (f .on .four)))
       (turned-sole (q .quadrant) (sole-first (q .along) (q .across) (f .on .on) (f .on .some)))
       in
-      subst (λ (t : Offset). Sole n Counterclockwise t (pointOf (placed (q .quadrant) s))) (f .is) h
+      subst (λ (t : Offset). Sole n Counterclockwise t (pointAt (inQuadrant (q .quadrant) s))) (f .is) h
 
 -- ---- clockwise, in the mirror
 
@@ -262,7 +263,7 @@ module _ {n : ℕ} where
   sole Clockwise p c =
       let s = sole-left (mirror p) (mirror-circle p c) in
       let e = seen-seen Clockwise p in
-      let at = pointOf (nextPlace n (seenPlace Clockwise p)) in
+      let at = pointAt (nextPlace n (seenPlace Clockwise p)) in
       record {
         is = subst (λ (z : Offset). Next n Clockwise z (mirror at)) e (mirror-next Counterclockwise (mirror p) at (s .is));
         only = λ q h. sym (seen-seen Clockwise q) ∙ ap mirror (s .only (mirror q) (mirror-next Clockwise p q h));
@@ -310,9 +311,9 @@ module _ {n : ℕ} where
         near-y = small (split (num (s .1) ⊖ num (q .across))) (omega arith) (omega arith);
       }
       in
-      let g : Close (pointOf q) (pointOf (placed (q .quadrant) s)) =
-      subst (λ (r : Offset). Close (pointOf q) r) (sym (point-placed (q .quadrant) s (f .on .four))) (turned-close (q .quadrant) h)
+      let g : Close (pointAt q) (pointAt (inQuadrant (q .quadrant) s)) =
+      subst (λ (r : Offset). Close (pointAt q) r) (sym (point-placed (q .quadrant) s (f .on .four))) (turned-close (q .quadrant) h)
       in
-      let o : Close (seen t p) (pointOf (placed (q .quadrant) s)) =
-      subst (λ (r : Offset). Close r (pointOf (placed (q .quadrant) s))) (f .is) g in
-      subst (λ (r : Offset). Close r (seen t (pointOf (placed (q .quadrant) s)))) (seen-seen t p) (seen-close t o)
+      let o : Close (seen t p) (pointAt (inQuadrant (q .quadrant) s)) =
+      subst (λ (r : Offset). Close r (pointAt (inQuadrant (q .quadrant) s))) (f .is) g in
+      subst (λ (r : Offset). Close r (seen t (pointAt (inQuadrant (q .quadrant) s)))) (seen-seen t p) (seen-close t o)

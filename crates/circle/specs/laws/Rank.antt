@@ -9,7 +9,7 @@ use native.Mathlib.Omega.{arith}
 use lib.Dec.{eqb}
 use borrow.Author.Tests.{le-leb, lt-leb, lt-ltb, le-ltb, eqb-true, eqb-false}
 use Rattle.circle.specs.declared.quadrant.Place.{Place}
-use Rattle.circle.specs.computed.Step.{place, firstStep, nextQuadrant, placed, nextPlace}
+use Rattle.circle.specs.computed.Step.{place, firstStep, nextQuadrant, inQuadrant, nextPlace}
 use Rattle.circle.specs.computed.Count.{rankIn, rankOf, onward, placesTo}
 use Rattle.circle.specs.laws.Octant.{Octant, Axis, Quadrant, unless, unique, minor, falls, below, above, some}
 use Rattle.circle.specs.laws.Step.{Step, rise, cut, cross, fall, climb, step-is, stays}
@@ -124,7 +124,7 @@ module _ (n : ℕ) (p : Place) (o : On n p) where
       at a b true e st = onto (next-quadrant (p .quadrant) (o .four)) refl (rw (eqb-true a 0 e) at st)
       at a b false e st = within refl (omega (arith, eqb-false a 0 e)) st
 
-      by : (s : ℕ × ℕ) → Step n (p .along) (p .across) s → Move n p (placed (p .quadrant) s)
+      by : (s : ℕ × ℕ) → Step n (p .along) (p .across) s → Move n p (inQuadrant (p .quadrant) s)
       by s st = at (s .0) (s .1) (eqb (s .0) 0) refl st
 
 -- the point that a step puts on an axis

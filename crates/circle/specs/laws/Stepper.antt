@@ -16,10 +16,11 @@ use Rattle.circle.specs.declared.step.Move.{Move}
 use Rattle.circle.specs.declared.step.Move.the-variants.{Rise, Slant, Fall}
 use Rattle.circle.specs.declared.step.Stepper.{Stepper}
 use Rattle.circle.specs.Circle.{largestN, onCircle, offset}
-use Rattle.circle.specs.computed.Step.{place, seen, turned, pointOf, firstStep, placed, nextQuadrant, nextPlace, seenPlace, stepOf}
+use Rattle.circle.specs.computed.Step.{place, seen, turned, pointAt, firstStep, inQuadrant, nextQuadrant, nextPlace, seenPlace}
+use Rattle.circle.specs.computed.Step.{stepOf}
 use Rattle.circle.specs.computed.Step.{afterOf}
-use Rattle.circle.specs.computed.Stepper.{bias, carry, enterOf, leaveOf, pick, moveOf, moved, settled, advanceOf, quadrantPulse}
-use Rattle.circle.specs.computed.Stepper.{pulseOf, Entered}
+use Rattle.circle.specs.computed.Stepper.{bias, carry, enterOf, leaveOf, pick, moveOf, moved, broughtOn, advancedBy, quadrantPulse}
+use Rattle.circle.specs.computed.Stepper.{stepPulse, Entered}
 use Rattle.circle.specs.computed.Asked.{Takes, Movable}
 use Rattle.circle.specs.laws.Octant.{Quadrant, under-axis, nearest-axis}
 use Rattle.circle.specs.laws.Circle.{on-circle-to, on-circle-of, radius-bound, seen-seen}
@@ -124,7 +125,8 @@ movable {s} h =
 
 -- ---- one advance is one step
 
-settle : (n : ℕ) (t : Turn) (k a b e : ℕ) → e ≡ squares a b + bias - n → settled (carry t (place k a b) e) ≡ atPlace n t (placed k (a, b))
+settle : (n : ℕ) (t : Turn) (k a b e : ℕ) → e ≡ squares a b + bias - n
+    → broughtOn (carry t (place k a b) e) ≡ atPlace n t (inQuadrant k (a, b))
 settle n t k a b e h = by (eqb a 0) refl
   where
     by : (u : Bool) → eqb a 0 ≡ u
@@ -139,7 +141,7 @@ settle n t k a b e h = by (eqb a 0) refl
 
 module _ (n : ℕ) (t : Turn) (k : ℕ) where
   advance-by : {a b : ℕ} {m : Move} {s : ℕ × ℕ} (e : ℕ) → e + n ≡ squares a b + bias → Moves n a b m s
-      → settled (moved m (carry t (place k a b) e)) ≡ atPlace n t (placed k s)
+      → broughtOn (moved m (carry t (place k a b) e)) ≡ atPlace n t (inQuadrant k s)
   advance-by e h (rises {a} {b}) = settle n t k a (b + 1) (e + 2 * b + 1) (omega arith)
   advance-by e h (slants {a} {b}) =
       let less : suc a - 1 ≡ a = omega arith in rw less (settle n t k a (b + 1) (e + 2 * b + 2 - 2 * suc a) (omega arith))
@@ -164,8 +166,8 @@ moves-at {n} t q l s o = by (q .along) (o .some) (exact q l s o)
     by zero z h = absurd (omega arith)
     by (suc a) z h = moves n t (q .quadrant) a (q .across) (squares (suc a) (q .across) + bias - n) h
 
-pub advance-enter : (n : ℕ) (t : Turn) (p : Offset) → onCircle n p ≡ true → advanceOf (enterOf n t p) ≡ enterOf n t (stepOf n t p)
-unfolding advanceOf enterOf nextPlace
+pub advance-enter : (n : ℕ) (t : Turn) (p : Offset) → onCircle n p ≡ true → advancedBy (enterOf n t p) ≡ enterOf n t (stepOf n t p)
+unfolding advancedBy enterOf nextPlace
 advance-enter n t p e =
     let o = on-circle-to n p e in
     let q = seenPlace t p in
@@ -189,9 +191,9 @@ unfolding enterOf
 enter-entered n t p e = record { square = n; point = p; on = e; is = refl }
 
 -- an advance keeps the stepper on the circle
-pub advance-entered : {s : Stepper} → Entered s → Entered (advanceOf s)
+pub advance-entered : {s : Stepper} → Entered s → Entered (advancedBy s)
 advance-entered {s} h =
-    subst Entered (sym (ap advanceOf (h .is) ∙ advance-enter (h .square) (s .turn) (h .point) (h .on)))
+    subst Entered (sym (ap advancedBy (h .is) ∙ advance-enter (h .square) (s .turn) (h .point) (h .on)))
     (enter-entered (h .square) (s .turn) (stepOf (h .square) (s .turn) (h .point)) (step-on (h .square) (s .turn) (h .point) (h .on)))
 
 pub after-on : (n : ℕ) (t : Turn) (p : Offset) (c : ℕ) → onCircle n p ≡ true → onCircle n (afterOf n t p c) ≡ true
@@ -227,8 +229,8 @@ move-way (slants {a} {b}) = rw (ring (num a ⊖ num (suc a)) (neg (num 1)) (omeg
 move-way (falls {a} {b}) = rw (ring (num a ⊖ num (suc a)) (neg (num 1)) (omega arith), ring (num b ⊖ num b) (num 0) (omega arith))
 
 -- the pulses are what the step changes
-pub pulse-enter : (n : ℕ) (t : Turn) (p : Offset) → onCircle n p ≡ true → pulseOf (enterOf n t p) ≡ way p (stepOf n t p)
-unfolding pulseOf enterOf stepOf nextPlace
+pub pulse-enter : (n : ℕ) (t : Turn) (p : Offset) → onCircle n p ≡ true → stepPulse (enterOf n t p) ≡ way p (stepOf n t p)
+unfolding stepPulse enterOf stepOf nextPlace
 pulse-enter n t p e =
     let o = on-circle-to n p e in
     let q = seenPlace t p in
@@ -237,9 +239,9 @@ pulse-enter n t p e =
     let m = move-way (moves-at t q (o .bound) (o .some) (f .on)) in
     ap (λ (r : Offset). seen t (turned (q .quadrant) r)) (sym m)
     ∙ ap (seen t) (sym (turned-way (q .quadrant) (first (q .along) (q .across)) (first (s .0) (s .1))))
-    ∙ sym (seen-span t (pointOf q) (turned (q .quadrant) (first (s .0) (s .1))))
-    ∙ ap (λ (r : Offset). way (seen t (pointOf q)) (seen t r)) (sym (point-placed (q .quadrant) s (f .on .four)))
-    ∙ ap (λ (r : Offset). way r (seen t (pointOf (placed (q .quadrant) s)))) (ap (seen t) (f .is) ∙ seen-seen t p)
+    ∙ sym (seen-span t (pointAt q) (turned (q .quadrant) (first (s .0) (s .1))))
+    ∙ ap (λ (r : Offset). way (seen t (pointAt q)) (seen t r)) (sym (point-placed (q .quadrant) s (f .on .four)))
+    ∙ ap (λ (r : Offset). way r (seen t (pointAt (inQuadrant (q .quadrant) s)))) (ap (seen t) (f .is) ∙ seen-seen t p)
 
 pub pulse-small : (m : Move) → (natAbs (quadrantPulse m .x) ≤ 1) × (natAbs (quadrantPulse m .y) ≤ 1)
 pulse-small Rise = omega arith
@@ -252,8 +254,8 @@ moved-quadrant Slant s = refl
 moved-quadrant Fall s = refl
 
 -- an advance goes on the same way round
-pub advance-turn : (s : Stepper) → advanceOf s .turn ≡ s .turn
-unfolding advanceOf
+pub advance-turn : (s : Stepper) → advancedBy s .turn ≡ s .turn
+unfolding advancedBy
 advance-turn s = by (moveOf s) (eqb (moved (moveOf s) s .along) 0)
   where
     by : (m : Move) (t : Bool) → (let u = moved m s in

@@ -8,8 +8,9 @@ use Rattle.circle.specs.declared.plane.Offset.{Offset}
 use Rattle.circle.specs.declared.plane.Turn.{Turn}
 use Rattle.circle.specs.Circle.{Circle}
 use Rattle.circle.specs.Next.{Next, Walk, Ends}
-use Rattle.circle.specs.computed.Step.{seen, pointOf, placeOf, nextPlace, seenPlace, stepOf, afterOf}
-use Rattle.circle.specs.computed.Count.{quarterOf, cyclesOf}
+use Rattle.circle.specs.computed.Step.{seen, pointAt, placeOf, nextPlace, seenPlace, stepOf, afterOf}
+use Rattle.circle.specs.computed.Count.{circleCycles}
+use Rattle.circle.specs.Circle.{quarterOf}
 use Rattle.circle.specs.laws.Octant.{Axis, unless, nearest-axis}
 use Rattle.circle.specs.laws.Circle.{circle-some, seen-seen}
 use Rattle.circle.specs.laws.Next.{seen-form, point-place, sole, step-circle}
@@ -55,84 +56,84 @@ module _ {n : ℕ} (t : Turn) where
   pub seen-step : (p : Offset) → Circle n p → seenPlace t (stepOf n t p) ≡ nextPlace n (seenPlace t p)
   unfolding stepOf
   seen-step p c =
-      let at = pointOf (nextPlace n (seenPlace t p)) in
+      let at = pointAt (nextPlace n (seenPlace t p)) in
       ap (λ (q : Offset). placeOf (q .x) (q .y)) (seen-seen t at)
       ∙ point-place (nextPlace n (seenPlace t p)) (on-next n (seenPlace t p) (seen-form t p c .on))
 
   pub seen-injective : (p q : Offset) → Circle n p → Circle n q → seenPlace t p ≡ seenPlace t q → p ≡ q
   seen-injective p q c d e =
-      let same : seen t p ≡ seen t q = sym (seen-form t p c .is) ∙ ap pointOf e ∙ seen-form t q d .is in
+      let same : seen t p ≡ seen t q = sym (seen-form t p c .is) ∙ ap pointAt e ∙ seen-form t q d .is in
       sym (seen-seen t p) ∙ ap (seen t) same ∙ seen-seen t q
 
 -- the end is the next point, or one cycle fewer is left
 pub data Ahead (n : ℕ) (t : Turn) (p e : Offset) : Type 0 where
-  at-end : stepOf n t p ≡ e → cyclesOf n t p e ≡ 1 → Ahead n t p e
-  goes-on : stepOf n t p ≢ e → cyclesOf n t p e ≡ cyclesOf n t (stepOf n t p) e + 1 → Ahead n t p e
+  at-end : stepOf n t p ≡ e → circleCycles n t p e ≡ 1 → Ahead n t p e
+  goes-on : stepOf n t p ≢ e → circleCycles n t p e ≡ circleCycles n t (stepOf n t p) e + 1 → Ahead n t p e
 
 module _ {n : ℕ} (t : Turn) (e : Offset) (on : Circle n e) where
   pub ahead : (p : Offset) → Circle n p → Ahead n t p e
-  unfolding cyclesOf
+  unfolding circleCycles
   ahead p c = by (left (quarter-axis c) (seenPlace t e) (seen-form t e on .on) (seenPlace t p) (seen-form t p c .on))
     where
       by : Left (quarter-axis c) (seenPlace t e) (seen-form t e on .on) (seenPlace t p) → Ahead n t p e
       by (last f g) = at-end (seen-injective t (stepOf n t p) e (step-circle t p c) on (seen-step t p c ∙ f)) g
       by (rest f g) = goes-on (λ h. f (sym (seen-step t p c) ∙ ap (seenPlace t) h)) (rw (seen-step t p c) g)
 
-  pub cycles-range : (p : Offset) → Circle n p → (1 ≤ cyclesOf n t p e) × (cyclesOf n t p e ≤ 4 * quarterOf n)
-  unfolding cyclesOf
+  pub cycles-range : (p : Offset) → Circle n p → (1 ≤ circleCycles n t p e) × (circleCycles n t p e ≤ 4 * quarterOf n)
+  unfolding circleCycles
   cycles-range p c = places-range (quarter-axis c) (seenPlace t e) (seen-form t e on .on) (seenPlace t p) (seen-form t p c .on)
 
   -- 1 is left exactly where the step is the end
-  pub cycles-one : (p : Offset) → Circle n p → (cyclesOf n t p e ≡ 1) ↔ (stepOf n t p ≡ e)
+  pub cycles-one : (p : Offset) → Circle n p → (circleCycles n t p e ≡ 1) ↔ (stepOf n t p ≡ e)
   cycles-one p c = by (ahead p c)
     where
-      by : Ahead n t p e → (cyclesOf n t p e ≡ 1) ↔ (stepOf n t p ≡ e)
+      by : Ahead n t p e → (circleCycles n t p e ≡ 1) ↔ (stepOf n t p ≡ e)
       by (at-end f g) = (λ h. f, λ h. g)
       by (goes-on f g) = (λ h. absurd (omega (arith, cycles-range (stepOf n t p) (step-circle t p c) .0)), λ h. absurd (f h))
 
-  pub cycles-step : (p : Offset) → Circle n p → stepOf n t p ≢ e → cyclesOf n t p e ≡ cyclesOf n t (stepOf n t p) e + 1
+  pub cycles-step : (p : Offset) → Circle n p → stepOf n t p ≢ e → circleCycles n t p e ≡ circleCycles n t (stepOf n t p) e + 1
   cycles-step p c f = by (ahead p c)
     where
-      by : Ahead n t p e → cyclesOf n t p e ≡ cyclesOf n t (stepOf n t p) e + 1
+      by : Ahead n t p e → circleCycles n t p e ≡ circleCycles n t (stepOf n t p) e + 1
       by (at-end g h) = absurd (f g)
       by (goes-on g h) = h
 
-  reached : (c : ℕ) (p : Offset) → Circle n p → cyclesOf n t p e ≡ suc c → afterOf n t p (suc c) ≡ e
+  reached : (c : ℕ) (p : Offset) → Circle n p → circleCycles n t p e ≡ suc c → afterOf n t p (suc c) ≡ e
   unfolding afterOf
   reached zero p o h = cycles-one p o .0 h
   reached (suc c) p o h = after-front n t p (suc c) ∙ by (ahead p o) (reached c (stepOf n t p) (step-circle t p o))
     where
-      by : Ahead n t p e → (cyclesOf n t (stepOf n t p) e ≡ suc c → afterOf n t (stepOf n t p) (suc c) ≡ e)
+      by : Ahead n t p e → (circleCycles n t (stepOf n t p) e ≡ suc c → afterOf n t (stepOf n t p) (suc c) ≡ e)
           → afterOf n t (stepOf n t p) (suc c) ≡ e
       by (at-end f g) k = absurd (omega arith)
       by (goes-on f g) k = k (omega arith)
 
-  no-sooner : (c : ℕ) (p : Offset) → Circle n p → afterOf n t p (suc c) ≡ e → cyclesOf n t p e ≤ suc c
+  no-sooner : (c : ℕ) (p : Offset) → Circle n p → afterOf n t p (suc c) ≡ e → circleCycles n t p e ≤ suc c
   unfolding afterOf
   no-sooner zero p o h = omega (arith, cycles-one p o .1 h)
   no-sooner (suc c) p o h = by (ahead p o) (no-sooner c (stepOf n t p) (step-circle t p o) (sym (after-front n t p (suc c)) ∙ h))
     where
-      by : Ahead n t p e → cyclesOf n t (stepOf n t p) e ≤ suc c → cyclesOf n t p e ≤ suc (suc c)
+      by : Ahead n t p e → circleCycles n t (stepOf n t p) e ≤ suc c → circleCycles n t p e ≤ suc (suc c)
       by (at-end f g) k = omega arith
       by (goes-on f g) k = omega arith
 
   -- the end is reached at the counted cycle
-  pub after-cycles : (p : Offset) → Circle n p → afterOf n t p (cyclesOf n t p e) ≡ e
-  after-cycles p o = by (cyclesOf n t p e) refl
+  pub after-cycles : (p : Offset) → Circle n p → afterOf n t p (circleCycles n t p e) ≡ e
+  after-cycles p o = by (circleCycles n t p e) refl
     where
-      by : (d : ℕ) → cyclesOf n t p e ≡ d → afterOf n t p d ≡ e
+      by : (d : ℕ) → circleCycles n t p e ≡ d → afterOf n t p d ≡ e
       by zero h = absurd (omega (arith, cycles-range p o .0))
       by (suc d) h = reached d p o h
 
-  pub ends : (p : Offset) → Circle n p → Ends n t p e (cyclesOf n t p e)
+  pub ends : (p : Offset) → Circle n p → Ends n t p e (circleCycles n t p e)
   ends p o =
       record {
         some = cycles-range p o .0;
-        there = subst (Walk n t p (cyclesOf n t p e)) (after-cycles p o) (walk-of t p (cyclesOf n t p e) o);
+        there = subst (Walk n t p (circleCycles n t p e)) (after-cycles p o) (walk-of t p (circleCycles n t p e) o);
         first = early;
       }
     where
-      early : (c : ℕ) → 1 ≤ c → c < cyclesOf n t p e → ¬ Walk n t p c e
+      early : (c : ℕ) → 1 ≤ c → c < circleCycles n t p e → ¬ Walk n t p c e
       early zero l h w = omega arith
       early (suc c) l h w = omega (arith, no-sooner c p o (sym (walk-to t p (suc c) e o w)))
 
@@ -140,6 +141,6 @@ module _ {n : ℕ} (t : Turn) (e : Offset) (on : Circle n e) where
 ends-once : {n : ℕ} {t : Turn} {p e : Offset} (d c : ℕ) → Ends n t p e d → Ends n t p e c → d ≡ c
 ends-once d c x y = le-antisymm (unless (λ g. x .first c (y .some) g (y .there))) (unless (λ g. y .first d (x .some) g (x .there)))
 
-pub ends-cycles : {n : ℕ} (t : Turn) (p e : Offset) (d : ℕ) → Circle n p → Circle n e → Ends n t p e d ↔ (d ≡ cyclesOf n t p e)
+pub ends-cycles : {n : ℕ} (t : Turn) (p e : Offset) (d : ℕ) → Circle n p → Circle n e → Ends n t p e d ↔ (d ≡ circleCycles n t p e)
 ends-cycles {n} t p e d o on =
-    (λ h. ends-once d (cyclesOf n t p e) h (ends t e on p o), λ h. subst (Ends n t p e) (sym h) (ends t e on p o))
+    (λ h. ends-once d (circleCycles n t p e) h (ends t e on p o), λ h. subst (Ends n t p e) (sym h) (ends t e on p o))

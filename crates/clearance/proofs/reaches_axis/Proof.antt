@@ -3,7 +3,7 @@ use mathlib.Core.Path.{_≡_, sym}
 use native.Mathlib.Nat.{le-of-lt, mul-le-mul}
 use native.Mathlib.Omega.{arith}
 use mir.Facts.{toZ-ofZ}
-use Rattle.whole.specs.Sign.{partOf}
+use Rattle.whole.specs.computed.Sign.{partOf}
 use Rattle.clearance.specs.laws.Code.{reaches-negative, reaches-positive, reaches-wide}
 use borrow.Author.Needs.{needs}
 use Rattle.clearance.proofs.reaches_axis.Statement.{statement}

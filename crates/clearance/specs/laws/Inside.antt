@@ -24,15 +24,16 @@ use Rattle.circle.specs.declared.plane.Turn.the-variants.{Clockwise, Counterclo
 use Rattle.circle.specs.declared.quadrant.Place.{Place}
 use Rattle.circle.specs.Circle.{Circle, offset}
 use Rattle.circle.specs.Next.{Walk, ToVisit}
-use Rattle.circle.specs.computed.Step.{seen, quarterTurn, turned, pointOf, nextPlace, seenPlace, stepOf, afterOf}
-use Rattle.circle.specs.computed.Count.{onward, quarterOf, cyclesOf}
+use Rattle.circle.specs.computed.Step.{seen, quarterTurn, turned, pointAt, nextPlace, seenPlace, stepOf, afterOf}
+use Rattle.circle.specs.computed.Count.{onward, circleCycles}
+use Rattle.circle.specs.Circle.{quarterOf}
 use Rattle.circle.specs.laws.Octant.{Axis, nearest-axis, axis-within, within-axis}
 use Rattle.circle.specs.laws.Circle.{circle-some, under-radius}
 use Rattle.circle.specs.laws.Next.{On, seen-form, step-circle}
 use Rattle.circle.specs.laws.Walk.{quarter-axis, seen-step, seen-injective, after-front, walk-to, walk-of, Ahead, at-end, goes-on, ahead}
 use Rattle.circle.specs.laws.Walk.{cycles-range, ends, ends-cycles}
 use Rattle.clearance.specs.declared.Room.{Room}
-use Rattle.clearance.specs.Inside.{Inside}
+use Rattle.clearance.specs.computed.Inside.{Inside}
 use Rattle.clearance.specs.computed.Travel.{belowTest, insideTest, reaches, axesPassed, axisTest, axesTest, wayInside, seenRoom}
 use Rattle.clearance.specs.computed.Travel.{staysInside, smallerOf}
 use Rattle.clearance.specs.laws.Travel.{Fits, rotated, facing, Held, In, Safe, next-in, next-safe, safe-back, passes, passes-back}
@@ -107,7 +108,7 @@ first-inside room a b = (to, of)
           down = to-≤ℤ (negℤ (pos b)) (room .down) (omega (arith, negated (natural b)));
         }
 
-place-inside : (room : Room) (q : Place) → Inside room (pointOf q) ↔ In room q
+place-inside : (room : Room) (q : Place) → Inside room (pointAt q) ↔ In room q
 place-inside room q =
     let t = turned-inside (q .quadrant) room (offset (pos (q .along)) (pos (q .across))) in
     let f = first-inside (facing (q .quadrant) room) (q .along) (q .across) in
@@ -278,19 +279,20 @@ module _ {N : ℕ} (t : Turn) (room : Room) (e : Offset) (on : Circle N e) where
 
   -- ---- all the way
 
-  visits : (c : ℕ) (p : Offset) → Circle N p → staysInside room N t p e ≡ true → c < cyclesOf N t p e → Inside room (afterOf N t p (suc c))
+  visits : (c : ℕ) (p : Offset) → Circle N p → staysInside room N t p e ≡ true → c < circleCycles N t p e
+      → Inside room (afterOf N t p (suc c))
   unfolding afterOf
   visits zero p o h l = stays-next t room e on p o h
   visits (suc c) p o h l =
       subst (Inside room) (sym (after-front N t p (suc c)))
       (by (ahead t e on p o) (λ f. visits c (stepOf N t p) (step-circle t p o) (stays-step p o h f)))
     where
-      by : Ahead N t p e → (stepOf N t p ≢ e → c < cyclesOf N t (stepOf N t p) e → Inside room (afterOf N t (stepOf N t p) (suc c)))
+      by : Ahead N t p e → (stepOf N t p ≢ e → c < circleCycles N t (stepOf N t p) e → Inside room (afterOf N t (stepOf N t p) (suc c)))
           → Inside room (afterOf N t (stepOf N t p) (suc c))
       by (at-end f g) k = absurd (omega arith)
       by (goes-on f g) k = k f (omega arith)
 
-  visits-back : (c : ℕ) (p : Offset) → Circle N p → cyclesOf N t p e ≡ suc c → Inside room p
+  visits-back : (c : ℕ) (p : Offset) → Circle N p → circleCycles N t p e ≡ suc c → Inside room p
       → ((j : ℕ) → j ≤ c → Inside room (afterOf N t p (suc j))) → staysInside room N t p e ≡ true
   unfolding afterOf
   visits-back zero p o h x y = by (ahead t e on p o)
@@ -304,7 +306,7 @@ module _ {N : ℕ} (t : Turn) (room : Room) (e : Offset) (on : Circle N e) where
       visits-back c (stepOf N t p) (step-circle t p o) g (y 0 (omega arith))
       (λ j l. subst (Inside room) (after-front N t p (suc j)) (y (suc j) (omega arith))))
     where
-      by : Ahead N t p e → (cyclesOf N t (stepOf N t p) e ≡ suc c → staysInside room N t (stepOf N t p) e ≡ true)
+      by : Ahead N t p e → (circleCycles N t (stepOf N t p) e ≡ suc c → staysInside room N t (stepOf N t p) e ≡ true)
           → staysInside room N t p e ≡ true
       by (at-end f g) k = absurd (omega arith)
       by (goes-on f g) k = stays-back p o x (y 0 (omega arith)) (inr (k (omega arith)))
@@ -314,7 +316,7 @@ pub stays-inside : {N : ℕ} (t : Turn) (room : Room) (p e : Offset) → Circle 
     → (staysInside room N t p e ≡ true) ↔ (Inside room p × ((q : Offset) → ToVisit N t p e q → Inside room q))
 stays-inside {N} t room p e c on = (λ h. (stays-here t room e on p c h, to h), λ h. of (h .0) (h .1))
   where
-    at : (h : staysInside room N t p e ≡ true) (k : ℕ) (q : Offset) → 1 ≤ k → k ≤ cyclesOf N t p e → Walk N t p k q → Inside room q
+    at : (h : staysInside room N t p e ≡ true) (k : ℕ) (q : Offset) → 1 ≤ k → k ≤ circleCycles N t p e → Walk N t p k q → Inside room q
     at h zero q b l w = absurd (omega arith)
     at h (suc k) q b l w = subst (Inside room) (sym (walk-to t p (suc k) q c w)) (visits t room e on k p c h (omega arith))
 
@@ -322,16 +324,16 @@ stays-inside {N} t room p e c on = (λ h. (stays-here t room e on p c h, to h), 
     to h q v = at h (v .cycle) q (v .begun) (omega (arith, ends-cycles t p e (v .cycles) c on .0 (v .ends))) (v .walk)
 
     of : Inside room p → ((q : Offset) → ToVisit N t p e q → Inside room q) → staysInside room N t p e ≡ true
-    of x f = by (cyclesOf N t p e) refl
+    of x f = by (circleCycles N t p e) refl
       where
-        by : (k : ℕ) → cyclesOf N t p e ≡ k → staysInside room N t p e ≡ true
+        by : (k : ℕ) → circleCycles N t p e ≡ k → staysInside room N t p e ≡ true
         by zero h = absurd (omega (arith, cycles-range t e on p c .0))
         by (suc k) h =
             visits-back t room e on k p c h x
             (λ j l.
             f (afterOf N t p (suc j))
             (record {
-              cycles = cyclesOf N t p e;
+              cycles = circleCycles N t p e;
               ends = ends t e on p c;
               cycle = suc j;
               begun = omega arith;

@@ -14,28 +14,33 @@ use Rattle.whole.specs.Ask.{ask}
 use Rattle.block.specs.Questions.{loadNo}
 use Rattle.queue.specs.Queue.{emptyQueue}
 use Rattle.work.specs.declared.Work.{Work}
-use Rattle.work.specs.Work.{isNothing, advanceOf}
-use Rattle.run.specs.Run.{Strip, stripOf, written}
+use Rattle.work.specs.Work.{isNothing}
+use Rattle.work.specs.computed.Work.{advanceOf}
+use Rattle.run.specs.computed.Run.{Strip, stripOf, written}
 use Rattle.settings.specs.declared.Settings.{Settings}
-use Rattle.settings.specs.Settings.{capacityOf, settingsNo, standardSettings}
+use Rattle.settings.specs.Settings.{capacityOf, standardSettings}
+use Rattle.settings.specs.computed.Settings.{settingsNo}
 use Rattle.bench.specs.declared.Bench.{Bench}
 use Rattle.bench.specs.declared.Answer.{Answer}
 use Rattle.bench.specs.declared.Tick.{Tick}
 use Rattle.bench.specs.declared.Report.{Report}
-use Rattle.bench.specs.Bench.{soundOf as benchSound, movedOf}
-use Rattle.bench.specs.Calls.{ticks as benchTicks, working, tickOf as benchTick}
-use Rattle.bench.specs.Run.{reportOf, ranOver, noTick as benchNoTick, runOf as benchRun}
+use Rattle.bench.specs.computed.Bench.{soundOf as benchSound}
+use Rattle.bench.specs.Bench.{movedOf}
+use Rattle.bench.specs.computed.Calls.{ticks as benchTicks, working, tickOf as benchTick}
+use Rattle.bench.specs.computed.Run.{reportOf, ranOver, noTick as benchNoTick, runOf as benchRun}
 use Rattle.machine.specs.declared.Machine.{Machine}
 use Rattle.machine.specs.declared.Answered.{Answered}
 use Rattle.machine.specs.declared.Ticked.{Ticked}
 use Rattle.machine.specs.declared.Ran.{Ran}
-use Rattle.machine.specs.Machine.{soundOf, machineOf, freshOf}
-use Rattle.machine.specs.Calls.{answers, makeWith, makeOf, loadWith, loadOf, ticks, tickOf, markOf, holdOf, releaseOf, stopOf}
-use Rattle.machine.specs.Run.{ranOn, noTick, runOf}
+use Rattle.machine.specs.computed.Machine.{soundOf}
+use Rattle.machine.specs.Machine.{machineOf, freshOf}
+use Rattle.machine.specs.Calls.{answers, ticks, markOf}
+use Rattle.machine.specs.computed.Calls.{makeWith, makeOf, loadWith, loadOf, tickOf, holdOf, releaseOf, stopOf}
+use Rattle.machine.specs.computed.Run.{ranOn, noTick, runOf}
 use Rattle.machine.specs.laws.Right.{sound}
 use Rattle.book.specs.Book.{Reply}
 use Rattle.look.specs.declared.Ahead.{Ahead}
-use Rattle.look.specs.Look.{tickingOf, looked, refusing, aheadOf}
+use Rattle.look.specs.computed.Look.{tickingOf, looked, refusing, aheadOf}
 use Rattle.history.specs.Reply.{answerReply, tickReply, runReply}
 use Rattle.history.specs.Contracts.{Makes, Loads, Ticks, Runs, Holds, Releases, Stops, Looks}
 use Rattle.demands.specs.Asked.{none, AsAsked}

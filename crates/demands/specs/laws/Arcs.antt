@@ -30,9 +30,10 @@ use Rattle.circle.specs.laws.Next.{step-close, sole}
 use Rattle.circle.specs.laws.Walk.{after-circle, walk-to, ends as walk-ends}
 use Rattle.arc.specs.declared.arc.Arc.{Arc}
 use Rattle.arc.specs.Centre.{seenFrom, backFrom}
-use Rattle.arc.specs.Arc.{arcAfter, arcCycles, arcWidth, arcStepped}
+use Rattle.arc.specs.computed.Arc.{arcAfter, arcCycles, arcStepped}
+use Rattle.arc.specs.Arc.{arcWidth}
 use Rattle.arc.specs.laws.Step.{seen-after}
-use Rattle.arc.specs.Charge.{arcCharge, arcChargesIn}
+use Rattle.arc.specs.computed.Charge.{arcCharge, arcChargesIn}
 use Rattle.arc.specs.laws.Centre.{back-seen}
 use Rattle.arc.specs.laws.Charge.{charge-codes, charges-next}
 use Rattle.block.specs.declared.Block.{Block}
@@ -42,7 +43,8 @@ use Rattle.block.specs.Chain.{endAfter}
 use Rattle.block.specs.Charge.{arcStepCharge}
 use Rattle.block.specs.laws.Begin.{offset-right, square-some}
 use Rattle.work.specs.declared.Work.{Work}
-use Rattle.work.specs.Work.{isNothing, following, arcCycle, cycleOf, dueOf, cyclesLeft, advanceOf}
+use Rattle.work.specs.Work.{isNothing, following, cyclesLeft}
+use Rattle.work.specs.computed.Work.{arcCycle, cycleOf, dueOf, advanceOf}
 use Rattle.run.specs.laws.Idle.{idle-tick, cycle-tick}
 use Rattle.settings.specs.declared.Settings.{Settings}
 use Rattle.settings.specs.Settings.{capacityOf}
@@ -52,12 +54,13 @@ use Rattle.bench.specs.declared.Bench.{Bench}
 use Rattle.bench.specs.declared.Tick.{Tick}
 use Rattle.bench.specs.declared.Ticked.{Ticked as BenchTicked}
 use Rattle.bench.specs.Bench.{movedOf}
-use Rattle.bench.specs.Calls.{ticks as benchTicks, working, tickOf as benchTick}
+use Rattle.bench.specs.computed.Calls.{ticks as benchTicks, working, tickOf as benchTick}
 use Rattle.machine.specs.declared.Machine.{Machine}
 use Rattle.machine.specs.declared.Answered.{Answered}
 use Rattle.machine.specs.declared.Ticked.{Ticked}
 use Rattle.machine.specs.Machine.{machineOf}
-use Rattle.machine.specs.Calls.{nextOf, goingOn, tickOf}
+use Rattle.machine.specs.Calls.{nextOf, goingOn}
+use Rattle.machine.specs.computed.Calls.{tickOf}
 use Rattle.machine.specs.laws.Keeps.{tick-keeps}
 use Rattle.look.specs.laws.Sums.{next-stands}
 use Rattle.history.specs.Contracts.{Loads}

@@ -5,16 +5,15 @@ use mathlib.Core.Logic.{_↔_, _≢_}
 use Prim.Native.Nat.{ℕ, _≤_}
 use native.Mathlib.Omega.{arith}
 use borrow.Author.Tests.{leb-true, le-leb}
-use lib.IntN.{ℤ, pos, negsuc, natAbs}
+use lib.IntN.{ℤ}
 use Rattle.whole.specs.laws.Order.{from-≤ℤ, to-≤ℤ, abs-sub}
 use Rattle.whole.specs.laws.Test.{both, joined}
 use Rattle.plane.specs.declared.point.Point.{Point}
 use Rattle.plane.specs.declared.travel.Range.{Range}
 use Rattle.plane.specs.declared.travel.Travel.{Travel}
 use Rattle.plane.specs.Travel.{insideOf, visitsInside}
-use Rattle.plane.specs.Point.{Near}
 use Rattle.plane.specs.computed.Travel.{Wide}
-use Rattle.plane.specs.laws.Travel.{Within, Inside, within, within-test, inside, inside-test, visits, visits-test, travel-near}
+use Rattle.plane.specs.laws.Travel.{Bounded, within, within-test, inside, inside-test, visits, visits-test, travel-near}
 use Rattle.circle.specs.Circle.{Circle}
 use Rattle.circle.specs.laws.Circle.{on-circle-to, on-circle-of}
 use Rattle.circle.specs.laws.Walk.{walk-of, walk-to, ends, ends-cycles}
@@ -24,16 +23,17 @@ use Rattle.line.specs.laws.Cycles.{cycles-apart, apart-differ, differ-apart}
 use Rattle.line.specs.laws.Work.{some-cycle}
 use Rattle.arc.specs.declared.arc.Arc.{Arc}
 use Rattle.arc.specs.Centre.{seenFrom}
-use Rattle.arc.specs.Arc.{arcAfter, arcCycles, centres}
-use Rattle.arc.specs.laws.Work.{centre-near}
+use Rattle.arc.specs.computed.Arc.{arcAfter, arcCycles}
+use Rattle.arc.specs.laws.Work.{centre-near, centre-inside}
 use Rattle.work.specs.declared.Work.{Work}
-use Rattle.work.specs.Work.{workSound}
+use Rattle.work.specs.computed.Work.{workSound}
 use Rattle.work.specs.laws.Sound.{line-work, line-sound, arc-work, arc-sound}
 use Rattle.settings.specs.declared.Settings.{Settings}
-use Rattle.settings.specs.Settings.{inRange, axisRight, travelRight, settingsNo, capacityOf}
+use Rattle.settings.specs.computed.Settings.{inRange, axisRight, travelRight, settingsNo}
+use Rattle.settings.specs.Settings.{capacityOf}
 use Rattle.settings.specs.laws.Right.{settings-right}
 use Rattle.bench.specs.declared.Bench.{Bench}
-use Rattle.bench.specs.Bench.{soundOf}
+use Rattle.bench.specs.computed.Bench.{soundOf}
 use Rattle.bench.specs.laws.Sound.{sound, sound-test}
 use Rattle.demands.specs.Asked.{AllYes}
 use Rattle.demands.specs.Bench.{AxisRight, TravelRight, settingsQuestions, InTravel, VisitsInTravel}
@@ -82,7 +82,7 @@ settings-pass s = passed (settings-verdict s)
 
 -- ---- travel
 
-pub travel-inside : {t : Travel} {p : Point} → InTravel t p → Inside t p
+pub travel-inside : {t : Travel} {p : Point} → InTravel t p → Bounded t p
 travel-inside i =
     record {
       x = record { above = from-≤ℤ (i .left); below = from-≤ℤ (i .right) };
@@ -90,7 +90,7 @@ travel-inside i =
           record { above = from-≤ℤ (i .down); below = from-≤ℤ (i .up) };
     }
 
-pub inside-travel : {t : Travel} {p : Point} → Inside t p → InTravel t p
+pub inside-travel : {t : Travel} {p : Point} → Bounded t p → InTravel t p
 inside-travel i =
     record { left = to-≤ℤ _ _ (i .x .above); right = to-≤ℤ _ _ (i .x .below); down = to-≤ℤ _ _ (i .y .above); up = to-≤ℤ _ _ (i .y .below) }
 
@@ -121,13 +121,6 @@ visits-is t a at here there = (
 )
 
 -- ---- what is in work
-
-centre-inside : (p : Point) → Near 2000000 p → insideOf centres p ≡ true
-centre-inside p n = inside-test {t = centres} {p = p} (record { x = by (p .x) (n .x); y = by (p .y) (n .y) })
-  where
-    by : (z : ℤ) → natAbs z ≤ 2000000 → Within (centres .x) z
-    by (pos a) h = record { above = omega arith; below = omega arith }
-    by (negsuc a) h = record { above = omega arith; below = omega arith }
 
 pub line-differs : (start end : Point) → (differ start end ≡ true) ↔ (start ≢ end)
 line-differs start end = (differ-apart start end, apart-differ start end)

@@ -1,6 +1,6 @@
 -- Load's questions of a block: the number by the code's tests is that of the first no.
 use mathlib.Core.Path.{_≡_, refl, ap}
-use mathlib.Core.Bool.{Bool, true, not, _&&_, false≢true}
+use mathlib.Core.Bool.{Bool, true, not, _&&_}
 use mathlib.Core.Logic.{_↔_}
 use Prim.Native.Nat.{ℕ, zero, suc}
 use native.Mathlib.Omega.{arith}
@@ -15,7 +15,7 @@ use Rattle.circle.specs.Circle.{onCircle}
 use Rattle.circle.specs.laws.Circle.{on-circle-to, on-circle-of}
 use Rattle.line.specs.Line.{differ}
 use Rattle.arc.specs.Centre.{seenFrom, backFrom}
-use Rattle.arc.specs.Arc.{arcAfter, arcCycles}
+use Rattle.arc.specs.computed.Arc.{arcAfter, arcCycles}
 use Rattle.block.specs.declared.Block.{Block}
 use Rattle.block.specs.declared.Path.{Path}
 use Rattle.block.specs.Block.{squareOf, arcOf}
@@ -25,14 +25,13 @@ use Rattle.work.specs.declared.Work.{Work}
 use Rattle.work.specs.Work.{isNothing}
 use Rattle.settings.specs.declared.Settings.{Settings}
 use Rattle.settings.specs.Settings.{capacityOf}
+use Rattle.work.specs.laws.Left.{nothing-is}
 use Rattle.demands.specs.Block.{CentreRight, EndOnCircle, pathQuestions, blockQuestions}
 use Rattle.demands.specs.laws.Asked.{Verdict, asked, none-asked}
 use Rattle.demands.specs.laws.Bench.{in-range, in-travel, line-differs, visits-is}
 
-pub nothing-is : (w : Work) → (isNothing w ≡ true) ↔ (w ≡ Work.Nothing)
-nothing-is Work.Nothing = (λ e. refl, λ e. refl)
-nothing-is (Work.Line l) = (λ e. absurd (false≢true e), λ e. ap isNothing e)
-nothing-is (Work.Arc a) = (λ e. absurd (false≢true e), λ e. ap isNothing e)
+pub nothing-iff : (w : Work) → (isNothing w ≡ true) ↔ (w ≡ Work.Nothing)
+nothing-iff w = (nothing-is w, λ e. ap isNothing e)
 
 pub centre-is : (centre : Offset) → (offsetRight centre ≡ true) ↔ CentreRight centre
 centre-is o = (

@@ -2,9 +2,10 @@
 use mathlib.Core.Path.{_≡_, refl, ap, _∙_}
 use Rattle.bench.specs.declared.Tick.{Tick}
 use Rattle.bench.specs.Bench.{freshOf, movedOf}
-use Rattle.bench.specs.Calls.{ticks as benchTicks, tickOf as benchTick}
+use Rattle.bench.specs.computed.Calls.{ticks as benchTicks, tickOf as benchTick}
 use Rattle.machine.specs.declared.Machine.{Machine}
-use Rattle.machine.specs.Calls.{makeWith, makeOf, ticks, tickOf, holdOf, releaseOf, stopOf}
+use Rattle.machine.specs.computed.Calls.{makeWith, makeOf, tickOf, holdOf, releaseOf, stopOf}
+use Rattle.machine.specs.Calls.{ticks}
 use Rattle.machine.specs.laws.Right.{sound}
 use Rattle.machine.specs.laws.Rest.{next-own}
 use Rattle.demands.specs.Sound.{Sound}

@@ -8,12 +8,13 @@ use lib.ListN.{length, drop, take-append-drop}
 use lib.Seq.{take-append-seam}
 use Rattle.whole.specs.laws.Test.{refuted}
 use Rattle.queue.specs.Queue.{blank}
-use Rattle.bench.specs.Run.{runOf as benchRun}
+use Rattle.bench.specs.computed.Run.{runOf as benchRun}
 use Rattle.machine.specs.declared.Machine.{Machine}
-use Rattle.machine.specs.Machine.{soundOf}
-use Rattle.machine.specs.Run.{runOf}
+use Rattle.machine.specs.computed.Machine.{soundOf}
+use Rattle.machine.specs.computed.Run.{runOf}
 use Rattle.machine.specs.laws.Right.{sound}
-use Rattle.record.specs.Words.{encodeOf, over, machineIn, soundWords}
+use Rattle.record.specs.Words.{encodeOf, over}
+use Rattle.record.specs.computed.Words.{machineIn, soundWords}
 use Rattle.record.specs.laws.Write.{told-sound}
 use Rattle.record.specs.laws.Again.{Blanks, told-blanks, next-blanks, told-again, sound-again}
 use Rattle.calls.specs.laws.Load.{own-words}

@@ -8,24 +8,29 @@ use lib.ListN.{take}
 use denote.Ref.{RefT, now}
 use Rattle.whole.specs.laws.Test.{both, joined, refuted}
 use Rattle.settings.specs.declared.Settings.{Settings}
-use Rattle.settings.specs.Settings.{settingsNo}
+use Rattle.settings.specs.computed.Settings.{settingsNo}
 use Rattle.bench.specs.declared.Bench.{Bench}
-use Rattle.bench.specs.Calls.{makeWith, makeOf}
+use Rattle.bench.specs.computed.Calls.{makeWith, makeOf}
 use Rattle.machine.specs.Machine.{machineOf}
-use Rattle.machine.specs.Calls.{makeWith as machineMakeWith, makeOf as machineMake}
-use Rattle.listing.specs.Tally.{startOf as tallyStart}
+use Rattle.machine.specs.computed.Calls.{makeWith as machineMakeWith, makeOf as machineMake}
+use Rattle.tally.specs.computed.Tally.{tallyFrom as tallyStart}
 use Rattle.job.specs.declared.Stage.{Stage}
 use Rattle.job.specs.declared.Check.{Check}
-use Rattle.job.specs.Listing.{listingOf}
-use Rattle.job.specs.Check.{startOf, stageOver, restAt, restOf}
-use Rattle.layout.specs.Words.{encodeOf, machineIn, markWord, soundWords}
-use Rattle.layout.specs.laws.Same.{same-true, same-words}
-use Rattle.layout.specs.laws.Record.{machine-back, words-are, told-sound, sound-words}
-use Rattle.progress.specs.Progress.{encodeProgress, checkIn, decodeProgress}
-use Rattle.calls.specs.Calls.{answerNumber, Told, tells}
-use Rattle.checkcalls.specs.Check.{benchMade, startProgress, checkTold, isCheck, Refuses, Hands, TellsFill}
-use Rattle.checkcalls.specs.laws.Check.{rows-told, refused-told}
-use Rattle.checkcalls.specs.laws.Start.{Told as CheckTold, start-told, start-lists, hands, fill-told}
+use Rattle.job.specs.computed.Listing.{listingOf}
+use Rattle.job.specs.computed.Check.{checkFrom, restAt, restOf}
+use Rattle.job.specs.Check.{stageOver}
+use Rattle.encoding.specs.Words.{encodeOf, markWord}
+use Rattle.encoding.specs.computed.Words.{benchTold, soundWords}
+use Rattle.encoding.specs.laws.Same.{same-true, same-words}
+use Rattle.encoding.specs.laws.Record.{machine-back, words-are, told-sound, sound-words}
+use Rattle.progress.specs.Progress.{encodeProgress, checkIn}
+use Rattle.progress.specs.computed.Progress.{decodeProgress}
+use Rattle.calls.specs.Calls.{answerNumber}
+use Rattle.calls.specs.computed.Calls.{Told, tells}
+use Rattle.ccheck.specs.computed.Check.{benchMade, startProgress, checkTold, isCheck, Hands, TellsFill}
+use Rattle.ccheck.specs.Check.{Refuses}
+use Rattle.ccheck.specs.laws.Check.{rows-told, refused-told}
+use Rattle.ccheck.specs.laws.Start.{Told as CheckTold, start-told, start-lists, hands, fill-told}
 use Rattle.demands.specs.Asked.{AllYes}
 use Rattle.demands.specs.Bench.{settingsQuestions}
 use Rattle.demands.specs.Texts.{FrontOf}
@@ -37,7 +42,7 @@ check-is : (ws ps : List ℤ) (k : Bench) → IsCheck ws ps k → (isCheck ws ps
 unfolding isCheck decodeProgress
 check-is ws ps k c =
     let e = bench-is k .1 (c .0) in
-    let here = ap machineIn (c .1) ∙ machine-back k e in
+    let here = ap benchTold (c .1) ∙ machine-back k e in
     (joined (ap soundWords (c .1) ∙ sound-words k e) (rw here (sym (same-words (c .2)))), ap (λ (x : Bench). checkIn x ps) here)
 
 no-check-is : (ws ps : List ℤ) → ((k : Bench) → ¬ (IsCheck ws ps k)) → isCheck ws ps ≡ false
@@ -46,10 +51,10 @@ no-check-is ws ps none =
     refuted (isCheck ws ps)
     (λ t.
     let b = both {a = soundWords ws} t in
-    none (machineIn ws) (
-      bench-is (machineIn ws) .0 (told-sound ws (b .0)),
+    none (benchTold ws) (
+      bench-is (benchTold ws) .0 (told-sound ws (b .0)),
       words-are ws (b .0),
-      same-true ps (encodeProgress (checkIn (machineIn ws) ps)) (b .1),
+      same-true ps (encodeProgress (checkIn (benchTold ws) ps)) (b .1),
     ))
 
 own-fill : {c : Check} (text out out′ : RefT (List ℕ)) {n : ℤ} {len : ℕ} {ws′ ps′ : List ℤ}
@@ -97,7 +102,7 @@ come {text} c t (RowsOutToC.fill {bytes = bytes} {ws₁ = ws₁} before κs word
 from-start : (s : Settings) → AllYes (settingsQuestions s) → (text bytes : List ℕ) (n : ℤ) (ws ps : List ℤ)
     → RowsOutToC text (encodeOf (makeOf s .bench)) (startProgress s) bytes n ws ps → FrontOf (listingOf s text) bytes (n ≡ pos 1)
 from-start s pass text bytes n ws ps rows =
-    let k = come (startOf (makeOf s .bench)) (start-told s) rows in
+    let k = come (checkFrom (makeOf s .bench)) (start-told s) rows in
     record { rest = restOf (k .check) text; front = k .front ∙ start-lists s (settings-pass s .1 pass) text; all = k .ended }
 
 -- the bench of the machine that a make answers
@@ -110,14 +115,14 @@ made-bench s = by (settingsNo s)
     by (suc n) = (refl, refl)
 
 pub started : (s : Settings) (n : ℤ) (ws ps : List ℤ) → tells n ws ≡ benchMade s → ps ≡ startProgress s → StartedWords s n ws ps
-unfolding startOf tallyStart
+unfolding checkFrom tallyStart
 started s n ws ps made progress =
     let same = made-bench s in (
       machineMake s,
       refl,
       ap (λ (t : Told). t .answer) made ∙ ap answerNumber (same .0),
-      startOf (makeOf s .bench),
-      ap startOf (same .1),
+      checkFrom (makeOf s .bench),
+      ap checkFrom (same .1),
       record { words = ap (λ (t : Told). t .words) made; progress = progress },
     )
 

@@ -2,13 +2,13 @@
 use mathlib.Core.Path.{refl, sym, _∙_}
 use lib.ListN.{length}
 use denote.Ref.{now, at-last}
-use Rattle.run.specs.Run.{written}
-use Rattle.machine.specs.Calls.{makeOf, loadOf, tickOf, holdOf, releaseOf, stopOf}
-use Rattle.machine.specs.Run.{runOf}
-use Rattle.look.specs.Look.{aheadOf}
+use Rattle.run.specs.computed.Run.{written}
+use Rattle.machine.specs.computed.Calls.{makeOf, loadOf, tickOf, holdOf, releaseOf, stopOf}
+use Rattle.machine.specs.computed.Run.{runOf}
+use Rattle.look.specs.computed.Look.{aheadOf}
 use Rattle.words.specs.computed.Meaning.{meaningOf}
 use Rattle.words.specs.laws.Meaning.{meaning-means}
-use Rattle.textline.specs.TextLine.{readLineOf}
+use Rattle.textline.specs.computed.TextLine.{readLineOf}
 use Rattle.demands.specs.Answers.{Comes, EveryAnswer}
 use Rattle.demands.specs.Records.{EveryRecord}
 use Rattle.demands.specs.laws.Sound.{sound-is}

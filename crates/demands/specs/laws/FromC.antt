@@ -13,20 +13,22 @@ use denote.Ref.{RefT, now, at-last}
 use Rattle.whole.specs.laws.Test.{refuted}
 use Rattle.block.specs.declared.Block.{Block}
 use Rattle.queue.specs.Queue.{emptyQueue}
-use Rattle.run.specs.Run.{written}
+use Rattle.run.specs.computed.Run.{written}
 use Rattle.settings.specs.declared.Settings.{Settings}
-use Rattle.settings.specs.Settings.{settingsNo}
+use Rattle.settings.specs.computed.Settings.{settingsNo}
 use Rattle.bench.specs.declared.Answer.{Answer}
 use Rattle.bench.specs.declared.Tick.{Tick}
 use Rattle.bench.specs.declared.Report.{Report}
 use Rattle.machine.specs.declared.Machine.{Machine}
 use Rattle.machine.specs.declared.Answered.{Answered}
-use Rattle.machine.specs.Machine.{soundOf, machineOf}
-use Rattle.machine.specs.Calls.{makeWith, makeOf, loadOf, tickOf, holdOf, releaseOf, stopOf}
-use Rattle.machine.specs.Run.{Run, runOf}
+use Rattle.machine.specs.computed.Machine.{soundOf}
+use Rattle.machine.specs.Machine.{machineOf}
+use Rattle.machine.specs.computed.Calls.{makeWith, makeOf, loadOf, tickOf, holdOf, releaseOf, stopOf}
+use Rattle.machine.specs.computed.Run.{Run, runOf}
 use Rattle.machine.specs.laws.Keeps.{make-keeps, load-keeps, run-keeps}
 use Rattle.look.specs.declared.Ahead.{Ahead}
-use Rattle.look.specs.Look.{tickingOf, sumsOf, looked, refusing, mostTicks}
+use Rattle.look.specs.computed.Look.{tickingOf, sumsOf, looked, refusing}
+use Rattle.look.specs.Look.{mostTicks}
 use Rattle.look.specs.laws.Ahead.{looks, too-far}
 use Rattle.book.specs.Book.{Reply}
 use Rattle.history.specs.Contracts.{Looks}
@@ -38,26 +40,31 @@ use Rattle.reader.specs.declared.Feed.{Feed}
 use Rattle.reader.specs.declared.Reader.{Reader}
 use Rattle.reader.specs.declared.«text_line».Read.{Read}
 use Rattle.textline.specs.declared.ReadLine.{ReadLine}
-use Rattle.textline.specs.TextLine.{readLineOf}
+use Rattle.textline.specs.computed.TextLine.{readLineOf}
 use Rattle.textline.specs.laws.TextLine.{read-either}
-use Rattle.layout.specs.Words.{wordOf, refusalOf}
-use Rattle.layout.specs.laws.Same.{same-true}
-use Rattle.layout.specs.laws.Number.{word-small}
-use Rattle.record.specs.Words.{encodeOf, over, machineIn, soundWords}
+use Rattle.encoding.specs.Words.{wordOf, refusalOf}
+use Rattle.encoding.specs.laws.Same.{same-true}
+use Rattle.encoding.specs.laws.Number.{word-small}
+use Rattle.record.specs.Words.{encodeOf, over}
+use Rattle.record.specs.computed.Words.{machineIn, soundWords}
 use Rattle.record.specs.laws.Write.{told-sound}
 use Rattle.record.specs.laws.Again.{Blanks}
-use Rattle.calls.specs.Calls.{answerNumber, tickNumber, reportNumber, Call, Told, tells, callOf, toldOf}
-use Rattle.calls.specs.Calls.{madeOf, ToldRun, tellsRun, ran, toldRunOf}
+use Rattle.calls.specs.Calls.{answerNumber, tickNumber, reportNumber, WordCall}
+use Rattle.calls.specs.computed.Calls.{Told, tells, callOf, toldOf}
+use Rattle.calls.specs.computed.Calls.{madeOf, ToldRun, tellsRun, ran, toldRunOf}
 use Rattle.calls.specs.laws.Told.{told-call, told-refused, run-refused}
 use Rattle.calls.specs.laws.Load.{own-words}
 use Rattle.progress.specs.declared.known.DecodedKnown.{DecodedKnown}
-use Rattle.progress.specs.Known.{encodeKnown, feedOf, readerOf, knownIn, decodeKnown}
+use Rattle.progress.specs.Known.{encodeKnown, feedTold, readerOf}
+use Rattle.progress.specs.computed.Known.{knownIn, decodeKnown}
 use Rattle.progress.specs.laws.Inverse.{FeedFits, known-decode}
-use Rattle.export.specs.Looks.{ToldAhead, tellsAhead, sumWords, noSums, ticksOf, toldAheadOf}
-use Rattle.export.specs.Texts.{readNumber, ToldLine, tellsLine, lineTold, toldLineOf}
-use Rattle.export.specs.laws.Looks.{ticks-told, ahead-refused, ahead-far}
-use Rattle.export.specs.laws.Again.{machineAfter, keeps, blanks-kept}
-use Rattle.export.specs.laws.Width.{width-word}
+use Rattle.cmachine.specs.computed.Looks.{ToldAhead, tellsAhead, ticksOf, toldAheadOf}
+use Rattle.cmachine.specs.Looks.{sumWords, noSums}
+use Rattle.cmachine.specs.Texts.{readNumber}
+use Rattle.cmachine.specs.computed.Texts.{ToldLine, tellsLine, lineTold, toldLineOf}
+use Rattle.cmachine.specs.laws.Looks.{ticks-told, ahead-refused, ahead-far}
+use Rattle.cmachine.specs.laws.Again.{machineAfter, keeps, blanks-kept}
+use Rattle.cmachine.specs.laws.Width.{width-word}
 use Rattle.demands.specs.Asked.{AllYes}
 use Rattle.demands.specs.Questions.{nextStart, lineQuestions, makesBlock, lineBlock}
 use Rattle.demands.specs.Answers.{readReply}
@@ -68,7 +75,7 @@ use Rattle.demands.specs.laws.Answers.{load-answers, tick-answers, run-a
 use Rattle.demands.specs.laws.TextLine.{line-answers, line-taken}
 use Rattle.demands.specs.laws.Carried.{carries-sound, carries-it, carried, carries-told, unsound-words}
 use Rattle.demands.specs.laws.Carried.{run-blanks}
-use Rattle.job.specs.Listing.{listingOf}
+use Rattle.job.specs.computed.Listing.{listingOf}
 use Rattle.demands.specs.laws.CheckFromC.{started, from-words, check-fills, no-check-fills}
 
 -- ---- the calls
@@ -87,14 +94,14 @@ made-blanks s = by (settingsNo s)
     by zero = refl
     by (suc n) = refl
 
-own-call : (ws : List ℤ) (m : Machine) (call : Call)
+own-call : (ws : List ℤ) (m : Machine) (call : WordCall)
     → (let t = callOf ws m call in Own call m (t .answer) (machineAfter m call) × (t .words ≡ over (encodeOf (machineAfter m call)) ws))
 unfolding callOf
-own-call ws m (Call.load b) = ((loadOf m b, refl, refl, refl), refl)
-own-call ws m Call.tick = ((tickOf m, refl, refl, refl), refl)
-own-call ws m Call.hold = ((holdOf m, refl, refl, refl), refl)
-own-call ws m Call.release = ((releaseOf m, refl, refl, refl), refl)
-own-call ws m Call.stop = ((stopOf m, refl, refl, refl), refl)
+own-call ws m (WordCall.load b) = ((loadOf m b, refl, refl, refl), refl)
+own-call ws m WordCall.tick = ((tickOf m, refl, refl, refl), refl)
+own-call ws m WordCall.hold = ((holdOf m, refl, refl, refl), refl)
+own-call ws m WordCall.release = ((releaseOf m, refl, refl, refl), refl)
+own-call ws m WordCall.stop = ((stopOf m, refl, refl, refl), refl)
 
 -- a call on a sound record that answers a negative number is a load that refused, and left the record as it was
 refused-load : (m : Machine) (b : Block) (a : Answered) → a ≡ loadOf m b → soundOf m ≡ true
@@ -138,16 +145,16 @@ no-refused-run m sound budget out k = by (r .ran .report) refl
         run-answers m ([], tt) budget out out′ (r .ran) (refl, refl) .accepted .1 (sound-is m .0 sound, tt) n
         (ap (λ (report : Report). runReply report (r .ran .ticks) (take (r .ran .ticks) (now out′))) at)
 
-refused-call : (ws : List ℤ) (m : Machine) → soundOf m ≡ true → (call : Call) (k : ℕ) → callOf ws m call .answer ≡ negsuc k
+refused-call : (ws : List ℤ) (m : Machine) → soundOf m ≡ true → (call : WordCall) (k : ℕ) → callOf ws m call .answer ≡ negsuc k
     → machineAfter m call ≡ m
 unfolding callOf holdOf releaseOf stopOf
-refused-call ws m sound (Call.load b) k e = refused-load m b (loadOf m b) refl sound k e
-refused-call ws m sound Call.tick k e = absurd (no-refused-tick m sound k e)
-refused-call ws m sound Call.hold k e = let z = rw sound at e in absurd (apart z)
-refused-call ws m sound Call.release k e = let z = rw sound at e in absurd (apart z)
-refused-call ws m sound Call.stop k e = let z = rw sound at e in absurd (apart z)
+refused-call ws m sound (WordCall.load b) k e = refused-load m b (loadOf m b) refl sound k e
+refused-call ws m sound WordCall.tick k e = absurd (no-refused-tick m sound k e)
+refused-call ws m sound WordCall.hold k e = let z = rw sound at e in absurd (apart z)
+refused-call ws m sound WordCall.release k e = let z = rw sound at e in absurd (apart z)
+refused-call ws m sound WordCall.stop k e = let z = rw sound at e in absurd (apart z)
 
-on-words : (call : Call) (before : List ℤ) (n : ℤ) (after : List ℤ) → tells n after ≡ toldOf before call → OnWords call before n after
+on-words : (call : WordCall) (before : List ℤ) (n : ℤ) (after : List ℤ) → tells n after ≡ toldOf before call → OnWords call before n after
 on-words call before n after h =
     record {
       own = λ m c.
@@ -327,7 +334,7 @@ made-words s before n after h =
 -- ---- a line of a job text
 
 -- what is known, and its words
-feed-32 : (z : ℤ) → FeedOf32 (feedOf z)
+feed-32 : (z : ℤ) → FeedOf32 (feedTold z)
 feed-32 (negsuc n) = tt
 feed-32 (pos f) = by (ltb f (2 ^ 32)) refl
   where
@@ -449,7 +456,8 @@ module _ (before known : List ℤ) (line : RefT (List ℕ)) (n : ℤ) (after kno
               ap (λ (l : ToldLine). l .answer) same,
               subst (λ (l : List ℤ). Carries l (r .machine)) (sym laid) (carried (r .machine)
                   (read-either (λ x. soundOf x ≡ true) k m (now line) e (λ b. load-keeps m e b))
-                  (read-either (λ x. Blanks (x .queue)) k m (now line) (c .blank) (λ b. blanks-kept m e (c .blank) (Call.load b))) before),
+                  (read-either (λ x. Blanks (x .queue)) k m (now line) (c .blank)
+                  (λ b. blanks-kept m e (c .blank) (WordCall.load b))) before),
               laid,
               ap (λ (l : ToldLine). l .known) same,
             );
@@ -475,10 +483,10 @@ every-call-from-c =
       line = λ κs words words′ x y feed n h. on-words _ (now words) n (now words′) h;
       clockwise = λ κs words words′ x y feed i j n h. on-words _ (now words) n (now words′) h;
       counterclockwise = λ κs words words′ x y feed i j n h. on-words _ (now words) n (now words′) h;
-      tick = λ κs words words′ n h. on-words Call.tick (now words) n (now words′) h;
-      hold = λ κs words words′ n h. on-words Call.hold (now words) n (now words′) h;
-      release = λ κs words words′ n h. on-words Call.release (now words) n (now words′) h;
-      stop = λ κs words words′ n h. on-words Call.stop (now words) n (now words′) h;
+      tick = λ κs words words′ n h. on-words WordCall.tick (now words) n (now words′) h;
+      hold = λ κs words words′ n h. on-words WordCall.hold (now words) n (now words′) h;
+      release = λ κs words words′ n h. on-words WordCall.release (now words) n (now words′) h;
+      stop = λ κs words words′ n h. on-words WordCall.stop (now words) n (now words′) h;
       run = λ κs words words′ budget out out′ ticks ticks′ n h. run-on-words (now words) budget out out′ n (now ticks′) (now words′) h;
       look = λ κs words then then′ sums sums′ ticks n h. look-on-words (now words) ticks n (now then′) (now sums′) h;
       text = λ κs words words′ known known′ line n h. line-on-words (now words) (now known) line n (now words′) (now known′) h;

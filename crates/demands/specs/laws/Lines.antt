@@ -11,7 +11,8 @@ use Rattle.plane.specs.Pulse.{shiftedOf}
 use Rattle.plane.specs.Byte.{cycleByte}
 use Rattle.circle.specs.Charge.{straight}
 use Rattle.line.specs.declared.line.Line.{Line}
-use Rattle.line.specs.Line.{cyclesOf, pointOf, lineWidth, steppedOf}
+use Rattle.line.specs.Line.{lineCycles, linePoint, lineWidth}
+use Rattle.line.specs.computed.Line.{steppedOf}
 use Rattle.line.specs.laws.Cycles.{cycles-some}
 use Rattle.line.specs.laws.Pulses.{point-next, pulses-next}
 use Rattle.block.specs.declared.Block.{Block}
@@ -19,7 +20,8 @@ use Rattle.block.specs.declared.Path.{Path}
 use Rattle.block.specs.Block.{widthAlong, blockWidth}
 use Rattle.work.specs.declared.Work.{Work}
 use Rattle.work.specs.declared.Cycle.{Cycle}
-use Rattle.work.specs.Work.{isNothing, following, lineCycle, cycleOf, advanceOf, workAlong, begunOf}
+use Rattle.work.specs.Work.{isNothing, following, workAlong, begunOf}
+use Rattle.work.specs.computed.Work.{lineCycle, cycleOf, advanceOf}
 use Rattle.run.specs.laws.Idle.{idle-tick, cycle-tick}
 use Rattle.settings.specs.Settings.{capacityOf}
 use Rattle.queue.specs.Queue.{waiting, pushedOf, waitingAt}
@@ -27,13 +29,14 @@ use Rattle.queue.specs.laws.Waiting.{push-waiting}
 use Rattle.bench.specs.declared.Bench.{Bench}
 use Rattle.bench.specs.declared.Answer.{Answer}
 use Rattle.bench.specs.declared.Ticked.{Ticked as BenchTicked}
-use Rattle.bench.specs.Calls.{working, tickOf as benchTick}
+use Rattle.bench.specs.computed.Calls.{working, tickOf as benchTick}
 use Rattle.finish.specs.laws.Record.{AtWork}
 use Rattle.machine.specs.declared.Machine.{Machine}
 use Rattle.machine.specs.declared.Answered.{Answered}
 use Rattle.machine.specs.declared.Ticked.{Ticked}
 use Rattle.machine.specs.Machine.{machineOf}
-use Rattle.machine.specs.Calls.{beginning, takes, taking, loadWith, goingOn, tickOf}
+use Rattle.machine.specs.Calls.{beginning, goingOn}
+use Rattle.machine.specs.computed.Calls.{takes, taking, loadWith, tickOf}
 use Rattle.machine.specs.laws.Right.{sound}
 use Rattle.history.specs.Contracts.{Loads, Ticks}
 use Rattle.demands.specs.Asked.{AllYes}
@@ -44,7 +47,7 @@ use Rattle.demands.specs.Taken.{Taken, ComesIn, TicksAs}
 use Rattle.demands.specs.Lines.{registerPulses, oneMore, LineTick, EveryLine}
 use Rattle.demands.specs.laws.Asked.{passed}
 use Rattle.demands.specs.laws.Bench.{bench-is}
-use Rattle.demands.specs.laws.Block.{nothing-is}
+use Rattle.demands.specs.laws.Block.{nothing-iff}
 use Rattle.demands.specs.laws.Sound.{sound-is}
 use Rattle.demands.specs.laws.Answers.{load-verdict, load-is}
 use Rattle.demands.specs.laws.Runs.{bench-tick, comes-in, remainder-then, busy-is}
@@ -74,7 +77,7 @@ module _ (m : Machine) (b : Block) (r : Answered) (h : Loads m b r) (all : AllYe
   taken =
       record {
         begins = λ none.
-            after ∙ ap (λ (idle : Bool). takes m b idle (begunOf start b)) (nothing-is (m .bench .work) .1 none)
+            after ∙ ap (λ (idle : Bool). takes m b idle (begunOf start b)) (nothing-iff (m .bench .work) .1 none)
             ∙ ap (λ (p : Path). machineOf (beginning (m .bench) (workAlong start b p)) (m .queue)) e;
         waits = λ some. waits-last (busy-is (m .bench) some);
         last = λ some.
@@ -114,17 +117,17 @@ pub work-of : (k : Bench) (w : Work) → BenchSound k → k .work ≡ w → Work
 work-of k w s work = subst (WorkSound (capacityOf (k .settings)) (k .settings .travel) (k .at)) work (s .work)
 
 -- the cycle of a sound line
-line-cycle : (at : Point) (l : Line) → l .start ≢ l .end → at ≡ pointOf (l .start) (l .end) (l .done)
-    → l .cycles ≡ cyclesOf (l .start) (l .end)
+line-cycle : (at : Point) (l : Line) → l .start ≢ l .end → at ≡ linePoint (l .start) (l .end) (l .done)
+    → l .cycles ≡ lineCycles (l .start) (l .end)
     → (let pulses = registerPulses (l .start) (l .end) (l .done) in
-    let last = eqb (l .done + 1) (cyclesOf (l .start) (l .end)) in
+    let last = eqb (l .done + 1) (lineCycles (l .start) (l .end)) in
     cycleOf at
     (Work.Line l) ≡ record { at = shiftedOf at pulses; byte = cycleByte pulses last; work = following last (Work.Line (oneMore l)) })
 unfolding cycleOf lineCycle steppedOf
 line-cycle at l apart point own =
     let some = cycles-some (l .start) (l .end) apart in
     let pulses = registerPulses (l .start) (l .end) (l .done) in
-    ap (λ (p : Pulses). given p (pointOf (l .start) (l .end) (l .done + 1)) (l .cycles)) (pulses-next (l .start) (l .end) some (l .done))
+    ap (λ (p : Pulses). given p (linePoint (l .start) (l .end) (l .done + 1)) (l .cycles)) (pulses-next (l .start) (l .end) some (l .done))
     ∙ ap (λ (n : Point). given pulses n (l .cycles))
     (point-next (l .start) (l .end) some (l .done) ∙ ap (λ (p : Point). shiftedOf p pulses) (sym point))
     ∙ ap (given pulses (shiftedOf at pulses)) own

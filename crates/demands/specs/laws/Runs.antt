@@ -13,12 +13,14 @@ use denote.Ref.{now}
 use Rattle.whole.specs.laws.Test.{refuted}
 use Rattle.plane.specs.declared.point.Point.{Point}
 use Rattle.plane.specs.Byte.{cyclesMarked}
-use Rattle.divider.specs.Divider.{endTick, lastTick}
-use Rattle.divider.specs.laws.Last.{Ends, unique}
+use Rattle.divider.specs.Divider.{endTick}
+use Rattle.divider.specs.computed.Divider.{lastTick}
+use Rattle.divider.specs.laws.Last.{EndsAt, unique}
 use Rattle.work.specs.declared.Work.{Work}
 use Rattle.work.specs.declared.Advance.{Advance}
-use Rattle.work.specs.Work.{isNothing, addedOf, cyclesLeft, chargesLeft, endOf, advanceOf}
-use Rattle.run.specs.Run.{Strip, inFront, stripOf, written, SoundIn}
+use Rattle.work.specs.Work.{isNothing, addedOf, cyclesLeft, chargesLeft, endOf}
+use Rattle.work.specs.computed.Work.{advanceOf}
+use Rattle.run.specs.computed.Run.{Strip, inFront, stripOf, written, SoundIn}
 use Rattle.run.specs.laws.Keep.{ran-left}
 use Rattle.run.specs.laws.Strip.{strip-ends, end-tick, strip-early}
 use Rattle.run.specs.laws.Paid.{strip-pays}
@@ -30,28 +32,30 @@ use Rattle.bench.specs.declared.Bench.{Bench}
 use Rattle.bench.specs.declared.Tick.{Tick}
 use Rattle.bench.specs.declared.Report.{Report}
 use Rattle.bench.specs.Bench.{movedOf}
-use Rattle.bench.specs.Calls.{working, tickOf as benchTick}
-use Rattle.bench.specs.Run.{reportOf, ranOver, noTick as benchNoTick, runOf as benchRun}
+use Rattle.bench.specs.computed.Calls.{working, tickOf as benchTick}
+use Rattle.bench.specs.computed.Run.{reportOf, ranOver, noTick as benchNoTick, runOf as benchRun}
 use Rattle.bench.specs.laws.Calls.{tick-works}
-use Rattle.finish.specs.Finish.{lastTickOf}
+use Rattle.finish.specs.computed.Finish.{lastTickOf}
 use Rattle.finish.specs.laws.Record.{AtWork, at-work}
 use Rattle.machine.specs.declared.Machine.{Machine}
 use Rattle.machine.specs.declared.Ticked.{Ticked}
-use Rattle.machine.specs.Machine.{soundOf, machineOf}
-use Rattle.machine.specs.Calls.{nextOf, firstIn, ticks, tickOf}
-use Rattle.machine.specs.Run.{ranOn, noTick, runOf}
+use Rattle.machine.specs.computed.Machine.{soundOf}
+use Rattle.machine.specs.Machine.{machineOf}
+use Rattle.machine.specs.Calls.{nextOf, firstIn, ticks}
+use Rattle.machine.specs.computed.Calls.{tickOf}
+use Rattle.machine.specs.computed.Run.{ranOn, noTick, runOf}
 use Rattle.machine.specs.laws.Right.{sound}
 use Rattle.look.specs.laws.Sums.{next-stands}
 use Rattle.machine.specs.laws.Rest.{next-own}
 use Rattle.look.specs.laws.Pass.{next, moved, same, kept, working-on}
 use Rattle.book.specs.Bench.{Report as BookReport}
 use Rattle.book.specs.Book.{Reply}
-use Rattle.tape.specs.laws.Pieces.{runs}
+use Rattle.stream.specs.laws.Pieces.{runs}
 use Rattle.history.specs.Reply.{runReply}
 use Rattle.history.specs.laws.Run.{first-bytes}
 use Rattle.demands.specs.Taken.{ComesIn}
 use Rattle.demands.specs.Runs.{TicksTo, cyclesIn, Running, EveryRun}
-use Rattle.demands.specs.laws.Block.{nothing-is}
+use Rattle.demands.specs.laws.Block.{nothing-iff}
 use Rattle.demands.specs.laws.Sound.{sound-is}
 
 -- ---- how many ticks, and whether the last ended the block
@@ -61,7 +65,7 @@ pub record Counted (n t : ℕ) (s : Strip) : Type 0 where
   pub ended : s .ended ≡ leb t (min n t)
 
 pub strip-counts : {q0 : ℕ} (n t : ℕ) {at : Point} {r : ℕ} {w : Work} → SoundIn q0 at r w
-    → Ends (chargesLeft at w * q0) (addedOf w) r (cyclesLeft at w) t → Counted n t (stripOf q0 n at r w)
+    → EndsAt (chargesLeft at w * q0) (addedOf w) r (cyclesLeft at w) t → Counted n t (stripOf q0 n at r w)
 strip-counts {q0} n t {at} {r} {w} i e = by (leb t n) refl
   where
     by : (all : Bool) → leb t n ≡ all → Counted n t (stripOf q0 n at r w)
@@ -189,7 +193,7 @@ reported t n budget bytes = by (leb t n) refl (leb budget n) refl
 -- ---- the call
 
 pub busy-is : (k : Bench) → k .work ≢ Work.Nothing → isNothing (k .work) ≡ false
-busy-is k some = refuted (isNothing (k .work)) (λ e. some (nothing-is (k .work) .0 e))
+busy-is k some = refuted (isNothing (k .work)) (λ e. some (nothing-iff (k .work) .0 e))
 
 written-later : (bytes old : List ℕ) → drop (length bytes) (written bytes old) ≡ drop (length bytes) old
 unfolding written
@@ -271,7 +275,7 @@ every-run κs m budget out out′ r h s =
     let k = sound m e .bench in
     record {
       idle = λ none.
-          let t = rests m e budget (now out) Report.Idle (rw (k, nothing-is (m .bench .work) .1 none)) in
+          let t = rests m e budget (now out) Report.Idle (rw (k, nothing-iff (m .bench .work) .1 none)) in
           rw (h .1, h .0, t) (record { reply = refl; machine = refl; buffer = refl });
       held = λ some mark.
           let t = rests m e budget (now out) Report.Held (rw (k, busy-is (m .bench) some, mark)) in

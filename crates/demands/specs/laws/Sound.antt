@@ -9,18 +9,20 @@ use Rattle.whole.specs.laws.Test.{both, joined}
 use Rattle.plane.specs.declared.point.Point.{Point}
 use Rattle.block.specs.declared.Block.{Block}
 use Rattle.block.specs.Questions.{loadNo}
-use Rattle.block.specs.Chain.{endAfter, chainAccepted, rootOf}
+use Rattle.block.specs.Chain.{endAfter, rootOf}
+use Rattle.block.specs.computed.Chain.{chainAccepted}
 use Rattle.queue.specs.declared.Waiting.{Waiting}
-use Rattle.queue.specs.Queue.{rootsRight}
+use Rattle.queue.specs.computed.Queue.{rootsRight}
 use Rattle.settings.specs.declared.Settings.{Settings}
 use Rattle.settings.specs.Settings.{capacityOf}
 use Rattle.machine.specs.declared.Machine.{Machine}
-use Rattle.machine.specs.Machine.{toDo, soundOf}
+use Rattle.machine.specs.Machine.{toDo}
+use Rattle.machine.specs.computed.Machine.{soundOf}
 use Rattle.machine.specs.laws.Right.{sound, sound-test}
 use Rattle.demands.specs.Sound.{AcceptedInTurn, RootsKept, Sound}
 use Rattle.demands.specs.laws.Asked.{passed}
 use Rattle.demands.specs.laws.Bench.{bench-is}
-use Rattle.demands.specs.laws.Block.{nothing-is, block-verdict}
+use Rattle.demands.specs.laws.Block.{nothing-iff, block-verdict}
 
 -- ---- those that wait
 
@@ -56,7 +58,7 @@ sound-is m = (
         bench = bench-is (m .bench) .0 (i .bench);
         most = q .most;
         waiting = accepted-is (m .bench .settings) _ _ .0 (q .accepted);
-        idle = λ none. i .right .none (nothing-is (m .bench .work) .1 none);
+        idle = λ none. i .right .none (nothing-iff (m .bench .work) .1 none);
         figure = i .right .left-is;
         root = i .right .root-is;
         roots = roots-are _ _ .0 (q .roots);
@@ -67,7 +69,7 @@ sound-is m = (
         bench = bench-is (m .bench) .1 (s .bench);
         right = record {
           root-is = s .root;
-          none = λ idle. s .idle (nothing-is (m .bench .work) .0 idle);
+          none = λ idle. s .idle (nothing-iff (m .bench .work) .0 idle);
           queue = record {
             sixteen = s .places;
             most = s .most;

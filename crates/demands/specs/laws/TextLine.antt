@@ -18,8 +18,8 @@ use Rattle.block.specs.Questions.{loadNo}
 use Rattle.settings.specs.declared.Settings.{Settings}
 use Rattle.settings.specs.Settings.{capacityOf}
 use Rattle.machine.specs.declared.Machine.{Machine}
-use Rattle.machine.specs.Machine.{soundOf}
-use Rattle.machine.specs.Calls.{loadWith, loadOf}
+use Rattle.machine.specs.computed.Machine.{soundOf}
+use Rattle.machine.specs.computed.Calls.{loadWith, loadOf}
 use Rattle.letters.specs.declared.letter.Letter.the-variants.{N, G, F, X, Y, I, J}
 use Rattle.letters.specs.declared.word.Word.{Word}
 use Rattle.letters.specs.declared.word.Words.{Words}
@@ -31,10 +31,12 @@ use Rattle.reader.specs.declared.Motion.{Motion}
 use Rattle.reader.specs.declared.Reader.{Reader}
 use Rattle.reader.specs.declared.asked.ToLoad.{ToLoad}
 use Rattle.reader.specs.declared.«text_line».Read.{Read}
-use Rattle.reader.specs.Reader.{longestLine, readerAfter, motionRight, onPulse, allOnPulse, placed, centred, moving, allKnown, isArc, centreRight, lineNo, blockOf}
-use Rattle.reader.specs.Asked.{still, askedWith, askedOf}
+use Rattle.reader.specs.computed.Reader.{longestLine, motionRight, onPulse, allOnPulse, allKnown, centreRight, lineNo}
+use Rattle.reader.specs.Reader.{readerAfter, endStands, centreStands, moving, isArc, blockOf}
+use Rattle.reader.specs.computed.Asked.{askedWith, askedOf}
+use Rattle.reader.specs.Reader.{goesNowhere}
 use Rattle.textline.specs.declared.ReadLine.{ReadLine}
-use Rattle.textline.specs.TextLine.{reads, loaded, takes, takenOf}
+use Rattle.textline.specs.computed.TextLine.{reads, loaded, takes, takenOf}
 use Rattle.textline.specs.laws.TextLine.{read-means}
 use Rattle.history.specs.Contracts.{ReadsLine}
 use Rattle.demands.specs.Asked.{Questions, AsAsked, AllYes}
@@ -127,14 +129,14 @@ known-is k ws =
 
 -- 37
 centre-stands : (m : Motion) (ws : Words) → (centreRight m ws ≡ true) ↔ CentreStands m ws
-centre-stands m ws = by (isArc m) (centred ws) refl refl
+centre-stands m ws = by (isArc m) (centreStands ws) refl refl
   where
-    by : (arc c : Bool) → isArc m ≡ arc → centred ws ≡ c
-        → (cond (isArc m) (not (placed ws) || centred ws) (not (centred ws)) ≡ true) ↔ CentreStands m ws
+    by : (arc c : Bool) → isArc m ≡ arc → centreStands ws ≡ c
+        → (cond (isArc m) (not (endStands ws) || centreStands ws) (not (centreStands ws)) ≡ true) ↔ CentreStands m ws
     by true c a e =
         rw a (
-          λ h. record { only = λ t. a; there = λ t. implies (placed ws) (centred ws) .0 h },
-          λ s. implies (placed ws) (centred ws) .1
+          λ h. record { only = λ t. a; there = λ t. implies (endStands ws) (centreStands ws) .0 h },
+          λ s. implies (endStands ws) (centreStands ws) .1
               (s .there a),
         )
     by false true a e = rw (a, e) (λ h. absurd (false≢true h), λ s. absurd (true≢false (sym (s .only e) ∙ a)))
@@ -172,11 +174,11 @@ pub text-verdict : {Room : Type 0} (room : Bool) → (room ≡ true) ↔ Room �
     → (let b = lineBlock k (s .scale) start l in
     Verdict (textQuestions Room k s start bytes l)
     (orElse (lineNo (s .scale) (readerAfter k (l .words)) (length bytes) l)
-    (blockNumber (moving (l .words)) (still (b .end) start (b .path)) (loadNo (capacityOf s) (s .travel) room start b))))
+    (blockNumber (moving (l .words)) (goesNowhere (b .end) start (b .path)) (loadNo (capacityOf s) (s .travel) room start b))))
 text-verdict room is k s start bytes l means =
     let b = lineBlock k (s .scale) start l in
     then-asked (word-verdict (readerAfter k (l .words)) (s .scale) bytes l means)
-    (block-asked (moving (l .words)) (still (b .end) start (b .path)) (block-verdict s start b room is))
+    (block-asked (moving (l .words)) (goesNowhere (b .end) start (b .path)) (block-verdict s start b room is))
 
 -- ---- the answer
 
@@ -212,10 +214,10 @@ module _ (k k′ : Reader) (m : Machine) (ws : Words) where
 
   line-is : soundOf m ≡ true → (number : ℕ)
       → takenOf k m (askedWith (m .bench .settings .scale) k k′ (nextStart m) ws number)
-      ≡ lineBy number (moving ws) (still (b .end) (nextStart m) (b .path)) loadNumber
+      ≡ lineBy number (moving ws) (goesNowhere (b .end) (nextStart m) (b .path)) loadNumber
   unfolding loadOf
   line-is sound (suc number) = refl
-  line-is sound zero = by (moving ws) (still (b .end) (nextStart m) (b .path))
+  line-is sound zero = by (moving ws) (goesNowhere (b .end) (nextStart m) (b .path))
     where
       by : (moves stays : Bool)
           → takes k k′ m (cond moves (cond stays ToLoad.Nothing (ToLoad.Block b)) ToLoad.Nothing) ≡ lineBy zero moves stays loadNumber
@@ -242,7 +244,7 @@ line-answers κs k m bytes r h l means =
     moves = moving ws
 
     stays : Bool
-    stays = still (b k k′ m ws .end) (nextStart m) (b k k′ m ws .path)
+    stays = goesNowhere (b k k′ m ws .end) (nextStart m) (b k k′ m ws .path)
 
     number : ℕ
     number = lineNo (m .bench .settings .scale) k′ (length (now bytes)) l
@@ -305,7 +307,7 @@ line-taken κs k m bytes r h l means all =
     moves = moving ws
 
     stays : Bool
-    stays = still (b k k′ m ws .end) (nextStart m) (b k k′ m ws .path)
+    stays = goesNowhere (b k k′ m ws .end) (nextStart m) (b k k′ m ws .path)
 
     number : ℕ
     number = lineNo (m .bench .settings .scale) k′ (length (now bytes)) l

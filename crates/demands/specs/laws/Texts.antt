@@ -24,14 +24,17 @@ use Rattle.words.specs.Meaning.{Means}
 use Rattle.words.specs.computed.Meaning.{meaningOf}
 use Rattle.words.specs.laws.Meaning.{meaning-means}
 use Rattle.reader.specs.declared.Reader.{Reader}
-use Rattle.reader.specs.Reader.{longestText, unknown, readerAfter, moving, lineNo}
-use Rattle.reader.specs.Asked.{still}
+use Rattle.reader.specs.computed.Reader.{longestText, lineNo}
+use Rattle.reader.specs.Reader.{unknown, readerAfter, moving}
+use Rattle.reader.specs.Reader.{goesNowhere}
 use Rattle.job.specs.declared.Stage.{Stage}
 use Rattle.job.specs.declared.Check.{Check}
 use Rattle.job.specs.Text.{linesOf}
-use Rattle.job.specs.Job.{Asks, loadAsks, wordsAsk, lineAsks, Made, End, Job, onward, jobFrom, jobOf}
-use Rattle.job.specs.Listing.{listingOf}
-use Rattle.job.specs.Check.{stageOver, isOver, restAt, restOf}
+use Rattle.job.specs.computed.Job.{Asks, loadAsks, wordsAsk, lineAsks, readOn, jobFrom, jobOf}
+use Rattle.job.specs.Job.{Made, End, Job}
+use Rattle.job.specs.computed.Listing.{listingOf}
+use Rattle.job.specs.Check.{stageOver, isOver}
+use Rattle.job.specs.computed.Check.{restAt, restOf}
 use Rattle.job.specs.laws.Asks.{asks-means}
 use Rattle.job.specs.laws.Listing.{listing-is}
 use Rattle.demands.specs.Asked.{Questions, none, question, andThen, FirstNo, AllYes}
@@ -80,7 +83,7 @@ module _ (s : Settings) (at : Point) (k : Reader) (bytes : List ℕ) (l : Line) 
   asksBy zero moves stays load = cond moves (cond stays (Asks.nothing after) (loadAsks after b load)) (Asks.nothing after)
 
   asks-are : (number : ℕ)
-      → wordsAsk s at after (l .words) number ≡ asksBy number (moving (l .words)) (still (b .end) at (b .path))
+      → wordsAsk s at after (l .words) number ≡ asksBy number (moving (l .words)) (goesNowhere (b .end) at (b .path))
       (loadNo (capacityOf s) (s .travel) true at b)
   asks-are zero = refl
   asks-are (suc number) = refl
@@ -98,7 +101,7 @@ module _ (s : Settings) (at : Point) (k : Reader) (bytes : List ℕ) (l : Line) 
   line-says =
       let number = lineNo (s .scale) after (length bytes) l in
       let moves = moving (l .words) in
-      let stays = still (b .end) at (b .path) in
+      let stays = goesNowhere (b .end) at (b .path) in
       subst (Says s at k bytes l) (sym (asks-means s at k bytes l means ∙ asks-are number))
       (says-by number moves stays (loadNo (capacityOf s) (s .travel) true at b) refl
       (text-verdict true (λ _. tt, λ _. refl) k s at bytes l means))
@@ -110,7 +113,7 @@ module _ (s : Settings) (n : ℕ) (at : Point) (k : Reader) (bytes : List ℕ) (
   Rest = (at : Point) (k : Reader) → (let j = jobFrom s (n + 1) at k lines in LinesMean s (n + 1) at k lines (j .blocks) (j .end))
 
   line-means-job : Rest → (l : Line) → Means bytes l → (a : Asks) → Says s at k bytes l a
-      → (let j = onward n at a (λ at′ k′. jobFrom s (n + 1) at′ k′ lines) in LinesMean s n at k (bytes ∷ lines) (j .blocks) (j .end))
+      → (let j = readOn n at a (λ at′ k′. jobFrom s (n + 1) at′ k′ lines) in LinesMean s n at k (bytes ∷ lines) (j .blocks) (j .end))
   line-means-job rest l means _ (Says.refuses number f) = LinesMean.refused l means number f
   line-means-job rest l means _ (Says.nothing y e) = LinesMean.nothing l means y e (rest at (readerAfter k (l .words)))
   line-means-job rest l means _ (Says.makes y e) =
@@ -121,7 +124,8 @@ lines-mean : (s : Settings) (n : ℕ) (at : Point) (k : Reader) (lines : List (L
 unfolding jobFrom
 lines-mean s n at k [] = LinesMean.over
 lines-mean s n at k (bytes ∷ lines) =
-    line-means-job s n at k bytes lines (λ at k. lines-mean s (n + 1) at k lines) (meaningOf bytes) (meaning-means bytes) (lineAsks s at k bytes)
+    line-means-job s n at k bytes lines (λ at k. lines-mean s (n + 1) at k lines) (meaningOf bytes) (meaning-means bytes)
+    (lineAsks s at k bytes)
     (line-says s at k bytes (meaningOf bytes) (meaning-means bytes))
 
 -- no other job
@@ -146,7 +150,8 @@ module _ (s : Settings) (text : List ℕ) where
           → (let j = cond short (jobFrom s 1 (record { x = pos 0; y = pos 0 }) unknown (linesOf text))
           (record { blocks = []; end = End.refused 1 30 }) in
           TextMeans s text (j .blocks) (j .end))
-      by true e = TextMeans.read (leb-true (length text) longestText e) (lines-mean s 1 (record { x = pos 0; y = pos 0 }) unknown (linesOf text))
+      by true e = TextMeans.read (leb-true (length text) longestText e)
+          (lines-mean s 1 (record { x = pos 0; y = pos 0 }) unknown (linesOf text))
       by false e = TextMeans.long (leb-false (length text) longestText e)
 
   text-once : {made : List Made} {end : End} → TextMeans s text made end → jobOf s text ≡ record { blocks = made; end = end }

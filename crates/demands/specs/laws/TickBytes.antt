@@ -11,38 +11,41 @@ use denote.Ref.{now}
 use Rattle.block.specs.declared.Block.{Block}
 use Rattle.block.specs.Block.{blockWidth}
 use Rattle.work.specs.Work.{begunOf}
-use Rattle.divider.specs.Divider.{endTick, lastTick}
+use Rattle.divider.specs.Divider.{endTick}
+use Rattle.divider.specs.computed.Divider.{lastTick}
 use Rattle.settings.specs.declared.Settings.{Settings}
-use Rattle.settings.specs.Settings.{settingsNo}
+use Rattle.settings.specs.computed.Settings.{settingsNo}
 use Rattle.bench.specs.declared.Bench.{Bench}
 use Rattle.bench.specs.declared.Answer.{Answer}
 use Rattle.bench.specs.declared.Answered.{Answered}
 use Rattle.bench.specs.declared.Ran.{Ran}
 use Rattle.bench.specs.Bench.{movedOf, freshOf}
-use Rattle.bench.specs.Calls.{loadOf}
-use Rattle.bench.specs.Run.{Run, runOf}
+use Rattle.bench.specs.computed.Calls.{loadOf}
+use Rattle.bench.specs.computed.Run.{Run, runOf}
 use Rattle.machine.specs.Machine.{machineOf}
 use Rattle.machine.specs.Calls.{answers}
 use Rattle.machine.specs.laws.Alone.{alone, alone-sound, next-alone, load-alone}
 use Rattle.run.specs.laws.Strip.{end-tick}
-use Rattle.finish.specs.Finish.{lastTickOf}
+use Rattle.finish.specs.computed.Finish.{lastTickOf}
 use Rattle.finish.specs.declared.Finished.{Finished}
 use Rattle.finish.specs.laws.Record.{AtWork, AtRest, at-work, finishes, ticks-most}
 use Rattle.finish.specs.laws.Loaded.{loaded-at-work}
 use Rattle.reader.specs.declared.Reader.{Reader}
 use Rattle.reader.specs.declared.«text_line».ReadLine.{ReadLine}
-use Rattle.reader.specs.Reader.{longestText, unknown}
+use Rattle.reader.specs.computed.Reader.{longestText}
+use Rattle.reader.specs.Reader.{unknown}
 use Rattle.job.specs.Text.{linesOf}
-use Rattle.job.specs.Job.{Asks, Made, End, onward, jobFrom, jobOf}
-use Rattle.job.specs.Calls.{enough}
-use Rattle.job.specs.Check.{unless}
+use Rattle.job.specs.computed.Job.{Asks, readOn, jobFrom, jobOf}
+use Rattle.job.specs.Job.{Made, End}
+use Rattle.job.specs.computed.Check.{enough}
+use Rattle.job.specs.computed.Check.{unless}
 use Rattle.job.specs.laws.Ended.{Accepted, endedOf, ended-rests, ended-run}
 use Rattle.job.specs.laws.Listing.{fresh-rests}
 use Rattle.job.specs.laws.Asks.{Read-as, line-asks, load-accepted}
-use Rattle.tape.specs.declared.Tape.{Tape}
-use Rattle.tape.specs.Tape.{runThen, isRefused, bytesFrom, tickBytesOf, restOf}
-use Rattle.tape.specs.laws.Pieces.{runs, still-idle, nothing-left}
-use Rattle.tape.specs.laws.Told.{tape-tells, bytes-told}
+use Rattle.stream.specs.declared.Stream.{Stream}
+use Rattle.stream.specs.computed.Stream.{runThen, isRefused, bytesFrom, tickBytesOf, restOf}
+use Rattle.stream.specs.laws.Pieces.{runs, still-idle, nothing-left}
+use Rattle.stream.specs.laws.Told.{stream-tells, bytes-told}
 use Rattle.demands.specs.Runs.{TicksTo}
 use Rattle.demands.specs.TickBytes.{BlocksTick, JobBytes, BytesOut, EveryTickByte}
 use Rattle.demands.specs.laws.Bench.{settings-pass}
@@ -91,7 +94,7 @@ Ticked ls =
     → BlocksTick (alone m) (jobFrom (m .settings) n (m .at) k ls .blocks) (bytesFrom m k ls)
 
 by-line : (m : Bench) (n : ℕ) (k : Reader) (ls : List (List ℕ)) → AtRest m → Ticked ls → {a : Asks} {r : ReadLine} → Read-as m k a r
-    → BlocksTick (alone m) (onward n (m .at) a (λ at k′. jobFrom (m .settings) (n + 1) at k′ ls) .blocks)
+    → BlocksTick (alone m) (readOn n (m .at) a (λ at k′. jobFrom (m .settings) (n + 1) at k′ ls) .blocks)
     (unless (isRefused (r .answer)) (runThen (r .bench) (λ m′. bytesFrom m′ (r .reader) ls)))
 unfolding movedOf
 by-line m n k ls i rest (Read-as.nothing known) =
@@ -120,15 +123,15 @@ text-ticks s passed text = by (leb (length text) longestText)
 
 -- ---- handed out
 
-bytes-rest : {text : List ℕ} {t : Tape} {bytes : List ℕ} {u : Tape} → BytesOut text t bytes u → bytes ++ restOf u text ≡ restOf t text
+bytes-rest : {text : List ℕ} {t : Stream} {bytes : List ℕ} {u : Stream} → BytesOut text t bytes u → bytes ++ restOf u text ≡ restOf t text
 bytes-rest BytesOut.none = refl
 bytes-rest {text} {t} (BytesOut.fill {bytes = bytes} {u = u} before κs lent out out′ f is h) =
-    append-assoc bytes (take (f .len) (now out′)) (restOf (f .tape) text)
+    append-assoc bytes (take (f .len) (now out′)) (restOf (f .stream) text)
     ∙ ap (λ (rest : List ℕ). bytes ++ rest)
-    (subst (λ (s : List ℕ). take (f .len) (now out′) ++ restOf (f .tape) s ≡ restOf u s) is (h .bytes))
+    (subst (λ (s : List ℕ). take (f .len) (now out′) ++ restOf (f .stream) s ≡ restOf u s) is (h .bytes))
     ∙ bytes-rest before
 
-over-rest : (u : Tape) (text : List ℕ) → u .over ≡ true → restOf u text ≡ []
+over-rest : (u : Stream) (text : List ℕ) → u .over ≡ true → restOf u text ≡ []
 unfolding restOf
 over-rest u text e = rw e
 
@@ -147,7 +150,7 @@ every-tick-byte =
         λ bytes u out.
             record {
               rest = restOf u text;
-              front = bytes-rest out ∙ ap (λ (t : Tape). restOf t text) e ∙ tape-tells s text;
+              front = bytes-rest out ∙ ap (λ (t : Stream). restOf t text) e ∙ stream-tells s text;
               all = over-rest u text;
             },
       );

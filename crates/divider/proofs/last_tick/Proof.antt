@@ -1,7 +1,8 @@
 -- `last_tick` is right because a sum that is there already takes no tick, and else it is the definition; its numbers fit.
 use borrow.Author.Needs.{needs}
 use mathlib.Core.Path.{sym}
-use Rattle.divider.specs.Divider.{endTick, lastTick}
+use Rattle.divider.specs.Divider.{endTick}
+use Rattle.divider.specs.computed.Divider.{lastTick}
 use Rattle.divider.specs.laws.Last.{last-paid}
 use Rattle.divider.proofs.last_tick.Statement.{statement}
 use Rattle.divider.proofs.last_tick.Tie as tie

@@ -3,7 +3,7 @@ use mathlib.Core.Path.{_≡_, sym}
 use Prim.Native.Nat.{ℕ, zero, suc, _+_, _-_, _*_, _/_, _%_, _≤_, _<_}
 use native.Mathlib.Nat.{div-add-mod', mod-lt, mul-le-mul-right}
 use native.Mathlib.Omega.{arith}
-use Rattle.divider.specs.Divider.{goneOf}
+use Rattle.divider.specs.computed.Divider.{goneOf}
 use Rattle.divider.specs.laws.Ticks.{total, Counts, gone-is}
 
 pub total-same : (due c : ℕ) → total (λ _. due) c ≡ c * due

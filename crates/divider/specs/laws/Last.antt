@@ -5,7 +5,8 @@ use native.Mathlib.Nat.{div-lt-iff-lt-mul, lt-of-mul-lt-mul-right, lt-of-not-le,
 use native.Mathlib.Nat.{le-antisymm, le-of-suc-le-suc, mul-le-mul-right, lt-div-mul-add}
 use native.Mathlib.Decide.{decLe}
 use native.Mathlib.Omega.{arith}
-use Rattle.divider.specs.Divider.{goneOf, endTick, lastTick}
+use Rattle.divider.specs.computed.Divider.{goneOf, lastTick}
+use Rattle.divider.specs.Divider.{endTick}
 use Rattle.divider.specs.laws.Ticks.{total, counts, counts-by, total-le, total-first, one-more}
 
 -- ---- without division
@@ -23,19 +24,19 @@ end-tick due a r some = record {
 }
 
 -- the first tick by which there were as many ticks as cycles and the sum reaches their dues
-pub record Ends (due a r k t : ℕ) : Type 0 where
+pub record EndsAt (due a r k t : ℕ) : Type 0 where
   pub enough : k ≤ t
   pub reached : due ≤ r + t * a
   pub first : (s : ℕ) → k ≤ s → due ≤ r + s * a → t ≤ s
 
-pub unique : {due a r k t s : ℕ} → Ends due a r k t → Ends due a r k s → t ≡ s
+pub unique : {due a r k t s : ℕ} → EndsAt due a r k t → EndsAt due a r k s → t ≡ s
 unique {t = t} {s = s} p q = le-antisymm (p .first s (q .enough) (q .reached)) (q .first t (p .enough) (p .reached))
 
-pub last-tick : (due a r k : ℕ) → 1 ≤ a → Ends due a r k (lastTick due a r k)
+pub last-tick : (due a r k : ℕ) → 1 ≤ a → EndsAt due a r k (lastTick due a r k)
 unfolding lastTick
 last-tick due a r k some = by (endTick due a r) (end-tick due a r some)
   where
-    by : (t : ℕ) → Reaches due a r t → Ends due a r k (max k t)
+    by : (t : ℕ) → Reaches due a r t → EndsAt due a r k (max k t)
     by t b =
         let more : t ≤ max k t = omega arith in
         record {
@@ -53,7 +54,7 @@ last-paid due a r k some h = omega (arith, end-tick due a r some .first 0 (omega
 pub last-most : (due a r k : ℕ) → 1 ≤ a → k * a ≤ due → r + lastTick due a r k * a ≤ due + a + r
 last-most due a r k some least = by (lastTick due a r k) (last-tick due a r k some)
   where
-    by : (t : ℕ) → Ends due a r k t → r + t * a ≤ due + a + r
+    by : (t : ℕ) → EndsAt due a r k t → r + t * a ≤ due + a + r
     by zero e = omega arith
     by (suc t) e = either (decLe k t) (decLe due (r + t * a))
       where
@@ -109,7 +110,7 @@ pub record Due (due a r g rest : ℕ) : Type 0 where
 
 module _ {due a r g rest : ℕ} (x : Due due a r g rest) where
   -- for the last cycle
-  pub end-one : Ends due a r 1 (g + 1)
+  pub end-one : EndsAt due a r 1 (g + 1)
   end-one = record { enough = omega arith; reached = omega (arith, x .leaves); first = by g (x .before) }
     where
       by : (g : ℕ) → (1 ≤ g → r + g * a < due) → (s : ℕ) → 1 ≤ s → due ≤ r + s * a → g + 1 ≤ s
@@ -117,7 +118,7 @@ module _ {due a r g rest : ℕ} (x : Due due a r g rest) where
       by (suc g) b s l h = let z : suc g < s = lt-of-mul-lt-mul-right a {m = suc g} {n = s} (omega (arith, b (omega arith))) in omega arith
 
   -- for one that others follow: their dues are at least what as many ticks add
-  pub end-more : {D k t : ℕ} → k * a ≤ D → Ends D a rest k t → Ends (due + D) a r (suc k) (g + 1 + t)
+  pub end-more : {D k t : ℕ} → k * a ≤ D → EndsAt D a rest k t → EndsAt (due + D) a r (suc k) (g + 1 + t)
   end-more {D} {k} {t} most e =
       record {
         enough = omega (arith, e .enough);

@@ -9,7 +9,8 @@ use lib.Dec.{leb}
 use borrow.Author.Tests.{leb-true, leb-false}
 use Rattle.divider.specs.declared.Fed.{Fed}
 use Rattle.divider.specs.declared.Gone.{Gone}
-use Rattle.divider.specs.Divider.{fedOf, goneBy, goneOf}
+use Rattle.divider.specs.Divider.{fedOf}
+use Rattle.divider.specs.computed.Divider.{goneBy, goneOf}
 
 -- ---- one tick, for any remainder
 
@@ -129,14 +130,3 @@ module _ (d : ℕ → ℕ) (a : ℕ) (some : 1 ≤ a) (each : (c : ℕ) → a �
       by : (c : ℕ) (b : Bool) → cond b (suc c) c ≤ suc c
       by c true = omega arith
       by c false = omega arith
-
-  -- from below the first due the remainder is below the next due on every tick
-  pub always-below : (r : ℕ) → r < d 0 → (t : ℕ) → goneOf d a r t .remainder < d (goneOf d a r t .cycles)
-  unfolding goneOf
-  always-below r h zero = h
-  always-below r h (suc t) = let s = goneOf d a r t in by s (always-below r h t) (tick (d (s .cycles)) a (s .remainder))
-    where
-      by : (s : Gone) {f : Fed} → s .remainder < d (s .cycles) → Tick (d (s .cycles)) a (s .remainder) f
-          → f .remainder < d (goneBy (s .cycles) f .cycles)
-      by s l (does-one e) = omega (arith, each (suc (s .cycles)))
-      by s l (does-none m e) = m

@@ -7,7 +7,7 @@ use native.Mathlib.Omega.{arith}
 use borrow.Author.Tests.{not-true, not-false}
 use Rattle.run.specs.laws.Skip.{skip-counts, end-asks}
 use Rattle.bench.specs.laws.Sound.{sound}
-use Rattle.finish.specs.Finish.{finishOf}
+use Rattle.finish.specs.computed.Finish.{finishOf}
 use Rattle.finish.specs.laws.Record.{AtWork, at-work, works, finishes}
 use Rattle.finish.proofs.finish.Statement.{statement}
 use Rattle.finish.proofs.finish.Tie as tie

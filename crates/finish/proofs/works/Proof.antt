@@ -1,7 +1,7 @@
 -- `works` is right because it asks the questions of the definition but the one that has been asked.
 use borrow.Author.Needs.{needs}
 use mathlib.Core.Path.{sym, _∙_}
-use Rattle.finish.specs.Finish.{worksOf}
+use Rattle.finish.specs.computed.Finish.{worksOf}
 use Rattle.finish.proofs.works.Statement.{statement}
 use Rattle.finish.proofs.works.Tie as tie
 

@@ -13,10 +13,10 @@ use Rattle.work.specs.Work.{isNothing, feedOf, cyclesLeft, chargesLeft, endOf, 
 use Rattle.bench.specs.declared.Bench.{Bench}
 use Rattle.settings.specs.Settings.{capacityOf}
 use Rattle.bench.specs.Bench.{movedOf}
-use Rattle.bench.specs.Calls.{loadOf}
+use Rattle.bench.specs.computed.Calls.{loadOf}
 use Rattle.bench.specs.laws.Sound.{sound}
-use Rattle.keeps.specs.laws.Calls.{load-keeps}
-use Rattle.finish.specs.Finish.{finishedOf, finishOf}
+use Rattle.invariant.specs.laws.Calls.{load-keeps}
+use Rattle.finish.specs.computed.Finish.{finishedOf, finishOf}
 use Rattle.finish.specs.laws.Record.{AtWork, AtRest, finishes}
 use Rattle.finish.specs.laws.Run.{finish-keeps-sound}
 
@@ -74,7 +74,3 @@ module _ (m : Bench) (rest : AtRest m) (b : Block)
   -- and the record is again at rest, for the next block
   pub loaded-rests : AtRest (finishOf (loadOf m b .bench) .bench)
   loaded-rests = finish-keeps-sound (loadOf m b .bench) loaded-at-work
-
-  pub loaded-settings : finishOf (loadOf m b .bench) .bench .settings ≡ m .settings
-  unfolding movedOf
-  loaded-settings = rw finish-loaded

@@ -5,16 +5,17 @@ use Prim.Native.Nat.{ℕ, _+_, _-_, _*_, _≤_, min}
 use native.Mathlib.Omega.{arith}
 use Rattle.plane.specs.Byte.{cyclesMarked}
 use Rattle.work.specs.Work.{addedOf, cyclesLeft, chargesLeft}
-use Rattle.run.specs.Run.{Strip, stripOf}
+use Rattle.run.specs.computed.Run.{Strip, stripOf}
 use Rattle.bench.specs.declared.Bench.{Bench}
 use Rattle.bench.specs.declared.Report.{Report}
 use Rattle.bench.specs.declared.Ran.{Ran}
-use Rattle.bench.specs.Bench.{soundOf, movedOf}
+use Rattle.bench.specs.computed.Bench.{soundOf}
+use Rattle.bench.specs.Bench.{movedOf}
 use Rattle.settings.specs.Settings.{capacityOf}
-use Rattle.bench.specs.Run.{ranOver, runOf}
-use Rattle.keeps.specs.laws.Calls.{run-keeps}
+use Rattle.bench.specs.computed.Run.{ranOver, runOf}
+use Rattle.invariant.specs.laws.Calls.{run-keeps}
 use Rattle.finish.specs.declared.Finished.{Finished}
-use Rattle.finish.specs.Finish.{lastTickOf, finishOf}
+use Rattle.finish.specs.computed.Finish.{lastTickOf, finishOf}
 use Rattle.run.specs.laws.Keep.{ran-left}
 use Rattle.run.specs.laws.Strip.{Ended, strip-ends, end-tick}
 use Rattle.finish.specs.laws.Record.{AtWork, AtRest, at-work, finishes}
@@ -52,7 +53,8 @@ unfolding movedOf
 finish-keeps-sound m a =
     let t = finishOf m .ticks in
     record {
-      sound = subst (λ (r : Ran). soundOf (r .bench) ≡ true) (finish-is-run m a t t (omega arith) (omega arith)) (run-keeps m (a .sound) t t);
+      sound = subst (λ (r : Ran). soundOf (r .bench) ≡ true) (finish-is-run m a t t (omega arith) (omega arith))
+          (run-keeps m (a .sound) t t);
       free = rw (finishes m a) (a .free);
       idle = rw (finishes m a);
     }

@@ -15,23 +15,27 @@ use Rattle.queue.specs.Queue.{queueOf}
 use Rattle.queue.specs.laws.Waiting.{queue-waiting, push-queue, empty-queue}
 use Rattle.work.specs.declared.Work.{Work}
 use Rattle.work.specs.Work.{isNothing, begunOf}
-use Rattle.run.specs.Run.{written}
+use Rattle.run.specs.computed.Run.{written}
 use Rattle.settings.specs.declared.Settings.{Settings}
 use Rattle.settings.specs.Settings.{capacityOf}
 use Rattle.bench.specs.declared.Bench.{Bench}
 use Rattle.bench.specs.Bench.{movedOf}
-use Rattle.bench.specs.Run.{runOf as benchRun}
+use Rattle.bench.specs.computed.Run.{runOf as benchRun}
 use Rattle.bench.specs.laws.Run.{ticks-are}
 use Rattle.machine.specs.declared.Answered.{Answered}
-use Rattle.machine.specs.Machine.{soundOf, machineOf, startOf}
-use Rattle.machine.specs.Calls.{beginning, nextOf, takes, loadWith, loadOf, tickOf, holdOf, releaseOf, stopOf}
-use Rattle.machine.specs.Run.{runOf}
+use Rattle.machine.specs.computed.Machine.{soundOf}
+use Rattle.machine.specs.Machine.{machineOf, startOf}
+use Rattle.machine.specs.Calls.{beginning, nextOf}
+use Rattle.machine.specs.computed.Calls.{takes, loadWith, loadOf, tickOf, holdOf, releaseOf, stopOf}
+use Rattle.machine.specs.computed.Run.{runOf}
 use Rattle.book.specs.Bench.{InWork, benchTick, workEnd, benchRun as bookRun, isNothing as idle, Bench as BookBench}
-use Rattle.book.specs.Book.{Book, Call, hasRoom, settled, entry, loaded, loadEntry, startOf as bookStart}
+use Rattle.book.specs.Book.{Book, Call, fewerWait, settled, entry, loaded, loadEntry, startOf as bookStart}
 use Rattle.book.specs.laws.Load.{room-asked}
 use Rattle.book.specs.laws.Sound.{Sound, benchOf}
 use Rattle.book.specs.laws.Ticking.{tick-does, run-does, end-stays}
-use Rattle.history.specs.Agree.{workOf, benchTold, recordOf}
+use Rattle.history.specs.Agree.{workOf}
+use Rattle.history.specs.laws.Record.{recordOf}
+use Rattle.history.specs.laws.Record.{benchTold}
 use Rattle.history.specs.Reply.{answerReply, tickReply, runReply}
 use Rattle.machine.specs.laws.Right.{sound}
 use Rattle.history.specs.laws.Record.{Follows, always-working, same-end}
@@ -68,11 +72,11 @@ module _ (s : Settings) (b : Book) (i : Sound (capacityOf s) (s .travel) b) (e :
   start-is : startOf (benchTold s (b .bench)) (queueOf (workEnd (b .bench)) (b .waiting)) ≡ bookStart b
   start-is = rw (queue-waiting (workEnd (b .bench)) (b .waiting), same-end (b .bench .at) (b .bench .work))
 
-  load-by : (k : Block) (n : ℕ) → loadNo (capacityOf s) (s .travel) (hasRoom b) (bookStart b) k ≡ n
+  load-by : (k : Block) (n : ℕ) → loadNo (capacityOf s) (s .travel) (fewerWait b) (bookStart b) k ≡ n
       → (let r = loadWith (recordOf s b) k n in Follows s (loaded b k n) (answerReply (r .answer)) (r .machine))
   unfolding begunOf machineOf
   load-by k zero asked =
-      let room = room-asked (capacityOf s) (s .travel) (hasRoom b) (bookStart b) k asked .0 in
+      let room = room-asked (capacityOf s) (s .travel) (fewerWait b) (bookStart b) k asked .0 in
       rw start-is
       (record {
         says = refl;
@@ -82,7 +86,7 @@ module _ (s : Settings) (b : Book) (i : Sound (capacityOf s) (s .travel) b) (e :
 
   pub load-follows : (k : Block) → answersAs (Call.load k) (loadOf (recordOf s b) k)
   unfolding loadOf loadEntry queueOf machineOf
-  load-follows k = rw (e, start-is) (load-by k (loadNo (capacityOf s) (s .travel) (hasRoom b) (bookStart b) k) refl)
+  load-follows k = rw (e, start-is) (load-by k (loadNo (capacityOf s) (s .travel) (fewerWait b) (bookStart b) k) refl)
 
   -- ---- tick and run: the bench's, and then the next block
 

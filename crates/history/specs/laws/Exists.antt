@@ -5,10 +5,10 @@ use Prim.Native.Nat.{ℕ}
 use lib.ListN.{length, replicate, length-replicate, take}
 use denote.Ref.{RefT, at-last}
 use contract.Lifetimes.{Lfts}
-use Rattle.run.specs.Run.{written}
+use Rattle.run.specs.computed.Run.{written}
 use Rattle.machine.specs.declared.Machine.{Machine}
-use Rattle.machine.specs.Calls.{loadOf, tickOf, holdOf, releaseOf, stopOf}
-use Rattle.machine.specs.Run.{runOf}
+use Rattle.machine.specs.computed.Calls.{loadOf, tickOf, holdOf, releaseOf, stopOf}
+use Rattle.machine.specs.computed.Run.{runOf}
 use Rattle.book.specs.Book.{Call}
 use Rattle.history.specs.Reply.{runReply}
 use Rattle.history.specs.History.{History, HasHistory}

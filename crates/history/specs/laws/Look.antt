@@ -8,13 +8,14 @@ use Rattle.plane.specs.Pulse.{pulseOf}
 use Rattle.plane.specs.Byte.{codeX, codeY}
 use Rattle.bench.specs.declared.Tick.{Tick}
 use Rattle.machine.specs.declared.Machine.{Machine}
-use Rattle.machine.specs.Machine.{soundOf}
+use Rattle.machine.specs.computed.Machine.{soundOf}
 use Rattle.machine.specs.laws.Keeps.{make-keeps}
 use Rattle.book.specs.Book.{Call, Reply}
 use Rattle.book.specs.Sums.{tickBytes, pulsesIn, pulsesSent}
 use Rattle.look.specs.declared.Ahead.{Ahead}
-use Rattle.ahead.specs.Ahead.{inFront}
-use Rattle.look.specs.Look.{Ticking, tickingOf, looked, mostTicks}
+use Rattle.ahead.specs.computed.Ahead.{inFront}
+use Rattle.look.specs.computed.Look.{Ticking, tickingOf, looked}
+use Rattle.look.specs.Look.{mostTicks}
 use Rattle.look.specs.laws.Ahead.{looks, unchanged, sums-are, ahead-adds, sums-add}
 use Rattle.history.specs.Reply.{tickReply}
 use Rattle.history.specs.History.{History}

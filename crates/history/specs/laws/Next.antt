@@ -20,7 +20,9 @@ use Rattle.machine.specs.Calls.{beginning, nextOf}
 use Rattle.book.specs.Bench.{InWork, workEnd, Bench as BookBench}
 use Rattle.book.specs.Book.{settled}
 use Rattle.book.specs.laws.Sound.{benchOf}
-use Rattle.history.specs.Agree.{workAlong, workOf, benchTold, recordOf}
+use Rattle.history.specs.Agree.{workAlong, workOf}
+use Rattle.history.specs.laws.Record.{recordOf}
+use Rattle.history.specs.laws.Record.{benchTold}
 use Rattle.history.specs.laws.Record.{always-working}
 
 -- a block newly in work is the same for both

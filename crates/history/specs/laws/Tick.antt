@@ -13,9 +13,9 @@ use Rattle.plane.specs.Point.{equalPoint}
 use Rattle.plane.specs.Pulse.{pulsesBetween}
 use Rattle.plane.specs.Byte.{cycleByte}
 use Rattle.plane.specs.laws.Point.{equal-point, equal-itself}
-use Rattle.line.specs.Line.{steppedOf}
+use Rattle.line.specs.computed.Line.{steppedOf}
 use Rattle.arc.specs.declared.arc.Arc.{Arc}
-use Rattle.arc.specs.Arc.{arcAfter, arcCycles, arcStepped}
+use Rattle.arc.specs.computed.Arc.{arcAfter, arcCycles, arcStepped}
 use Rattle.arc.specs.laws.Step.{Circles, last-cycle}
 use Rattle.arc.specs.laws.Charge.{charge-codes}
 use Rattle.divider.specs.declared.Fed.{Fed}
@@ -26,24 +26,27 @@ use Rattle.block.specs.Charge.{chargeBy, blockCharge}
 use Rattle.work.specs.declared.Work.{Work}
 use Rattle.work.specs.declared.Cycle.{Cycle}
 use Rattle.work.specs.declared.Advance.{Advance}
-use Rattle.work.specs.Work.{following, lineCycle, arcCycle, cycleOf, feedOf, chargeOf, advanceBy, advanceOf}
+use Rattle.work.specs.Work.{following, feedOf}
+use Rattle.work.specs.computed.Work.{lineCycle, arcCycle, cycleOf, chargeOf, advanceBy, advanceOf}
 use Rattle.settings.specs.declared.Settings.{Settings}
 use Rattle.settings.specs.Settings.{capacityOf}
 use Rattle.bench.specs.declared.Tick.{Tick}
 use Rattle.bench.specs.declared.Ticked.{Ticked as BenchTicked}
-use Rattle.bench.specs.Bench.{soundOf, movedOf}
-use Rattle.bench.specs.Calls.{ticks, tickOf}
-use Rattle.book.specs.Bench.{Job, InWork, Ticked, addedBy, jobDue, cycleTick, fedTick, benchTick, Bench as BookBench}
+use Rattle.bench.specs.computed.Bench.{soundOf}
+use Rattle.bench.specs.Bench.{movedOf}
+use Rattle.bench.specs.computed.Calls.{ticks, tickOf}
+use Rattle.book.specs.Bench.{BlockInWork, InWork, Ticked, addedBy, cycleDue, cycleTick, fedTick, benchTick, Bench as BookBench}
 use Rattle.book.specs.laws.Sound.{JobSound, BenchSound, benchOf}
 use Rattle.book.specs.laws.Here.{Here, ArcHere, after-one, job-here}
-use Rattle.history.specs.Agree.{workAlong, workOf, benchTold}
+use Rattle.history.specs.Agree.{workAlong, workOf}
+use Rattle.history.specs.laws.Record.{benchTold}
 use Rattle.history.specs.laws.Record.{always-working}
 
 -- the block in work with one cycle more
-abbrev onward : Job → Job
+abbrev onward : BlockInWork → BlockInWork
 onward j = record { block = j .block; start = j .start; done = j .done + 1 }
 
-abbrev cycleAlong : (at : Point) → Job → Path → Cycle
+abbrev cycleAlong : (at : Point) → BlockInWork → Path → Cycle
 cycleAlong at j p =
     let next = pointAlong (j .start) (j .block) p (j .done + 1) in
     let ended = eqb (j .done + 1) (cyclesAlong (j .start) (j .block) p) in
@@ -64,7 +67,7 @@ arc-next : (a : Arc) (start at : Point) (c : ℕ) → at ≡ arcAfter a start c 
 arc-next a start at c point =
     ap (λ (p : Point). arcAfter a p 1) point ∙ after-one a start c ∙ ap (arcAfter a start) (sym (add-one c))
 
-module _ (t : Travel) (at : Point) (j : Job) where
+module _ (t : Travel) (at : Point) (j : BlockInWork) where
   cycle-along : (p : Path) → at ≡ pointAlong (j .start) (j .block) p (j .done) → Here t j at p
       → cycleOf at (workAlong j p) ≡ cycleAlong at j p
   unfolding cycleOf lineCycle arcCycle steppedOf arcStepped
@@ -73,7 +76,7 @@ module _ (t : Travel) (at : Point) (j : Job) where
       rw (arc-ends here, arc-next (arcOf (j .start) (j .block) turn centre) (j .start) at (j .done) point)
 
 -- the charge of the next cycle
-charge-along : (at : Point) (j : Job) (p : Path) → at ≡ pointAlong (j .start) (j .block) p (j .done)
+charge-along : (at : Point) (j : BlockInWork) (p : Path) → at ≡ pointAlong (j .start) (j .block) p (j .done)
     → chargeOf at (workAlong j p)
     ≡ chargeBy p (pulsesBetween (pointAlong (j .start) (j .block) p (j .done)) (pointAlong (j .start) (j .block) p (j .done + 1)))
 charge-along at j Path.Line point = refl
@@ -84,7 +87,7 @@ charge-along at j (Path.Arc turn centre) point =
 
 -- ---- the whole tick
 
-feed-along : (j : Job) (p : Path) → feedOf (workAlong j p) ≡ j .block .feed
+feed-along : (j : BlockInWork) (p : Path) → feedOf (workAlong j p) ≡ j .block .feed
 unfolding arcOf
 feed-along j Path.Line = refl
 feed-along j (Path.Arc turn centre) = refl
@@ -96,9 +99,9 @@ ending false w = refl
 
 -- what a tick of the book does, in the words of what is in work
 abbrev pub advanceTold : Ticked → Advance
-advanceTold k = record { at = k .after .at; remainder = k .after .remainder; byte = k .code; work = workOf (k .after .work) }
+advanceTold k = record { at = k .after .at; remainder = k .after .remainder; byte = k .byte; work = workOf (k .after .work) }
 
-module _ (q0 : ℕ) (t : Travel) (at : Point) (r : ℕ) (j : Job) where
+module _ (q0 : ℕ) (t : Travel) (at : Point) (r : ℕ) (j : BlockInWork) where
   abbrev before : BookBench
   before = benchOf at false r (InWork.working j)
 
@@ -126,11 +129,11 @@ module _ (q0 : ℕ) (t : Travel) (at : Point) (r : ℕ) (j : Job) where
   unfolding advanceOf benchTick
   advance-is sound =
       ap₂ (λ (c f : ℕ). advanceBy at here (fedOf (c * q0) (addedAt f) r)) (charge-is sound) (feed-along j (j .block .path))
-      ∙ fed-is sound (fedOf (jobDue q0 j) (addedBy (j .block)) r)
+      ∙ fed-is sound (fedOf (cycleDue q0 j) (addedBy (j .block)) r)
 
   pub mark-kept : benchTick q0 before .after .mark ≡ false
   unfolding benchTick cycleTick
-  mark-kept = by (fedOf (jobDue q0 j) (addedBy (j .block)) r) (fedOf (jobDue q0 j) (addedBy (j .block)) r .cycle) refl
+  mark-kept = by (fedOf (cycleDue q0 j) (addedBy (j .block)) r) (fedOf (cycleDue q0 j) (addedBy (j .block)) r .cycle) refl
     where
       by : (f : Fed) (c : Bool) → f .cycle ≡ c → fedTick before j f .after .mark ≡ false
       by f true e = rw e
@@ -141,7 +144,7 @@ module _ (s : Settings) where
   q = capacityOf s
 
   abbrev told : Ticked → BenchTicked
-  told k = ticks (Tick.Byte (k .code)) (benchTold s (k .after))
+  told k = ticks (Tick.Byte (k .byte)) (benchTold s (k .after))
 
   tick-parts : (at : Point) (mark : Bool) (r : ℕ) (w : InWork)
       → (let k = benchOf at mark r w in

@@ -1,9 +1,6 @@
 -- `read` ends because each turn fills some of the buffer or uses up an interruption, and stays within the buffer because each read does.
 use Rattle.input.proofs.read.Statement.{statement}
 use Rattle.input.proofs.read.Tie as tie
-use Rattle.input.proofs.read.Reads as reads
-use Rattle.input.proofs.read.Lts as lts
-use Rattle.input.proofs.read_once.Reads as read-once-reads
 use borrow.Author.Needs.{needs}
 use Prim.Native.Nat.{_+_, _-_, _≤_}
 use mathlib.Core.Path.{_≡_}

@@ -19,22 +19,25 @@ use Rattle.bench.specs.declared.Bench.{Bench}
 use Rattle.bench.specs.declared.Answered.{Answered}
 use Rattle.settings.specs.declared.Settings.{Settings}
 use Rattle.settings.specs.Settings.{capacityOf}
-use Rattle.bench.specs.Bench.{soundOf}
-use Rattle.bench.specs.Calls.{taking, loadWith, loadOf}
+use Rattle.bench.specs.computed.Bench.{soundOf}
+use Rattle.bench.specs.computed.Calls.{taking, loadWith, loadOf}
 use Rattle.reader.specs.declared.Reader.{Reader}
 use Rattle.reader.specs.declared.asked.ToLoad.{ToLoad}
 use Rattle.reader.specs.declared.«text_line».Read.{Read}
 use Rattle.reader.specs.declared.«text_line».ReadLine.{ReadLine}
-use Rattle.reader.specs.Reader.{readerAfter, moving, lineNo, blockOf}
-use Rattle.reader.specs.Asked.{still, blockAsked, askedWith, askedOf}
-use Rattle.reader.specs.TextLine.{reads, loaded, takes, takenOf, readLineOf}
+use Rattle.reader.specs.Reader.{readerAfter, moving, blockOf}
+use Rattle.reader.specs.computed.Reader.{lineNo}
+use Rattle.reader.specs.computed.Asked.{blockAsked, askedWith, askedOf}
+use Rattle.reader.specs.Reader.{goesNowhere}
+use Rattle.reader.specs.computed.TextLine.{reads, loaded, takes, takenOf, readLineOf}
 use Rattle.job.specs.laws.Ended.{Accepted}
-use Rattle.job.specs.Job.{Asks, loadAsks, blockAsks, wordsAsk, lineAsks}
+use Rattle.job.specs.computed.Job.{Asks, loadAsks, blockAsks, wordsAsk, lineAsks}
 
 -- a line read at the machine m with k known, side by side: what it asks, and what the call answers
 pub data Read-as (m : Bench) (k : Reader) : Asks → ReadLine → Type 0 where
   nothing : (known : Reader) → Read-as m k (Asks.nothing known) (reads Read.Nothing known m)
-  makes : (known : Reader) (b : Block) → Accepted m b → Read-as m k (Asks.makes known b) (reads (Read.Loaded (blockWidth (m .at) b)) known (loadOf m b .bench))
+  makes : (known : Reader) (b : Block) → Accepted m b
+      → Read-as m k (Asks.makes known b) (reads (Read.Loaded (blockWidth (m .at) b)) known (loadOf m b .bench))
   refuses : (number : ℕ) → Read-as m k (Asks.refuses number) (reads (Read.Refused number) k m)
 
 module _ (m : Bench) (sound : soundOf m ≡ true) (idle : isNothing (m .work) ≡ true) where
@@ -56,9 +59,10 @@ module _ (m : Bench) (k : Reader) (sound : soundOf m ≡ true) (idle : isNothing
   load-asks k′ b (suc n) e = Read-as.refuses (suc n)
 
   block-asks : (k′ : Reader) (b : Block) → Read-as m k (blockAsks (m .settings) (m .at) k′ b) (takes k k′ m (blockAsked (m .at) b))
-  block-asks k′ b = by (still (b .end) (m .at) (b .path))
+  block-asks k′ b = by (goesNowhere (b .end) (m .at) (b .path))
     where
-      by : (stays : Bool) → Read-as m k (cond stays (Asks.nothing k′) (loadAsks k′ b (loadNo (capacityOf (m .settings)) (m .settings .travel) true (m .at) b)))
+      by : (stays : Bool) → Read-as m k (cond stays (Asks.nothing k′)
+          (loadAsks k′ b (loadNo (capacityOf (m .settings)) (m .settings .travel) true (m .at) b)))
           (takes k k′ m (cond stays ToLoad.Nothing (ToLoad.Block b)))
       by true = Read-as.nothing k′
       by false = rw (load-is m sound idle b) (load-asks k′ b (loadNo (capacityOf (m .settings)) (m .settings .travel) true (m .at) b) refl)
@@ -67,7 +71,8 @@ module _ (m : Bench) (k : Reader) (sound : soundOf m ≡ true) (idle : isNothing
       → Read-as m k (wordsAsk (m .settings) (m .at) k′ ws number) (takenOf k m (askedWith (m .settings .scale) k k′ (m .at) ws number))
   words-ask k′ ws zero = by (moving ws)
     where
-      by : (moves : Bool) → Read-as m k (cond moves (blockAsks (m .settings) (m .at) k′ (blockOf (m .settings .scale) k′ ws (m .at))) (Asks.nothing k′))
+      by : (moves : Bool) → Read-as m k (cond moves (blockAsks (m .settings) (m .at) k′ (blockOf (m .settings .scale) k′ ws (m .at)))
+          (Asks.nothing k′))
           (takes k k′ m (cond moves (blockAsked (m .at) (blockOf (m .settings .scale) k′ ws (m .at))) ToLoad.Nothing))
       by true = block-asks k′ (blockOf (m .settings .scale) k′ ws (m .at))
       by false = Read-as.nothing k′

@@ -19,15 +19,15 @@ use Rattle.bench.specs.declared.Report.{Report}
 use Rattle.settings.specs.Settings.{capacityOf}
 use Rattle.settings.specs.laws.Right.{settings-right}
 use Rattle.bench.specs.Bench.{movedOf}
-use Rattle.bench.specs.Calls.{loadOf}
-use Rattle.bench.specs.Run.{runOf}
+use Rattle.bench.specs.computed.Calls.{loadOf}
+use Rattle.bench.specs.computed.Run.{runOf}
 use Rattle.bench.specs.laws.Sound.{sound}
 use Rattle.finish.specs.declared.Finished.{Finished}
-use Rattle.finish.specs.Finish.{finishedOf, finishOf}
+use Rattle.finish.specs.computed.Finish.{finishedOf, finishOf}
 use Rattle.finish.specs.laws.Record.{AtRest, ticks-most}
 use Rattle.finish.specs.laws.Run.{finish-is-run, finish-counts}
 use Rattle.finish.specs.laws.Loaded.{loaded-at-work, finish-loaded, loaded-rests}
-use Rattle.job.specs.Calls.{enough}
+use Rattle.job.specs.computed.Check.{enough}
 
 -- no question refuses the load of this block
 abbrev pub Accepted : Bench → Block → Type 0

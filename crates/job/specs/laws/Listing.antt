@@ -9,18 +9,22 @@ use lib.ListN.{length}
 use borrow.Author.Tests.{leb-true}
 use Rattle.row.specs.Lines.{headerLine, refusedLine}
 use Rattle.settings.specs.declared.Settings.{Settings}
-use Rattle.settings.specs.Settings.{capacityOf, settingsNo}
+use Rattle.settings.specs.Settings.{capacityOf}
+use Rattle.settings.specs.computed.Settings.{settingsNo}
 use Rattle.settings.specs.laws.Right.{settings-right}
 use Rattle.finish.specs.laws.Record.{AtRest}
 use Rattle.bench.specs.Bench.{freshOf}
-use Rattle.keeps.specs.laws.Make.{fresh-sound}
+use Rattle.invariant.specs.laws.Make.{fresh-sound}
 use lib.IntN.{pos}
-use Rattle.reader.specs.Reader.{longestText, unknown}
-use Rattle.listing.specs.Tally.{startOf as tallyStart}
+use Rattle.reader.specs.computed.Reader.{longestText}
+use Rattle.reader.specs.Reader.{unknown}
+use Rattle.tally.specs.computed.Tally.{tallyFrom as tallyStart}
 use Rattle.job.specs.Text.{lineOr, linesOf}
-use Rattle.job.specs.Job.{Made, End, jobFrom, jobOf}
-use Rattle.job.specs.Listing.{rows, lastLine, listingOf}
-use Rattle.job.specs.Check.{startOf, rowsFrom, restOf}
+use Rattle.job.specs.Job.{Made, End}
+use Rattle.job.specs.computed.Job.{jobFrom, jobOf}
+use Rattle.job.specs.Listing.{rows, lastLine}
+use Rattle.job.specs.computed.Listing.{listingOf}
+use Rattle.job.specs.computed.Check.{checkFrom, rowsFrom, restOf}
 use Rattle.job.specs.laws.Ended.{Low}
 use Rattle.job.specs.laws.Rows.{lastAfter, total-same, lists}
 
@@ -47,13 +51,14 @@ last-is q0 ms End.complete = total-same (omega arith) (omega arith) (omega arith
 last-is q0 ms (End.refused n number) = refl
 
 -- from a machine made fresh
-pub listing-is : (s : Settings) → settingsNo s ≡ 0 → (text : List ℕ) → restOf (startOf (freshOf s)) text ≡ listingOf s text
-unfolding restOf startOf tallyStart listingOf jobOf freshOf rows
+pub listing-is : (s : Settings) → settingsNo s ≡ 0 → (text : List ℕ) → restOf (checkFrom (freshOf s)) text ≡ listingOf s text
+unfolding restOf checkFrom tallyStart listingOf jobOf freshOf rows
 listing-is s passed text = ap (λ (rest : List ℕ). headerLine ++ rest) (by (leb (length text) longestText) refl)
   where
     by : (short : Bool) → leb (length text) longestText ≡ short
         → cond short (rowsFrom (tallyStart (freshOf s)) (linesOf text)) (refusedLine 1 30)
-        ≡ (let j = cond short (jobFrom s 1 (record { x = pos 0; y = pos 0 }) unknown (linesOf text)) (record { blocks = []; end = End.refused 1 30 }) in
+        ≡ (let j = cond short (jobFrom s 1 (record { x = pos 0; y = pos 0 }) unknown (linesOf text))
+        (record { blocks = []; end = End.refused 1 30 }) in
         rows 1 (j .blocks) ++ lastLine (capacityOf s) (j .blocks) (j .end))
     by true e =
         let j = jobFrom s 1 (record { x = pos 0; y = pos 0 }) unknown (linesOf text) in

@@ -10,8 +10,9 @@ use Rattle.letters.specs.declared.word.Words.{Words}
 use Rattle.words.specs.computed.Meaning.{meaningOf}
 use Rattle.bench.specs.declared.Bench.{Bench}
 use Rattle.bench.specs.declared.Answer.{Answer}
-use Rattle.bench.specs.Bench.{soundOf, movedOf}
-use Rattle.bench.specs.Calls.{loadOf}
+use Rattle.bench.specs.computed.Bench.{soundOf}
+use Rattle.bench.specs.Bench.{movedOf}
+use Rattle.bench.specs.computed.Calls.{loadOf}
 use Rattle.finish.specs.laws.Record.{AtRest, cycles-most, ticks-most}
 use Rattle.reader.specs.declared.Feed.{Feed}
 use Rattle.reader.specs.declared.Reader.{Reader}
@@ -19,17 +20,18 @@ use Rattle.reader.specs.declared.asked.ToLoad.{ToLoad}
 use Rattle.reader.specs.declared.asked.Asked.{Asked}
 use Rattle.reader.specs.declared.«text_line».Read.{Read}
 use Rattle.reader.specs.declared.«text_line».ReadLine.{ReadLine}
-use Rattle.reader.specs.Reader.{longestText, readerAfter, feedAfter, lineNo}
-use Rattle.reader.specs.Asked.{askedWith, askedOf}
-use Rattle.reader.specs.TextLine.{reads, loaded, takes, takenOf, readLineOf}
+use Rattle.reader.specs.computed.Reader.{longestText, lineNo}
+use Rattle.reader.specs.Reader.{readerAfter, feedAfter}
+use Rattle.reader.specs.computed.Asked.{askedWith, askedOf}
+use Rattle.reader.specs.computed.TextLine.{reads, loaded, takes, takenOf, readLineOf}
 use Rattle.reader.specs.laws.Small.{line-writable}
-use Rattle.listing.specs.declared.Tally.{Tally}
-use Rattle.listing.specs.Tally.{countsRight, blockListed, listedWith, listedOf}
-use Rattle.listing.specs.Tally.{startOf as tallyStart}
-use Rattle.listing.specs.laws.Counts.{Counts, counts}
-use Rattle.listing.specs.laws.Read.{listed, not-listed}
-use Rattle.job.specs.Job.{Asks}
-use Rattle.job.specs.Check.{FeedSmall, Reached}
+use Rattle.tally.specs.declared.Tally.{Tally}
+use Rattle.tally.specs.computed.Tally.{countsRight, blockListed, listedWith, listedOf}
+use Rattle.tally.specs.computed.Tally.{tallyFrom as tallyStart}
+use Rattle.tally.specs.laws.Counts.{Counts, counts}
+use Rattle.tally.specs.laws.Read.{listed, not-listed}
+use Rattle.job.specs.computed.Job.{Asks}
+use Rattle.job.specs.computed.Check.{FeedSmall, Reached}
 use Rattle.job.specs.laws.Ended.{ended, ended-rests}
 use Rattle.job.specs.laws.Asks.{Read-as, line-asks}
 
@@ -151,5 +153,6 @@ module _ (t : Tally) {at next : ℕ} (r : Reached at t) (near : next ≤ longest
       by : (right : Bool) → countsRight t ≡ right → Reached next (listedOf t line .tally)
       by true e =
           rw (listed t line e {r = readLineOf (t .reader) (t .bench) line} refl)
-          (by-line (counts t e) (line-asks (t .bench) (t .reader) (r .sound) (r .idle) line) (feed-read (t .reader) (t .bench) line (r .feed)))
+          (by-line (counts t e) (line-asks (t .bench) (t .reader) (r .sound) (r .idle) line)
+          (feed-read (t .reader) (t .bench) line (r .feed)))
       by false e = rw (not-listed t line e) stays

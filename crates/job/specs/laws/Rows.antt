@@ -12,19 +12,20 @@ use Rattle.row.specs.Lines.{totalLine, refusedLine}
 use Rattle.work.specs.Work.{workAlong, begunOf}
 use Rattle.settings.specs.Settings.{capacityOf}
 use Rattle.bench.specs.Bench.{movedOf}
-use Rattle.bench.specs.Calls.{loadOf}
+use Rattle.bench.specs.computed.Calls.{loadOf}
 use Rattle.finish.specs.laws.Record.{AtRest, cycles-most, ticks-most}
-use Rattle.reader.specs.Reader.{longestText}
+use Rattle.reader.specs.computed.Reader.{longestText}
 use Rattle.reader.specs.declared.Reader.{Reader}
 use Rattle.reader.specs.declared.«text_line».ReadLine.{ReadLine}
-use Rattle.reader.specs.TextLine.{readLineOf}
-use Rattle.listing.specs.declared.Tally.{Tally}
-use Rattle.listing.specs.Tally.{kindOf, listedWith, blockListed}
-use Rattle.listing.specs.laws.Counts.{Counts, counts-test}
-use Rattle.listing.specs.laws.Read.{listed}
-use Rattle.job.specs.Job.{Asks, Made, End, Job, onward, jobFrom}
+use Rattle.reader.specs.computed.TextLine.{readLineOf}
+use Rattle.tally.specs.declared.Tally.{Tally}
+use Rattle.tally.specs.computed.Tally.{kindOf, listedWith, blockListed}
+use Rattle.tally.specs.laws.Counts.{Counts, counts-test}
+use Rattle.tally.specs.laws.Read.{listed}
+use Rattle.job.specs.computed.Job.{Asks, readOn, jobFrom}
+use Rattle.job.specs.Job.{Made, End, Job}
 use Rattle.job.specs.Listing.{pathKind, madeLine, rows, allCycles, allTicks}
-use Rattle.job.specs.Check.{rowsFrom, unless}
+use Rattle.job.specs.computed.Check.{rowsFrom, unless}
 use Rattle.job.specs.laws.Ended.{Accepted, Low, endedOf, ended, ended-rests, ended-ticks, ended-left, ended-low}
 use Rattle.job.specs.laws.Asks.{Read-as, load-accepted, line-asks}
 
@@ -51,7 +52,15 @@ module _ (t : Tally) (k : Reader) (b : Block) (i : AtRest (t .bench)) (low : Low
   abbrev next : Tally
   next =
       let f = endedOf (t .bench) b in
-      record { reader = k; bench = f .bench; lines = t .lines + 1; blocks = t .blocks + 1; cycles = t .cycles + f .cycles; ticks = t .ticks + f .ticks }
+      record {
+        reader = k;
+        bench = f .bench;
+        lines = t .lines + 1;
+        blocks = t .blocks + 1;
+        cycles = t .cycles + f .cycles;
+        ticks =
+            t .ticks + f .ticks;
+      }
 
   kind-loaded : kindOf (loadOf (t .bench) b .bench .work) ≡ pathKind (b .path)
   unfolding begunOf movedOf
@@ -61,7 +70,8 @@ module _ (t : Tally) (k : Reader) (b : Block) (i : AtRest (t .bench)) (low : Low
       by Path.Line = refl
       by (Path.Arc turn centre) = refl
 
-  block-given : blockListed t k (loadOf (t .bench) b .bench) (blockWidth (t .bench .at) b) ≡ record { bytes = madeLine (t .blocks + 1) made; over = false; tally = next }
+  block-given : blockListed t k (loadOf (t .bench) b .bench) (blockWidth (t .bench .at) b)
+      ≡ record { bytes = madeLine (t .blocks + 1) made; over = false; tally = next }
   unfolding blockListed movedOf
   block-given = rw (ended (t .bench) i b ok, kind-loaded)
 
@@ -80,7 +90,11 @@ module _ (t : Tally) (k : Reader) (b : Block) (i : AtRest (t .bench)) (low : Low
       total-same (omega arith) (omega arith) (omega arith)
   last-next ms (End.refused n number) = refl
 
-  listed-next : (j : Job) → madeLine (t .blocks + 1) made ++ listingAfter next j ≡ listingAfter t (record { blocks = made ∷ j .blocks; end = j .end })
+  listed-next : (j : Job) → madeLine (t .blocks + 1) made ++ listingAfter next j ≡ listingAfter t (record {
+    blocks =
+        made ∷ j .blocks;
+    end = j .end;
+  })
   unfolding rows
   listed-next j =
       rw (last-next (j .blocks) (j .end))
@@ -96,7 +110,7 @@ by-line : (t : Tally) (ls : List (List ℕ)) → AtRest (t .bench) → Low (t .b
     → ((t′ : Tally) → Lists ls t′)
     → {a : Asks} {r : ReadLine} → Read-as (t .bench) (t .reader) a r
     → (let g = listedWith t (r .reader) (r .bench) (r .answer) in g .bytes ++ unless (g .over) (rowsFrom (g .tally) ls))
-    ≡ listingAfter t (onward (t .lines + 1) (t .bench .at) a (λ at k. jobFrom (t .bench .settings) (t .lines + 1 + 1) at k ls))
+    ≡ listingAfter t (readOn (t .lines + 1) (t .bench .at) a (λ at k. jobFrom (t .bench .settings) (t .lines + 1 + 1) at k ls))
 unfolding rows movedOf
 by-line t ls i low c most rest (Read-as.nothing k) =
     rest (record { reader = k; bench = t .bench; lines = t .lines + 1; blocks = t .blocks; cycles = t .cycles; ticks = t .ticks }) i low

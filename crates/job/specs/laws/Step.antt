@@ -8,19 +8,19 @@ use lib.ListN.{length, drop, length-drop, drop-of-length-le}
 use lib.Seq.{drop-drop}
 use borrow.Author.Tests.{le-leb, lt-leb}
 use Rattle.row.specs.declared.lines.Place.{Place}
-use Rattle.row.specs.Buffer.{lineRoom, hasRoom, placed, bufferAfter, placeAfter}
+use Rattle.row.specs.computed.Buffer.{lineRoom, hasRoom, placed, bufferAfter, placeAfter}
 use Rattle.row.specs.Lines.{headerLine, totalLine, refusedLine}
 use Rattle.row.specs.laws.Buffer.{header-short, refused-short}
-use Rattle.listing.specs.declared.Listed.{Listed}
-use Rattle.listing.specs.Tally.{Gives, nextPlace, listedOf, readOf, bytesRead}
-use Rattle.listing.specs.laws.Read.{written, goes-on}
-use Rattle.reader.specs.Reader.{longestText}
+use Rattle.tally.specs.declared.Listed.{Listed}
+use Rattle.tally.specs.computed.Tally.{Gives, placeAfterRow, listedOf, readOf, bytesRead}
+use Rattle.tally.specs.laws.Read.{written, goes-on}
+use Rattle.reader.specs.computed.Reader.{longestText}
 use Rattle.job.specs.declared.Stage.{Stage}
 use Rattle.job.specs.declared.Check.{Check}
 use Rattle.words.specs.computed.Scan.{firstLine}
 use Rattle.words.specs.laws.FirstLine.{first-short}
 use Rattle.job.specs.Text.{linesOf}
-use Rattle.job.specs.Check.{rowsFrom, unless, restOf, lastOf, Steps}
+use Rattle.job.specs.computed.Check.{rowsFrom, unless, restOf, lastOf, Steps}
 use Rattle.job.specs.laws.Text.{lines-next}
 use Rattle.job.specs.laws.Reached.{line-reached}
 
@@ -32,7 +32,7 @@ pub record Wrote (line old : List ℕ) (at : ℕ) (p : Place) (new : List ℕ) :
 
 module _ (c : Check) (text old : List ℕ) (at : ℕ) {new : List ℕ} where
   pub step-header : {p : Place} → c .stage ≡ Stage.Header → Wrote headerLine old at p new
-      → Steps c text old at (record { next = nextPlace p at; check = record { stage = Stage.Lines; at = c .at; tally = c .tally } }) new
+      → Steps c text old at (record { next = placeAfterRow p at; check = record { stage = Stage.Lines; at = c .at; tally = c .tally } }) new
   unfolding restOf
   step-header e w =
       record {
@@ -47,21 +47,34 @@ module _ (c : Check) (text old : List ℕ) (at : ℕ) {new : List ℕ} where
 
   module _ (lines : c .stage ≡ Stage.Lines) where
     -- the last row
-    last : {next : ℕ} (line : List ℕ) → length line ≤ lineRoom → new ≡ placed line old at → next ≡ at + length line → line ≡ restOf c text → Steps c text old at (lastOf c next) new
+    last : {next : ℕ} (line : List ℕ) → length line ≤ lineRoom → new ≡ placed line old at → next ≡ at + length line → line ≡ restOf c text
+        → Steps c text old at (lastOf c next) new
     unfolding restOf
-    last line short buffer next e = record { line = line; room = short; buffer = buffer; next = next; bytes = append-nil line ∙ e; keeps = λ r. r; fewer = rw lines (omega arith) }
+    last line short buffer next e = record {
+      line = line;
+      room = short;
+      buffer = buffer;
+      next = next;
+      bytes = append-nil line
+          ∙ e;
+      keeps = λ r. r;
+      fewer = rw lines (omega arith);
+    }
 
-    last-written : {p : Place} (line : List ℕ) → length line ≤ lineRoom → Wrote line old at p new → line ≡ restOf c text → Steps c text old at (lastOf c (nextPlace p at)) new
+    last-written : {p : Place} (line : List ℕ) → length line ≤ lineRoom → Wrote line old at p new → line ≡ restOf c text
+        → Steps c text old at (lastOf c (placeAfterRow p at)) new
     last-written line short w e = last line short (w .buffer ∙ written line old at (w .room)) (goes-on line old at (w .room) (w .place)) e
 
-    pub step-long : {p : Place} → longestText < length text → Wrote (refusedLine 1 30) old at p new → Steps c text old at (lastOf c (nextPlace p at)) new
+    pub step-long : {p : Place} → longestText < length text → Wrote (refusedLine 1 30) old at p new
+        → Steps c text old at (lastOf c (placeAfterRow p at)) new
     unfolding restOf
-    step-long long w = last-written (refusedLine 1 30) (refused-short 1 30 (omega arith) (omega arith)) w (rw (lines, lt-leb (length text) longestText long))
+    step-long long w = last-written (refusedLine 1 30) (refused-short 1 30 (omega arith) (omega arith)) w
+        (rw (lines, lt-leb (length text) longestText long))
 
     module _ (short : length text ≤ longestText) where
       pub step-total : {p : Place}
           → (let line = totalLine (c .tally .blocks) (c .tally .cycles) (c .tally .ticks) in
-          length line ≤ lineRoom → length text ≤ c .at → Wrote line old at p new → Steps c text old at (lastOf c (nextPlace p at)) new)
+          length line ≤ lineRoom → length text ≤ c .at → Wrote line old at p new → Steps c text old at (lastOf c (placeAfterRow p at)) new)
       unfolding restOf rowsFrom linesOf
       step-total few end w =
           last-written (totalLine (c .tally .blocks) (c .tally .cycles) (c .tally .ticks)) few w
@@ -85,7 +98,14 @@ module _ (c : Check) (text old : List ℕ) (at : ℕ) {new : List ℕ} where
             restOf c text
             ≡ listedOf (c .tally) line .bytes ++ unless (l .over) (rowsFrom (l .tally) (linesOf (drop (c .at + length line + 1) text)))
         unfolding restOf rowsFrom
-        cut = rw (lines, le-leb (length text) longestText short, lines-next (drop (c .at) text) (rw (length-drop (c .at) text) (omega arith)), after, g .over, g .tally)
+        cut = rw (
+          lines,
+          le-leb (length text) longestText short,
+          lines-next (drop (c .at) text) (rw (length-drop (c .at) text) (omega arith)),
+          after,
+          g .over,
+          g .tally,
+        )
 
         pub step-refused : l .over ≡ true → Steps c text old at (lastOf c (l .next)) new
         step-refused e = last (listedOf (c .tally) line .bytes) (g .short) (g .buffer) (g .next) (sym (append-nil _) ∙ sym (rw e at cut))

@@ -25,7 +25,8 @@ lines-cut b [] = by (eqb b 10)
 lines-cut b (a ∷ s) = by (eqb b 10) (lines-cut a s)
   where
     by : (lf : Bool) → linesOf (a ∷ s) ≡ firstLine (a ∷ s) ∷ linesOf (drop (suc (length (firstLine (a ∷ s)))) (a ∷ s))
-        → lineOr lf b (linesOf (a ∷ s)) ≡ untilLf lf b (firstLine (a ∷ s)) ∷ linesOf (drop (suc (length (untilLf lf b (firstLine (a ∷ s))))) (b ∷ a ∷ s))
+        → lineOr lf b (linesOf (a ∷ s)) ≡ untilLf lf b (firstLine (a ∷ s)) ∷ linesOf (drop
+        (suc (length (untilLf lf b (firstLine (a ∷ s))))) (b ∷ a ∷ s))
     by true e = refl
     by false e = ap (inFront b) e
 

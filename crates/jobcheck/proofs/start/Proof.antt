@@ -2,17 +2,12 @@
 use borrow.Author.Needs.{needs}
 use Rattle.jobcheck.proofs.start.Statement.{statement}
 use Rattle.jobcheck.proofs.start.Tie as tie
-use Rattle.jobcheck.proofs.start.Reads as reads
-use Rattle.jobcheck.proofs.start.Lts as lts
-use Rattle.job.proofs.Check.start.Reads as start-reads
-use Rattle.bench.proofs.Bench.make.Reads as make-reads
-use Rattle.settings.proofs.standard.Reads as standard-reads
 use Rattle.job.specs.declared.Check.{Check}
-use Rattle.job.specs.Check.{restOf, startOf}
+use Rattle.job.specs.computed.Check.{restOf, checkFrom}
 use mathlib.Core.Path.{_≡_, ap, _∙_}
 use Rattle.settings.specs.Settings.{standardSettings}
 use Rattle.bench.specs.Bench.{freshOf}
-use Rattle.bench.specs.Calls.{makeOf}
+use Rattle.bench.specs.computed.Calls.{makeOf}
 use Rattle.settings.specs.laws.Right.{standard-passes}
 use Rattle.job.specs.laws.Listing.{listing-is}
 
@@ -25,7 +20,7 @@ make-requires c κs = search needs
 start-requires : tie.Need-start-requires
 start-requires c κs = search needs
 
-fresh : (c : tie.After-start) → c .start .result ≡ startOf (freshOf standardSettings)
+fresh : (c : tie.After-start) → c .start .result ≡ checkFrom (freshOf standardSettings)
 unfolding makeOf
 fresh c = rw (c .start .ensures, c .before .before .make .ensures, c .before .before .before .standard .ensures, standard-passes)
 

@@ -1,12 +1,6 @@
 -- Each turn of `write_listing` leaves less to come, since the buffer holds a row.
 use Rattle.jobcheck.proofs.write_listing.Statement.{statement}
 use Rattle.jobcheck.proofs.write_listing.Tie as tie
-use Rattle.jobcheck.proofs.write_listing.Reads as reads
-use Rattle.jobcheck.proofs.write_listing.Lts as lts
-use Rattle.io.proofs.write_all.Reads as write-all-reads
-use Rattle.job.proofs.Check.fill.Reads as fill-reads
-use Rattle.job.proofs.Check.is_over.Reads as is-over-reads
-use Rattle.jobcheck.proofs.start.Reads as start-reads
 use borrow.Author.Needs.{needs}
 use mathlib.Core.Path.{_≡_, refl, sym, _∙_}
 use native.Mathlib.Omega.{arith}

@@ -1,11 +1,6 @@
 -- `main` is right because what was read lies within the text's buffer.
 use Rattle.jobticks.proofs.main.Statement.{statement}
 use Rattle.jobticks.proofs.main.Tie as tie
-use Rattle.jobticks.proofs.main.Reads as reads
-use Rattle.jobticks.proofs.main.Lts as lts
-use Rattle.input.proofs.read.Reads as read-reads
-use Rattle.jobticks.proofs.write_ticks.Reads as write-ticks-reads
-use Rattle.os.proofs.fail.Reads as fail-reads
 use borrow.Author.Needs.{needs}
 use mathlib.Core.Path.{sym}
 use native.Mathlib.Omega.{arith}

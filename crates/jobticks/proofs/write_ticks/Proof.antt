@@ -1,25 +1,19 @@
 -- Each turn of `write_ticks` leaves less to come, since the buffer holds a byte.
 use Rattle.jobticks.proofs.write_ticks.Statement.{statement}
 use Rattle.jobticks.proofs.write_ticks.Tie as tie
-use Rattle.jobticks.proofs.write_ticks.Reads as reads
-use Rattle.jobticks.proofs.write_ticks.Lts as lts
-use Rattle.io.proofs.large_buffer.Reads as large-buffer-reads
-use Rattle.io.proofs.write_all.Reads as write-all-reads
-use Rattle.tape.proofs.Tape.fill.Reads as fill-reads
-use Rattle.jobticks.proofs.start.Reads as start-reads
 use borrow.Author.Needs.{needs}
 use mathlib.Core.Path.{_≡_, sym}
 use native.Mathlib.Omega.{arith}
 use borrow.Author.Tests.{not-true}
 use lib.ListN.{length}
 use lib.Seq.{length-take-le}
-use Rattle.tape.specs.laws.Fill.{toCome, fill-less}
+use Rattle.stream.specs.laws.Fill.{toCome, fill-less}
 
 abbrev Inv-loop : tie.InvT-loop
-Inv-loop text out₀ tape₀ out tape = 65536 ≡ length out
+Inv-loop text out₀ stream₀ out stream = 65536 ≡ length out
 
 abbrev μ-loop : tie.MeasureT-loop
-μ-loop text out₀ tape₀ out tape = toCome tape text
+μ-loop text out₀ stream₀ out stream = toCome stream text
 
 large-buffer-requires : tie.Need-large-buffer-requires Inv-loop μ-loop
 large-buffer-requires c κs = tt

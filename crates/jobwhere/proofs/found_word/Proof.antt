@@ -1,7 +1,7 @@
 -- `found_word` is right because each case has its own number.
 use borrow.Author.Needs.{needs}
 use mathlib.Core.Path.{_∙_}
-use Rattle.layout.specs.laws.Number.{refusal-fits, through}
+use Rattle.encoding.specs.laws.Number.{refusal-fits, through}
 use Rattle.jobwhere.proofs.found_word.Statement.{statement}
 use Rattle.jobwhere.proofs.found_word.Tie as tie
 

@@ -1,6 +1,6 @@
 -- `stands` is right because each word is that of its number.
 use borrow.Author.Needs.{needs}
-use Rattle.layout.specs.laws.Number.{word-fits, through}
+use Rattle.encoding.specs.laws.Number.{word-fits, through}
 use Rattle.jobwhere.specs.laws.Row.{found-fits}
 use Rattle.jobwhere.proofs.stands.Statement.{statement}
 use Rattle.jobwhere.proofs.stands.Tie as tie

@@ -1,22 +1,16 @@
 -- A digit more, the loop over the digits, and how large the number is.
-use mathlib.Core.Path.{_≡_, refl, sym, ap, subst, _∙_}
-use mathlib.Core.Bool.{Bool, true, false, cond, _&&_}
+use mathlib.Core.Path.{_≡_, sym, ap, subst, _∙_}
+use mathlib.Core.Bool.{Bool, true, false, cond}
 use mathlib.Core.List.{List, [], _∷_}
 use Prim.Native.Nat.{ℕ, suc, _+_, _-_, _*_, _/_, _^_, _≤_, _<_}
 use native.Mathlib.Omega.{arith}
-use lib.Dec.{leb, ltb, eqb}
-use lib.IntN.{pos}
+use lib.Dec.{eqb}
 use lib.ListN.{length, drop, getD, drop-of-length-le}
 use lib.Seq.{drop-cons}
-use borrow.Author.Tests.{lt-leb, le-leb, lt-ltb, le-ltb, ltb-true, eq-eqb, ne-eqb}
-use Rattle.settings.specs.declared.Settings.{Settings}
-use Rattle.layout.specs.Words.{wordOf}
-use Rattle.layout.specs.laws.Number.{word-small}
-use Rattle.seek.specs.Seek.{seekOf}
-use Rattle.seek.specs.laws.Ticks.{few-ticks}
+use borrow.Author.Tests.{lt-leb, le-leb, lt-ltb, le-ltb, eq-eqb, ne-eqb}
 use Rattle.jobwhere.specs.declared.Asked.{Asked}
 use Rattle.jobwhere.specs.declared.Pushed.{Pushed}
-use Rattle.jobwhere.specs.Asked.{pushedOf, ifPushed, askedFrom, askedOf}
+use Rattle.jobwhere.specs.computed.Asked.{pushedOf, ifPushed, askedFrom, askedOf}
 
 module _ (n b : ℕ) where
   pub push-low : b < 48 → Pushed.Nothing ≡ pushedOf n b
@@ -112,49 +106,3 @@ pub begins : (text : List ℕ) → Within (length text) (askedOf text)
 begins text =
     let size : 0 + length text ≡ length text = omega arith in
     subst (λ (m : ℕ). Within m (askedOf text)) size (asked-within text 0 0)
-
--- ---- the number asked for is below 2^63, and so is what is told of it
-
-abbrev PushedBelow : Pushed → Type 0
-PushedBelow Pushed.Nothing = Unit {0}
-PushedBelow (Pushed.Number n) = n < 2 ^ 63
-
-push-below : (n b : ℕ) → PushedBelow (pushedOf n b)
-unfolding pushedOf
-push-below n b = by (leb 48 b) (leb b 57) (ltb more (2 ^ 63)) refl
-  where
-    more : ℕ
-    more = n * 10 + (b - 48)
-
-    by : (low high small : Bool) → ltb more (2 ^ 63) ≡ small
-        → PushedBelow (cond (low && (high && small)) (Pushed.Number more) Pushed.Nothing)
-    by false high small e = tt
-    by true false small e = tt
-    by true true false e = tt
-    by true true true e = ltb-true more (2 ^ 63) e
-
-abbrev Below : Asked → Type 0
-Below Asked.Nothing = Unit {0}
-Below (Asked.Ticks n at) = n < 2 ^ 63
-
-asked-below : (s : List ℕ) (n digits : ℕ) → n < 2 ^ 63 → Below (askedFrom n digits s)
-unfolding askedFrom
-asked-below [] n digits h = tt
-asked-below (b ∷ s) n digits h =
-    by (eqb b 10) (eqb digits 0) (eqb digits 19) (pushedOf n b) (push-below n b) (λ k g. asked-below s k (digits + 1) g)
-  where
-    by : (lf none most : Bool) (p : Pushed) → PushedBelow p → ((k : ℕ) → k < 2 ^ 63 → Below (askedFrom k (digits + 1) s))
-        → Below
-        (cond lf (cond none Asked.Nothing (Asked.Ticks n (digits + 1)))
-        (cond most Asked.Nothing (ifPushed p (λ k. askedFrom k (digits + 1) s))))
-    by true true most p below later = tt
-    by true false most p below later = h
-    by false none true p below later = tt
-    by false none false Pushed.Nothing below later = tt
-    by false none false (Pushed.Number k) below later = later k below
-
-pub ticks-told : (text : List ℕ) {n at : ℕ} → askedOf text ≡ Asked.Ticks n at
-    → (s : Settings) (job : List ℕ) → wordOf (seekOf s job n .ticks) ≡ pos (seekOf s job n .ticks)
-ticks-told text {n} is s job =
-    let below : n < 2 ^ 63 = subst Below is (asked-below text 0 0 (omega arith)) in
-    word-small (omega (arith, below, few-ticks s job n))

@@ -4,13 +4,13 @@ use lib.IntN.{ℤ}
 use mir.Syntax.{w64}
 use mir.Val.{SFits}
 use mir.Facts.{sfits-lit}
-use Rattle.layout.specs.declared.encode.WorkWords.{WorkWords}
-use Rattle.layout.specs.Words.{wordOf}
-use Rattle.layout.specs.laws.Number.{refusal-fits}
+use Rattle.encoding.specs.declared.encode.WorkWords.{WorkWords}
+use Rattle.encoding.specs.Words.{wordOf}
+use Rattle.encoding.specs.laws.Number.{refusal-fits}
 use Rattle.seek.specs.declared.Found.{Found}
 use Rattle.seek.specs.declared.Sought.{Sought}
 use Rattle.jobwhere.specs.declared.Standing.{Standing}
-use Rattle.jobwhere.specs.Row.{foundWord}
+use Rattle.jobwhere.specs.computed.Row.{foundWord}
 
 abbrev pub standingOf : Sought → Standing
 standingOf a =

@@ -13,8 +13,9 @@ use Rattle.plane.specs.Pulse.{shiftedOf}
 use Rattle.plane.specs.laws.Point.{equal-point, equal-itself}
 use Rattle.plane.specs.laws.Fits.{FitsPoint}
 use Rattle.line.specs.declared.line.Line.{Line}
-use Rattle.line.specs.Line.{incrementX, incrementY, cyclesOf, movedBy, movedOf, pointOf, drawnOf, lineAt, steppedOf}
-use Rattle.line.specs.Register.{Axis}
+use Rattle.line.specs.Line.{incrementX, incrementY, lineCycles, axisSteps, axisMoved, linePoint}
+use Rattle.line.specs.computed.Line.{drawnOf, lineAt, steppedOf}
+use Rattle.line.specs.computed.Register.{AxisFits}
 use Rattle.line.specs.laws.Signed.{moved-size}
 use Rattle.line.specs.laws.Cycles.{increment-x, increment-y, cycles-bound}
 use Rattle.line.specs.laws.Points.{point-fits}
@@ -23,7 +24,7 @@ use Rattle.line.specs.laws.Pulses.{point-next, pulses-next}
 pub record Drawn (l : Line) : Type 0 where
   pub short-x : natAbs (incrementX (l .start) (l .end)) ≤ 2000000
   pub short-y : natAbs (incrementY (l .start) (l .end)) ≤ 2000000
-  pub own : l .cycles ≡ cyclesOf (l .start) (l .end)
+  pub own : l .cycles ≡ lineCycles (l .start) (l .end)
   pub due : l .done < l .cycles
 
 pub drawn : {l : Line} → drawnOf l ≡ true → Drawn l
@@ -32,7 +33,13 @@ drawn {l} e =
     let short = both e in
     let axes = both (short .0) in
     let rest = both (short .1) in
-    record { short-x = leb-true _ _ (axes .0); short-y = leb-true _ _ (axes .1); own = eqb-true _ _ (rest .0); due = ltb-true _ _ (rest .1) }
+    record {
+      short-x = leb-true _ _ (axes .0);
+      short-y = leb-true _ _ (axes .1);
+      own = eqb-true _ _ (rest .0);
+      due =
+          ltb-true _ _ (rest .1);
+    }
 
 pub drawn-test : {l : Line} → Drawn l → drawnOf l ≡ true
 unfolding drawnOf
@@ -40,24 +47,24 @@ drawn-test d =
     joined (joined (le-leb _ _ (d .short-x)) (le-leb _ _ (d .short-y))) (joined (eq-eqb _ _ (d .own)) (lt-ltb _ _ (d .due)))
 
 module _ (l : Line) (d : Drawn l) where
-  pub some-cycle : 0 < cyclesOf (l .start) (l .end)
+  pub some-cycle : 0 < lineCycles (l .start) (l .end)
   some-cycle = omega (arith, d .own, d .due)
 
-  axis : (a : ℕ) → a ≤ cyclesOf (l .start) (l .end) → Axis (l .cycles) a (l .done)
+  axis : (a : ℕ) → a ≤ lineCycles (l .start) (l .end) → AxisFits (l .cycles) a (l .done)
   axis a short =
       let bound = cycles-bound (l .start) (l .end) (d .short-x) (d .short-y) in
       record { some = omega (arith, d .due); wide = omega (arith, d .own); short = omega (arith, d .own); due = omega (arith, d .due) }
 
-  pub axis-x : Axis (l .cycles) (natAbs (incrementX (l .start) (l .end))) (l .done)
+  pub axis-x : AxisFits (l .cycles) (natAbs (incrementX (l .start) (l .end))) (l .done)
   axis-x = axis _ (increment-x (l .start) (l .end))
 
-  pub axis-y : Axis (l .cycles) (natAbs (incrementY (l .start) (l .end))) (l .done)
+  pub axis-y : AxisFits (l .cycles) (natAbs (incrementY (l .start) (l .end))) (l .done)
   axis-y = axis _ (increment-y (l .start) (l .end))
 
 -- a line in work at a point
 pub record LineAt (l : Line) (at : Point) : Type 0 where
   pub drawing : Drawn l
-  pub reached : at ≡ pointOf (l .start) (l .end) (l .done)
+  pub reached : at ≡ linePoint (l .start) (l .end) (l .done)
 
 pub line-at : {l : Line} {at : Point} → lineAt l at ≡ true → LineAt l at
 unfolding lineAt
@@ -68,15 +75,16 @@ gone : (s v m : ℤ) → v ≡ s +ℤ m → natAbs (v -ℤ s) ≡ natAbs m
 gone s v m e = ap natAbs (ap (λ (z : ℤ). z -ℤ s) e ∙ ring (var s ⊕ var m ⊖ var s) (var m) (omega arith))
 
 module _ (l : Line) (at : Point) (i : LineAt l at) where
-  own-moved : (a : ℤ) → natAbs (movedOf (cyclesOf (l .start) (l .end)) a (l .done)) ≡ movedBy (l .cycles) (natAbs a) (l .done)
-  own-moved a = moved-size (cyclesOf (l .start) (l .end)) (some-cycle l (i .drawing)) a (l .done) ∙ ap (λ (q : ℕ). movedBy q (natAbs a) (l .done)) (sym (i .drawing .own))
+  own-moved : (a : ℤ) → natAbs (axisMoved (lineCycles (l .start) (l .end)) a (l .done)) ≡ axisSteps (l .cycles) (natAbs a) (l .done)
+  own-moved a = moved-size (lineCycles (l .start) (l .end)) (some-cycle l (i .drawing)) a (l .done)
+      ∙ ap (λ (q : ℕ). axisSteps q (natAbs a) (l .done)) (sym (i .drawing .own))
 
-  pub gone-x : natAbs (at .x -ℤ l .start .x) ≡ movedBy (l .cycles) (natAbs (incrementX (l .start) (l .end))) (l .done)
-  unfolding pointOf
+  pub gone-x : natAbs (at .x -ℤ l .start .x) ≡ axisSteps (l .cycles) (natAbs (incrementX (l .start) (l .end))) (l .done)
+  unfolding linePoint
   gone-x = gone (l .start .x) (at .x) _ (ap (λ (p : Point). p .x) (i .reached)) ∙ own-moved (incrementX (l .start) (l .end))
 
-  pub gone-y : natAbs (at .y -ℤ l .start .y) ≡ movedBy (l .cycles) (natAbs (incrementY (l .start) (l .end))) (l .done)
-  unfolding pointOf
+  pub gone-y : natAbs (at .y -ℤ l .start .y) ≡ axisSteps (l .cycles) (natAbs (incrementY (l .start) (l .end))) (l .done)
+  unfolding linePoint
   gone-y = gone (l .start .y) (at .y) _ (ap (λ (p : Point). p .y) (i .reached)) ∙ own-moved (incrementY (l .start) (l .end))
 
   -- the next cycle's pulses lead to the next point, which the code's numbers hold
@@ -95,4 +103,4 @@ module _ (l : Line) (at : Point) (i : LineAt l at) where
 
 pub line-test : {l : Line} {at : Point} → LineAt l at → lineAt l at ≡ true
 unfolding lineAt
-line-test {l} i = joined (drawn-test (i .drawing)) (rw (i .reached) (equal-itself (pointOf (l .start) (l .end) (l .done))))
+line-test {l} i = joined (drawn-test (i .drawing)) (rw (i .reached) (equal-itself (linePoint (l .start) (l .end) (l .done))))

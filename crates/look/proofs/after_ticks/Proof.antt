@@ -3,9 +3,9 @@ use mathlib.Core.Path.{_≡_, refl, sym, _∙_}
 use mathlib.Core.Bool.{true}
 use native.Mathlib.Omega.{arith}
 use borrow.Author.Tests.{not-true, not-false}
-use Rattle.machine.specs.Machine.{soundOf}
+use Rattle.machine.specs.computed.Machine.{soundOf}
 use Rattle.machine.specs.laws.Right.{sound}
-use Rattle.look.specs.Look.{tickingOf}
+use Rattle.look.specs.computed.Look.{tickingOf}
 use Rattle.look.specs.laws.Ticks.{ticking-none, ticking-still}
 use Rattle.look.specs.laws.Pass.{passed-most, passed-some, passed-on}
 use Rattle.look.proofs.after_ticks.Statement.{statement}

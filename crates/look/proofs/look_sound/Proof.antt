@@ -1,7 +1,7 @@
 -- `look_sound` is right because its test is the definition's, and the pulses of ticks lead from the point to the point ahead.
 use borrow.Author.Needs.{needs}
 use mathlib.Core.Path.{sym, _∙_}
-use Rattle.look.specs.Look.{tickingOf}
+use Rattle.look.specs.computed.Look.{tickingOf}
 use Rattle.look.specs.laws.Sums.{ticking-leads, leads-way}
 use Rattle.look.specs.laws.Ticks.{ticking-sound}
 use Rattle.look.specs.laws.Ahead.{looks, too-far, sound-near}

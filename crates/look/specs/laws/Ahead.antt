@@ -13,11 +13,12 @@ use Rattle.plane.specs.laws.Travel.{inside, travel-near}
 use Rattle.settings.specs.laws.Right.{settings-right}
 use Rattle.bench.specs.laws.Sound.{sound as bench-parts}
 use Rattle.machine.specs.declared.Machine.{Machine}
-use Rattle.machine.specs.Machine.{soundOf}
+use Rattle.machine.specs.computed.Machine.{soundOf}
 use Rattle.machine.specs.laws.Right.{sound}
 use Rattle.look.specs.declared.Sums.{Sums}
 use Rattle.look.specs.declared.Ahead.{Ahead}
-use Rattle.look.specs.Look.{tickingOf, looked, refusing, mostTicks, aheadOf, wayOf}
+use Rattle.look.specs.computed.Look.{tickingOf, looked, refusing, aheadOf, wayOf}
+use Rattle.look.specs.Look.{mostTicks}
 use Rattle.look.specs.laws.Sums.{ticking-leads, leads-way}
 use Rattle.look.specs.laws.Ticks.{ticking-sound, ticking-adds}
 

@@ -11,29 +11,33 @@ use Rattle.queue.specs.declared.Queue.{Queue}
 use Rattle.queue.specs.laws.Sound.{queue-sound}
 use Rattle.work.specs.declared.Advance.{Advance}
 use Rattle.work.specs.declared.Work.{Work}
-use Rattle.work.specs.Work.{isNothing, cyclesLeft, advanceOf}
+use Rattle.work.specs.Work.{isNothing, cyclesLeft}
+use Rattle.work.specs.computed.Work.{advanceOf}
 use Rattle.work.specs.laws.Keep.{SoundAt}
 use Rattle.run.specs.declared.Ran.{Ran}
-use Rattle.run.specs.Run.{Strip, inFront, stripOf, ranOf}
+use Rattle.run.specs.computed.Run.{Strip, inFront, stripOf, ranOf}
 use Rattle.run.specs.laws.Keep.{strip-end, strip-left, strip-root}
 use Rattle.settings.specs.Settings.{capacityOf}
 use Rattle.bench.specs.declared.Bench.{Bench}
 use Rattle.bench.specs.declared.Ticked.{Ticked}
-use Rattle.bench.specs.Bench.{soundOf as benchSound, movedOf}
+use Rattle.bench.specs.computed.Bench.{soundOf as benchSound}
+use Rattle.bench.specs.Bench.{movedOf}
 use Rattle.bench.specs.laws.Sound.{sound as bench-parts}
 use Rattle.bench.specs.laws.Calls.{tick-works}
-use Rattle.finish.specs.Finish.{worksOf}
+use Rattle.finish.specs.computed.Finish.{worksOf}
 use Rattle.finish.specs.laws.Record.{AtWork, works}
 use Rattle.ahead.specs.laws.Ticks.{leftBy, ticksOf, ticking-sound as bench-sound, ticking-works as bench-works}
 use Rattle.machine.specs.declared.Machine.{Machine}
-use Rattle.machine.specs.Machine.{soundOf, machineOf}
-use Rattle.machine.specs.Calls.{nextOf, tickOf}
+use Rattle.machine.specs.computed.Machine.{soundOf}
+use Rattle.machine.specs.Machine.{machineOf}
+use Rattle.machine.specs.Calls.{nextOf}
+use Rattle.machine.specs.computed.Calls.{tickOf}
 use Rattle.machine.specs.laws.Right.{sound}
 use Rattle.machine.specs.laws.Onward.{Onward}
 use Rattle.machine.specs.laws.Next.{coming}
 use Rattle.machine.specs.laws.Keeps.{next-sound, tick-keeps}
 use Rattle.look.specs.declared.Passed.{Passed}
-use Rattle.look.specs.Look.{tickingOf, passOf}
+use Rattle.look.specs.computed.Look.{tickingOf, passOf}
 use Rattle.machine.specs.laws.Rest.{next-own}
 use Rattle.look.specs.laws.Ticks.{tick-goes-on}
 

@@ -12,16 +12,18 @@ use Rattle.queue.specs.declared.Queue.{Queue}
 use Rattle.work.specs.Work.{isNothing}
 use Rattle.bench.specs.declared.Bench.{Bench}
 use Rattle.bench.specs.Bench.{movedOf}
-use Rattle.bench.specs.Calls.{tickOf as benchTick}
-use Rattle.ahead.specs.Ahead.{inFront, tickingOf as benchTicking}
+use Rattle.bench.specs.computed.Calls.{tickOf as benchTick}
+use Rattle.ahead.specs.computed.Ahead.{inFront, tickingOf as benchTicking}
 use Rattle.ahead.specs.laws.Sums.{Leads, leads-none, after-tick, ticking-leads as bench-leads}
 use Rattle.book.specs.Sums.{pulsesIn}
 use Rattle.machine.specs.declared.Machine.{Machine}
-use Rattle.machine.specs.Machine.{soundOf, machineOf}
-use Rattle.machine.specs.Calls.{firstIn, nextOf, tickOf}
+use Rattle.machine.specs.computed.Machine.{soundOf}
+use Rattle.machine.specs.Machine.{machineOf}
+use Rattle.machine.specs.Calls.{firstIn, nextOf}
+use Rattle.machine.specs.computed.Calls.{tickOf}
 use Rattle.machine.specs.laws.Right.{sound}
 use Rattle.machine.specs.laws.Keeps.{tick-keeps}
-use Rattle.look.specs.Look.{tickingOf, sumsOf, wayOf}
+use Rattle.look.specs.computed.Look.{tickingOf, sumsOf, wayOf}
 
 -- ---- a tick
 

@@ -4,17 +4,18 @@ use mathlib.Core.Bool.{true, false}
 use Prim.Native.Nat.{ℕ, zero, suc, _+_}
 use native.Mathlib.Omega.{arith}
 use Rattle.bench.specs.declared.Bench.{Bench}
-use Rattle.bench.specs.Calls.{tickOf as benchTick}
-use Rattle.finish.specs.Finish.{worksOf}
-use Rattle.ahead.specs.Ahead.{tickingOf as benchTicking}
+use Rattle.bench.specs.computed.Calls.{tickOf as benchTick}
+use Rattle.finish.specs.computed.Finish.{worksOf}
+use Rattle.ahead.specs.computed.Ahead.{tickingOf as benchTicking}
 use Rattle.ahead.specs.laws.Ticks.{ticking-rests as bench-rests}
 use Rattle.machine.specs.declared.Machine.{Machine}
-use Rattle.machine.specs.Machine.{soundOf}
-use Rattle.machine.specs.Calls.{nextOf, tickOf}
+use Rattle.machine.specs.computed.Machine.{soundOf}
+use Rattle.machine.specs.Calls.{nextOf}
+use Rattle.machine.specs.computed.Calls.{tickOf}
 use Rattle.machine.specs.laws.Right.{sound}
 use Rattle.machine.specs.laws.Rest.{next-own}
 use Rattle.machine.specs.laws.Keeps.{tick-keeps}
-use Rattle.look.specs.Look.{tickingOf}
+use Rattle.look.specs.computed.Look.{tickingOf}
 
 -- ---- any record
 

@@ -16,14 +16,16 @@ use Rattle.bench.specs.declared.Answer.{Answer}
 use Rattle.bench.specs.declared.Answered.{Answered as BenchAnswered}
 use Rattle.bench.specs.declared.Tick.{Tick}
 use Rattle.bench.specs.declared.Report.{Report}
-use Rattle.bench.specs.Bench.{soundOf as benchSound}
-use Rattle.bench.specs.Calls.{loadWith as benchLoadWith, loadOf as benchLoad, tickOf as benchTick}
-use Rattle.bench.specs.Run.{Run as BenchRun, noTick as benchNoTick, runOf as benchRun}
+use Rattle.bench.specs.computed.Bench.{soundOf as benchSound}
+use Rattle.bench.specs.computed.Calls.{loadWith as benchLoadWith, loadOf as benchLoad, tickOf as benchTick}
+use Rattle.bench.specs.computed.Run.{Run as BenchRun, noTick as benchNoTick, runOf as benchRun}
 use Rattle.machine.specs.declared.Machine.{Machine}
 use Rattle.machine.specs.declared.Answered.{Answered}
-use Rattle.machine.specs.Machine.{waitingRight, soundOf, machineOf, startOf}
-use Rattle.machine.specs.Calls.{answers, nextOf, loadWith, loadOf, ticks, tickOf}
-use Rattle.machine.specs.Run.{Run, noTick, runOf}
+use Rattle.machine.specs.computed.Machine.{waitingRight, soundOf}
+use Rattle.machine.specs.Machine.{machineOf, startOf}
+use Rattle.machine.specs.Calls.{answers, nextOf, ticks}
+use Rattle.machine.specs.computed.Calls.{loadWith, loadOf, tickOf}
+use Rattle.machine.specs.computed.Run.{Run, noTick, runOf}
 use Rattle.machine.specs.laws.Right.{waiting-test}
 
 abbrev pub alone : Bench → Machine

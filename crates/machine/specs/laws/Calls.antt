@@ -5,20 +5,23 @@ use mathlib.Core.List.{List}
 use Prim.Native.Nat.{ℕ, zero, suc}
 use lib.ListN.{length}
 use Rattle.block.specs.declared.Block.{Block}
-use Rattle.run.specs.Run.{written}
+use Rattle.run.specs.computed.Run.{written}
 use Rattle.settings.specs.declared.Settings.{Settings}
-use Rattle.settings.specs.Settings.{settingsNo, standardSettings}
+use Rattle.settings.specs.computed.Settings.{settingsNo}
+use Rattle.settings.specs.Settings.{standardSettings}
 use Rattle.bench.specs.declared.Answer.{Answer}
 use Rattle.bench.specs.declared.Ran.{Ran as BenchRan}
 use Rattle.bench.specs.declared.Report.{Report}
-use Rattle.bench.specs.Calls.{markedOf}
-use Rattle.bench.specs.Run.{runOf as benchRun}
+use Rattle.bench.specs.Bench.{markedOf}
+use Rattle.bench.specs.computed.Run.{runOf as benchRun}
 use Rattle.machine.specs.declared.Machine.{Machine}
 use Rattle.machine.specs.declared.Answered.{Answered}
 use Rattle.machine.specs.declared.Ran.{Ran}
-use Rattle.machine.specs.Machine.{soundOf, freshOf}
-use Rattle.machine.specs.Calls.{answers, ifSound, makeWith, makeOf, loadWith, nextOf, markOf}
-use Rattle.machine.specs.Run.{noTick, runOf}
+use Rattle.machine.specs.computed.Machine.{soundOf}
+use Rattle.machine.specs.Machine.{freshOf}
+use Rattle.machine.specs.Calls.{answers, nextOf, markOf}
+use Rattle.machine.specs.computed.Calls.{ifSound, makeWith, makeOf, loadWith}
+use Rattle.machine.specs.computed.Run.{noTick, runOf}
 use Rattle.machine.specs.laws.Right.{sound, marked-record}
 
 pub make-refused : (s : Settings) {n : ℕ} → n ≡ settingsNo s → (n ≡ 0 → ⊥)

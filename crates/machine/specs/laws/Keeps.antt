@@ -18,18 +18,22 @@ use Rattle.queue.specs.laws.Waiting.{none-waits}
 use Rattle.work.specs.Work.{isNothing, endOf, begunOf}
 use Rattle.work.specs.laws.Left.{nothing-is, begun-end, begun-busy}
 use Rattle.settings.specs.declared.Settings.{Settings}
-use Rattle.settings.specs.Settings.{capacityOf, settingsNo, standardSettings}
+use Rattle.settings.specs.Settings.{capacityOf, standardSettings}
+use Rattle.settings.specs.computed.Settings.{settingsNo}
 use Rattle.settings.specs.laws.Right.{standard-passes}
 use Rattle.bench.specs.declared.Bench.{Bench}
-use Rattle.bench.specs.Bench.{soundOf as benchSound, freshOf as freshBench, movedOf}
-use Rattle.bench.specs.Calls.{loadOf as benchLoad}
-use Rattle.keeps.specs.laws.Make.{fresh-sound as fresh-bench}
-use Rattle.keeps.specs.laws.Calls.{load-keeps as bench-load-keeps, stopped-sound}
+use Rattle.bench.specs.computed.Bench.{soundOf as benchSound}
+use Rattle.bench.specs.Bench.{freshOf as freshBench, movedOf}
+use Rattle.bench.specs.computed.Calls.{loadOf as benchLoad}
+use Rattle.invariant.specs.laws.Make.{fresh-sound as fresh-bench}
+use Rattle.invariant.specs.laws.Calls.{load-keeps as bench-load-keeps, stopped-sound}
 use Rattle.machine.specs.declared.Machine.{Machine}
-use Rattle.machine.specs.Machine.{soundOf, machineOf, freshOf, startOf}
-use Rattle.machine.specs.Calls.{makeWith, makeOf, beginning, firstIn, nextOf, takes, loadWith}
-use Rattle.machine.specs.Calls.{loadOf, tickOf, holdOf, releaseOf, stopOf}
-use Rattle.machine.specs.Run.{runOf}
+use Rattle.machine.specs.computed.Machine.{soundOf}
+use Rattle.machine.specs.Machine.{machineOf, freshOf, startOf}
+use Rattle.machine.specs.computed.Calls.{makeWith, makeOf, takes, loadWith}
+use Rattle.machine.specs.Calls.{beginning, firstIn, nextOf}
+use Rattle.machine.specs.computed.Calls.{loadOf, tickOf, holdOf, releaseOf, stopOf}
+use Rattle.machine.specs.computed.Run.{runOf}
 use Rattle.machine.specs.laws.Right.{Sound, sound, sound-test, marked-record}
 use Rattle.machine.specs.laws.Onward.{Onward, tick-onward, run-onward}
 use Rattle.machine.specs.laws.Next.{coming}

@@ -12,7 +12,8 @@ use Rattle.plane.specs.Travel.{insideOf}
 use Rattle.block.specs.declared.Block.{Block}
 use Rattle.block.specs.Block.{blockCycles}
 use Rattle.block.specs.Questions.{loadNo}
-use Rattle.block.specs.Chain.{chainEnd, chainCycles, rootOf, Accepted}
+use Rattle.block.specs.Chain.{chainEnd, chainCycles, rootOf}
+use Rattle.block.specs.computed.Chain.{Accepted}
 use Rattle.whole.specs.laws.Ask.{answered}
 use Rattle.block.specs.laws.Chain.{cycles-more, chain-end-inside, chain-cycles-most}
 use Rattle.block.specs.laws.Accepted.{cycles-range}
@@ -20,7 +21,7 @@ use Rattle.queue.specs.Queue.{waiting, pushedOf, waitingAt}
 use Rattle.queue.specs.laws.Waiting.{push-waiting, none-waits, waiting-length}
 use Rattle.work.specs.declared.Work.{Work}
 use Rattle.work.specs.Work.{isNothing, cyclesLeft, endOf, begunOf}
-use Rattle.work.specs.Rest.{rootIn}
+use Rattle.work.specs.Work.{rootIn}
 use Rattle.work.specs.laws.Left.{nothing-is, begun-left, begun-root}
 use Rattle.settings.specs.Settings.{capacityOf}
 use Rattle.bench.specs.declared.Answer.{Answer}
@@ -29,8 +30,9 @@ use Rattle.bench.specs.Bench.{movedOf}
 use Rattle.machine.specs.declared.Machine.{Machine}
 use Rattle.machine.specs.declared.Answered.{Answered}
 use Rattle.machine.specs.Machine.{toDo, machineOf, startOf}
-use Rattle.machine.specs.Calls.{answers, beginning, loadWith}
-use Rattle.machine.specs.Asked.{Taking}
+use Rattle.machine.specs.Calls.{answers, beginning}
+use Rattle.machine.specs.computed.Calls.{loadWith}
+use Rattle.machine.specs.computed.Asked.{Taking}
 use Rattle.machine.specs.laws.Right.{Sound, sound, WaitingRight}
 use Rattle.machine.specs.laws.Onward.{wide, work-end-inside, work-left-most}
 
@@ -51,7 +53,8 @@ module _ (m : Machine) (i : Sound m) where
 
   -- where the next block starts is in travel
   pub start-inside : insideOf t (startOf k (m .queue)) ≡ true
-  start-inside = chain-end-inside q0 t (endOf (k .at) (k .work)) (waiting (m .queue)) (work-end-inside k (i .bench)) (right .queue .accepted)
+  start-inside = chain-end-inside q0 t (endOf (k .at) (k .work)) (waiting (m .queue)) (work-end-inside k (i .bench))
+      (right .queue .accepted)
 
   -- 17 blocks of 8,000,000 cycles at most
   pub left-bound : m .left ≤ 136000000

@@ -7,14 +7,16 @@ use native.Mathlib.Omega.{arith}
 use Rattle.plane.specs.declared.point.Point.{Point}
 use Rattle.block.specs.declared.Block.{Block}
 use Rattle.block.specs.Block.{blockCycles}
-use Rattle.block.specs.Chain.{chainCycles, Accepted}
+use Rattle.block.specs.Chain.{chainCycles}
+use Rattle.block.specs.computed.Chain.{Accepted}
 use Rattle.queue.specs.declared.Queue.{Queue}
-use Rattle.queue.specs.Queue.{waiting, queueSound, firstOf, poppedOf}
+use Rattle.queue.specs.Queue.{waiting, firstOf, poppedOf}
+use Rattle.queue.specs.computed.Queue.{queueSound}
 use Rattle.queue.specs.laws.Sound.{QueueSound, queue-sound, queue-test, First, first-sound}
 use Rattle.queue.specs.laws.Waiting.{pop-waiting}
 use Rattle.work.specs.declared.Work.{Work}
 use Rattle.work.specs.Work.{isNothing, cyclesLeft, endOf, begunOf}
-use Rattle.work.specs.Rest.{rootIn}
+use Rattle.work.specs.Work.{rootIn}
 use Rattle.work.specs.laws.Left.{nothing-is, begun-left, begun-end, begun-root}
 use Rattle.settings.specs.declared.Settings.{Settings}
 use Rattle.settings.specs.Settings.{capacityOf}
@@ -23,7 +25,7 @@ use Rattle.bench.specs.Bench.{movedOf}
 use Rattle.machine.specs.declared.Machine.{Machine}
 use Rattle.machine.specs.Machine.{toDo, machineOf}
 use Rattle.machine.specs.Calls.{beginning, firstIn, nextOf}
-use Rattle.machine.specs.Asked.{Coming}
+use Rattle.machine.specs.computed.Asked.{Coming}
 use Rattle.machine.specs.laws.Right.{WaitingRight}
 use Rattle.machine.specs.laws.Onward.{Onward, wide, here-inside}
 

@@ -9,12 +9,14 @@ use Rattle.plane.specs.declared.travel.Travel.{Travel}
 use Rattle.plane.specs.Travel.{insideOf}
 use Rattle.plane.specs.computed.Travel.{Wide}
 use Rattle.plane.specs.laws.Travel.{inside, inside-test}
-use Rattle.work.specs.Work.{isNothing, cyclesLeft, endOf, advanceOf}
-use Rattle.work.specs.Rest.{Countable, rootIn}
+use Rattle.work.specs.Work.{isNothing, cyclesLeft, endOf}
+use Rattle.work.specs.computed.Work.{advanceOf}
+use Rattle.work.specs.computed.Rest.{Countable}
+use Rattle.work.specs.Work.{rootIn}
 use Rattle.work.specs.laws.Rest.{countable}
 use Rattle.work.specs.laws.Left.{end-inside, left-most}
 use Rattle.work.specs.laws.Keep.{SoundAt}
-use Rattle.run.specs.Run.{Strip, stripOf}
+use Rattle.run.specs.computed.Run.{Strip, stripOf}
 use Rattle.run.specs.laws.Keep.{advance-end, advance-left, advance-root, strip-end, strip-left, strip-root}
 use Rattle.settings.specs.Settings.{capacityOf}
 use Rattle.settings.specs.laws.Right.{settings-right}
@@ -23,12 +25,13 @@ use Rattle.bench.specs.declared.Tick.{Tick}
 use Rattle.bench.specs.declared.Ticked.{Ticked}
 use Rattle.bench.specs.declared.Report.{Report}
 use Rattle.bench.specs.declared.Ran.{Ran as BenchRan}
-use Rattle.bench.specs.Bench.{soundOf, movedOf}
-use Rattle.bench.specs.Calls.{ticks, working, tickOf}
-use Rattle.bench.specs.Run.{Run, ranOver, noTick, runOf}
+use Rattle.bench.specs.computed.Bench.{soundOf}
+use Rattle.bench.specs.Bench.{movedOf}
+use Rattle.bench.specs.computed.Calls.{ticks, working, tickOf}
+use Rattle.bench.specs.computed.Run.{Run, ranOver, noTick, runOf}
 use Rattle.bench.specs.laws.Sound.{Sound, sound}
-use Rattle.keeps.specs.laws.Calls.{tick-keeps, run-keeps}
-use Rattle.machine.specs.Asked.{cyclesTold}
+use Rattle.invariant.specs.laws.Calls.{tick-keeps, run-keeps}
+use Rattle.machine.specs.computed.Asked.{cyclesTold}
 
 -- ---- the cycles that a tick's answer marks
 

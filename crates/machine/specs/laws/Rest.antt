@@ -5,10 +5,12 @@ use Prim.Native.Nat.{ℕ, zero, suc}
 use native.Mathlib.Omega.{arith}
 use Rattle.work.specs.Work.{isNothing}
 use Rattle.bench.specs.declared.Tick.{Tick}
-use Rattle.bench.specs.Calls.{tickOf as benchTick}
+use Rattle.bench.specs.computed.Calls.{tickOf as benchTick}
 use Rattle.machine.specs.declared.Machine.{Machine}
-use Rattle.machine.specs.Machine.{soundOf, machineOf}
-use Rattle.machine.specs.Calls.{firstIn, nextOf, ticks, tickOf}
+use Rattle.machine.specs.computed.Machine.{soundOf}
+use Rattle.machine.specs.Machine.{machineOf}
+use Rattle.machine.specs.Calls.{firstIn, nextOf, ticks}
+use Rattle.machine.specs.computed.Calls.{tickOf}
 use Rattle.machine.specs.laws.Right.{Sound, sound, own-record}
 
 -- nothing comes into work where no block has ended

@@ -14,20 +14,22 @@ use Rattle.block.specs.declared.Block.{Block}
 use Rattle.block.specs.Chain.{chainCycles}
 use Rattle.queue.specs.declared.Queue.{Queue}
 use Rattle.queue.specs.declared.TakenOff.{TakenOff}
-use Rattle.queue.specs.Queue.{waiting, queueSound}
-use Rattle.queue.specs.Test.{wrong}
+use Rattle.queue.specs.Queue.{waiting}
+use Rattle.queue.specs.computed.Queue.{queueSound}
+use Rattle.queue.specs.computed.Test.{wrong}
 use Rattle.queue.specs.laws.Sound.{QueueSound, queue-sound, queue-test, none-sound}
 use Rattle.queue.specs.laws.Waiting.{none-waits}
 use Rattle.work.specs.declared.Work.{Work}
 use Rattle.work.specs.Work.{isNothing, cyclesLeft, endOf}
-use Rattle.work.specs.Rest.{rootIn}
+use Rattle.work.specs.Work.{rootIn}
 use Rattle.settings.specs.Settings.{capacityOf}
-use Rattle.bench.specs.Bench.{soundOf as benchSound}
+use Rattle.bench.specs.computed.Bench.{soundOf as benchSound}
 use Rattle.machine.specs.declared.Machine.{Machine}
-use Rattle.machine.specs.Machine.{toDo, waitingRight, soundOf, machineOf}
-use Rattle.bench.specs.Calls.{markedOf}
+use Rattle.machine.specs.Machine.{toDo, machineOf}
+use Rattle.machine.specs.computed.Machine.{waitingRight, soundOf}
+use Rattle.bench.specs.Bench.{markedOf}
 use Rattle.machine.specs.Calls.{markOf}
-use Rattle.machine.specs.Asked.{lessOf, workOff}
+use Rattle.machine.specs.computed.Asked.{lessOf, workOff}
 
 pub record WaitingRight (q0 : ℕ) (t : Travel) (at : Point) (w : Work) (root left : ℕ) (q : Queue) : Type 0 where
   pub root-is : root ≡ rootIn w

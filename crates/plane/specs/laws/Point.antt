@@ -2,12 +2,13 @@
 use mathlib.Core.Path.{_≡_, ap, _∙_}
 use mathlib.Core.Bool.{true}
 use lib.IntN.{natAbs, _-ℤ_}
-use Rattle.whole.specs.Sign.{joinOf}
+use Rattle.whole.specs.computed.Sign.{joinOf}
 use Rattle.whole.specs.laws.Sign.{join-part}
 use Rattle.whole.specs.laws.Test.{both, joined, equal-true, equal-same}
 use Rattle.plane.specs.declared.point.Point.{Point}
 use Rattle.plane.specs.declared.point.Increments.{Increments}
-use Rattle.plane.specs.Point.{incrementsOf, equalPoint}
+use Rattle.plane.specs.computed.Point.{incrementsOf}
+use Rattle.plane.specs.Point.{equalPoint}
 
 pub same-point : {p q : Point} → p .x ≡ q .x → p .y ≡ q .y → p ≡ q
 same-point ex ey = λ i. record { x = ex i; y = ey i }

@@ -27,7 +27,8 @@ pulse-none (suc (suc zero)) f g = absurd (g refl)
 pulse-none (suc (suc (suc n))) f g = refl
 
 -- a change by a pulse has the pulse's code
-pub change-pulse : (before : ℤ) (pulse negative : Bool) → changeOf before (before +ℤ pulseOf (codeOf pulse negative)) ≡ codeOf pulse negative
+pub change-pulse : (before : ℤ) (pulse negative : Bool)
+    → changeOf before (before +ℤ pulseOf (codeOf pulse negative)) ≡ codeOf pulse negative
 unfolding changeOf
 change-pulse z false negative = simp (+ℤ-idr, ≼-ltZ z z (omega arith))
 change-pulse z true false = simp (≺-ltZ z (z +ℤ pos 1) (omega (arith, added (parts z) (natural 1))))

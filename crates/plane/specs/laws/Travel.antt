@@ -15,28 +15,28 @@ use Rattle.plane.specs.Point.{Near}
 use Rattle.plane.specs.Travel.{withinOf, insideOf, visitsInside}
 use Rattle.plane.specs.computed.Travel.{Wide}
 
-pub record Within (r : Range) (v : ℤ) : Type 0 where
+pub record InRange (r : Range) (v : ℤ) : Type 0 where
   pub above : r .lower ≼ v
   pub below : v ≼ r .upper
 
-pub record Inside (t : Travel) (p : Point) : Type 0 where
-  pub x : Within (t .x) (p .x)
-  pub y : Within (t .y) (p .y)
+pub record Bounded (t : Travel) (p : Point) : Type 0 where
+  pub x : InRange (t .x) (p .x)
+  pub y : InRange (t .y) (p .y)
 
 -- the test and the facts
-pub within : {r : Range} {v : ℤ} → withinOf r v ≡ true → Within r v
+pub within : {r : Range} {v : ℤ} → withinOf r v ≡ true → InRange r v
 unfolding withinOf
 within {r} {v} e = let t = both e in record { above = leZ-true (r .lower) v (t .0); below = leZ-true v (r .upper) (t .1) }
 
-pub within-test : {r : Range} {v : ℤ} → Within r v → withinOf r v ≡ true
+pub within-test : {r : Range} {v : ℤ} → InRange r v → withinOf r v ≡ true
 unfolding withinOf
 within-test {r} {v} w = joined (≼-leZ (r .lower) v (w .above)) (≼-leZ v (r .upper) (w .below))
 
-pub inside : {t : Travel} {p : Point} → insideOf t p ≡ true → Inside t p
+pub inside : {t : Travel} {p : Point} → insideOf t p ≡ true → Bounded t p
 unfolding insideOf
 inside e = let b = both e in record { x = within (b .0); y = within (b .1) }
 
-pub inside-test : {t : Travel} {p : Point} → Inside t p → insideOf t p ≡ true
+pub inside-test : {t : Travel} {p : Point} → Bounded t p → insideOf t p ≡ true
 unfolding insideOf
 inside-test i = joined (within-test (i .x)) (within-test (i .y))
 
@@ -45,23 +45,25 @@ pub axis-near : (lower upper z : ℤ) → natAbs lower ≤ 1000000 → natAbs up
 axis-near lower upper (pos a) h k l m = omega (arith, abs-is upper)
 axis-near lower upper (negsuc a) h k l m = omega (arith, abs-is lower)
 
-pub travel-near : {t : Travel} {p : Point} → Wide t → Inside t p → Near 1000000 p
+pub travel-near : {t : Travel} {p : Point} → Wide t → Bounded t p → Near 1000000 p
 travel-near {t} {p} w i = record {
   x = axis-near (t .x .lower) (t .x .upper) (p .x) (w .x-lower) (w .x-upper) (i .x .above) (i .x .below);
   y = axis-near (t .y .lower) (t .y .upper) (p .y) (w .y-lower) (w .y-upper) (i .y .above) (i .y .below);
 }
 
 -- every visited point, one by one
-pub visits : (t : Travel) (path : ℕ → Point) (n : ℕ) → visitsInside t path n ≡ true → (c : ℕ) → 1 ≤ c → c ≤ n → Inside t (path c)
+pub visits : (t : Travel) (path : ℕ → Point) (n : ℕ) → visitsInside t path n ≡ true → (c : ℕ) → 1 ≤ c → c ≤ n → Bounded t (path c)
 unfolding visitsInside
 visits t path zero e c some most = absurd (omega arith)
 visits t path (suc n) e c some most = by (both e) (λ h l. visits t path n h c some (le-of-suc-le-suc l)) (eq-or-lt-of-le most)
   where
-    by : (visitsInside t path n ≡ true) × (insideOf t (path (suc n)) ≡ true) → (visitsInside t path n ≡ true → c < suc n → Inside t (path c)) → (c ≡ suc n) ⊎ (c < suc n) → Inside t (path c)
+    by : (visitsInside t path n ≡ true) × (insideOf t (path (suc n)) ≡ true)
+        → (visitsInside t path n ≡ true → c < suc n → Bounded t (path c)) → (c ≡ suc n) ⊎ (c < suc n) → Bounded t (path c)
     by b earlier (inl q) = rw q (inside (b .1))
     by b earlier (inr l) = earlier (b .0) l
 
-pub visits-test : (t : Travel) (path : ℕ → Point) (n : ℕ) → ((c : ℕ) → 1 ≤ c → c ≤ n → Inside t (path c)) → visitsInside t path n ≡ true
+pub visits-test : (t : Travel) (path : ℕ → Point) (n : ℕ) → ((c : ℕ) → 1 ≤ c → c ≤ n → Bounded t (path c)) → visitsInside t path n ≡ true
 unfolding visitsInside
 visits-test t path zero f = refl
-visits-test t path (suc n) f = joined (visits-test t path n (λ c s m. f c s (omega arith))) (inside-test (f (suc n) (omega arith) (omega arith)))
+visits-test t path (suc n) f = joined (visits-test t path n (λ c s m. f c s (omega arith))) (inside-test
+    (f (suc n) (omega arith) (omega arith)))

@@ -1,26 +1,25 @@
 -- Words and checks, exactly: a check that fits is told by its machine and the words of its progress, and so is what is known.
 use mathlib.Core.Path.{_≡_, refl}
 use mathlib.Core.Bool.{true}
-use mathlib.Core.List.{List}
 use Prim.Native.Nat.{_^_, _<_}
 use native.Mathlib.Omega.{arith}
-use lib.IntN.{ℤ}
 use borrow.Author.Tests.{lt-ltb}
 use Rattle.circle.specs.declared.plane.Turn.{Turn}
-use Rattle.bench.specs.declared.Bench.{Bench}
-use Rattle.bench.specs.Bench.{soundOf}
+use Rattle.bench.specs.computed.Bench.{soundOf}
 use Rattle.reader.specs.declared.Motion.{Motion}
 use Rattle.reader.specs.declared.Feed.{Feed}
 use Rattle.reader.specs.declared.Reader.{Reader}
 use Rattle.reader.specs.Reader.{motionOf}
 use Rattle.job.specs.declared.Stage.{Stage}
 use Rattle.job.specs.declared.Check.{Check}
-use Rattle.job.specs.Check.{FeedSmall, Reached}
-use Rattle.layout.specs.Words.{countOf}
-use Rattle.layout.specs.laws.Record.{count-word}
-use Rattle.layout.specs.laws.Same.{same-self}
-use Rattle.progress.specs.Known.{motionWord, feedWord, encodeKnown, feedOf, decodeKnown}
-use Rattle.progress.specs.Progress.{stageWord, encodeProgress, stageOf, checkIn, decodeProgress}
+use Rattle.job.specs.computed.Check.{FeedSmall, Reached}
+use Rattle.encoding.specs.Words.{countOf}
+use Rattle.encoding.specs.laws.Record.{count-word}
+use Rattle.encoding.specs.laws.Same.{same-self}
+use Rattle.progress.specs.Known.{motionWord, feedWord, encodeKnown, feedTold}
+use Rattle.progress.specs.computed.Known.{decodeKnown}
+use Rattle.progress.specs.Progress.{stageWord, encodeProgress, stageOf, checkIn}
+use Rattle.progress.specs.computed.Progress.{decodeProgress}
 
 abbrev pub FeedFits : Feed → Type 0
 FeedFits Feed.Unknown = Unit {0}
@@ -47,7 +46,7 @@ motion-back Motion.Line = refl
 motion-back (Motion.Arc Turn.Clockwise) = refl
 motion-back (Motion.Arc Turn.Counterclockwise) = refl
 
-feed-back : (f : Feed) → FeedFits f → feedOf (feedWord f) ≡ f
+feed-back : (f : Feed) → FeedFits f → feedTold (feedWord f) ≡ f
 feed-back Feed.Unknown h = refl
 feed-back (Feed.Known f) h = rw (lt-ltb f (2 ^ 32) h)
 

@@ -20,14 +20,16 @@ use Rattle.reader.specs.declared.Feed.{Feed}
 use Rattle.reader.specs.Reader.{motionOf}
 use Rattle.bench.specs.declared.Bench.{Bench}
 use Rattle.job.specs.declared.Stage.{Stage}
-use Rattle.layout.specs.Words.{countOf, at, sameWords}
-use Rattle.layout.specs.laws.Right.{count-again, count-right, each}
-use Rattle.layout.specs.laws.Same.{same-true, same-words}
+use Rattle.encoding.specs.Words.{countOf, at}
+use Rattle.encoding.specs.computed.Words.{sameWords}
+use Rattle.encoding.specs.laws.Right.{count-again, count-right, each}
+use Rattle.encoding.specs.laws.Same.{same-true, same-words}
 use Rattle.progress.specs.declared.known.Known.{Known}
 use Rattle.progress.specs.declared.progress.Progress.{Progress}
-use Rattle.progress.specs.Known.{motionWord, feedWord, knownOf, encodeKnown, feedOf, readerOf, knownIn}
+use Rattle.progress.specs.Known.{motionWord, feedWord, knownOf, encodeKnown, feedTold, readerOf}
+use Rattle.progress.specs.computed.Known.{knownIn}
 use Rattle.progress.specs.Progress.{stageWord, progressOf, progressWords, encodeProgress, stageOf, checkOf, progressIn, checkIn}
-use Rattle.progress.specs.Right.{stages, motions, feeds, knownRight, countsRight, progressRight}
+use Rattle.progress.specs.computed.Right.{stages, motions, feeds, knownRight, countsRight, progressRight}
 
 -- ---- ranges
 
@@ -69,13 +71,13 @@ motion-right Motion.Line = refl
 motion-right (Motion.Arc Turn.Clockwise) = refl
 motion-right (Motion.Arc Turn.Counterclockwise) = refl
 
-feed-again : (z : ℤ) → withinOf feeds z ≡ true → feedWord (feedOf z) ≡ z
+feed-again : (z : ℤ) → withinOf feeds z ≡ true → feedWord (feedTold z) ≡ z
 feed-again (pos f) t = rw (lt-ltb f (2 ^ 32) (omega (arith, range-to feeds (pos f) t .1)))
 feed-again (negsuc zero) t = refl
 feed-again (negsuc (suc n)) t = absurd (omega (arith, range-to feeds (negsuc (suc n)) t .0))
 
 -- a feed that the words tell
-feed-right : (z : ℤ) → feedWord (feedOf z) ≡ z → withinOf feeds z ≡ true
+feed-right : (z : ℤ) → feedWord (feedTold z) ≡ z → withinOf feeds z ≡ true
 feed-right (pos f) = by (ltb f (2 ^ 32)) refl
   where
     by : (small : Bool) → ltb f (2 ^ 32) ≡ small → feedWord (cond small (Feed.Known f) Feed.Unknown) ≡ pos f → withinOf feeds (pos f) ≡ true

@@ -3,7 +3,7 @@ use borrow.Author.Needs.{needs}
 use mathlib.Core.Path.{sym, _∙_}
 use borrow.Author.Tests.{eqb-true}
 use borrow.Author.Tests.{not-true, not-false}
-use Rattle.block.specs.Chain.{Accepted}
+use Rattle.block.specs.computed.Chain.{Accepted}
 use Rattle.queue.specs.laws.Test.{off-refused, off-unrooted, off-many, off-counts}
 use Rattle.queue.proofs.take_off.Statement.{statement}
 use Rattle.queue.proofs.take_off.Tie as tie

@@ -12,11 +12,13 @@ use Rattle.plane.specs.declared.point.Point.{Point}
 use Rattle.plane.specs.declared.travel.Travel.{Travel}
 use Rattle.block.specs.declared.Block.{Block}
 use Rattle.block.specs.Questions.{loadNo}
-use Rattle.block.specs.Chain.{endAfter, chainEnd, chainAccepted, rootOf}
+use Rattle.block.specs.Chain.{endAfter, chainEnd, rootOf}
+use Rattle.block.specs.computed.Chain.{chainAccepted}
 use Rattle.block.specs.laws.Chain.{accepted-first, accepted-more}
 use Rattle.queue.specs.declared.Waiting.{Waiting}
 use Rattle.queue.specs.declared.Queue.{Queue}
-use Rattle.queue.specs.Queue.{places, blocksOf, waiting, rootsRight, queueSound, blank, emptyQueue, pushedOf, firstOf, poppedOf}
+use Rattle.queue.specs.Queue.{places, blocksOf, waiting, blank, emptyQueue, pushedOf, firstOf, poppedOf}
+use Rattle.queue.specs.computed.Queue.{rootsRight, queueSound}
 use Rattle.queue.specs.Queue.{waitingAt}
 use Rattle.queue.specs.laws.Waiting.{push-places, push-waiting, pop-places, pop-waiting}
 

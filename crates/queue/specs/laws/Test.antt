@@ -12,12 +12,14 @@ use Rattle.plane.specs.declared.point.Point.{Point}
 use Rattle.plane.specs.declared.travel.Travel.{Travel}
 use Rattle.block.specs.Block.{blockCycles}
 use Rattle.block.specs.Questions.{loadNo}
-use Rattle.block.specs.Chain.{endAfter, chainAccepted, chainCycles, rootOf}
+use Rattle.block.specs.Chain.{endAfter, chainCycles, rootOf}
+use Rattle.block.specs.computed.Chain.{chainAccepted}
 use Rattle.queue.specs.declared.Waiting.{Waiting}
 use Rattle.queue.specs.declared.TakenOff.{TakenOff}
 use Rattle.queue.specs.declared.Queue.{Queue}
-use Rattle.queue.specs.Queue.{blank, places, blocksOf, waiting, rootsRight, queueSound}
-use Rattle.queue.specs.Test.{fits, wrong, takenOff, holds}
+use Rattle.queue.specs.Queue.{blank, places, blocksOf, waiting}
+use Rattle.queue.specs.computed.Queue.{rootsRight, queueSound}
+use Rattle.queue.specs.computed.Test.{fits, wrong, takenOff, chainHolds}
 use Rattle.queue.specs.laws.Places.{from-place, no-place}
 
 module _ (q0 : ℕ) (t : Travel) where
@@ -32,9 +34,6 @@ module _ (q0 : ℕ) (t : Travel) where
       let asked = both {a = eqb (loadNo q0 t true start (w .block)) 0} e in
       let root = both {a = eqb (w .root) (rootOf start (w .block))} (asked .1) in
       record { asked = eqb-true _ 0 (asked .0); root = eqb-true _ _ (root .0); enough = leb-true _ count (root .1) }
-
-  pub fits-test : (start : Point) (w : Waiting) (count : ℕ) → Fits start w count → fits q0 t start w count ≡ true
-  fits-test start w count f = joined (eq-eqb _ 0 (f .asked)) (joined (eq-eqb _ _ (f .root)) (le-leb _ count (f .enough)))
 
   -- one that would be refused, one with another root, one with too many cycles, and one that fits
   module _ (start : Point) (w : Waiting) (count : ℕ) where
@@ -77,8 +76,8 @@ module _ (q0 : ℕ) (t : Travel) where
     roots : rootsRight start l ≡ true
     cycles : count ≡ chainCycles start (blocksOf l)
 
-  to : (start : Point) (count : ℕ) (l : List Waiting) → holds q0 t start count l ≡ true → Right start count l
-  unfolding holds chainAccepted rootsRight chainCycles
+  to : (start : Point) (count : ℕ) (l : List Waiting) → chainHolds q0 t start count l ≡ true → Right start count l
+  unfolding chainHolds chainAccepted rootsRight chainCycles
   to start count [] e = record { accepted = refl; roots = refl; cycles = eqb-true count 0 e }
   to start count (w ∷ l) e =
       let r = both {a = fits q0 t start w count} e in
@@ -90,8 +89,8 @@ module _ (q0 : ℕ) (t : Travel) where
         cycles = omega (arith, f .enough, rest .cycles);
       }
 
-  back : (start : Point) (count : ℕ) (l : List Waiting) → Right start count l → holds q0 t start count l ≡ true
-  unfolding holds chainAccepted rootsRight chainCycles
+  back : (start : Point) (count : ℕ) (l : List Waiting) → Right start count l → chainHolds q0 t start count l ≡ true
+  unfolding chainHolds chainAccepted rootsRight chainCycles
   back start count [] r = eq-eqb count 0 (r .cycles)
   back start count (w ∷ l) r =
       let asked = both {a = eqb (loadNo q0 t true start (w .block)) 0} (r .accepted) in
@@ -101,7 +100,7 @@ module _ (q0 : ℕ) (t : Travel) where
       (back (endAfter start (w .block)) (count - blockCycles start (w .block)) l
       (record { accepted = asked .1; roots = root .1; cycles = omega (arith, r .cycles) }))
 
-  pub holds-is : (start : Point) (count : ℕ) (l : List Waiting) → holds q0 t start count l ≡ right start count l
+  pub holds-is : (start : Point) (count : ℕ) (l : List Waiting) → chainHolds q0 t start count l ≡ right start count l
   holds-is start count l =
       same-test
       (λ e. let r = to start count l e in joined (joined (r .accepted) (r .roots)) (eq-eqb count _ (r .cycles)))
@@ -125,7 +124,7 @@ module _ (q0 : ℕ) (t : Travel) where
       none false b = refl
 
   pub tested : (from : Point) (cycles : ℕ) (q : Queue) {r : Bool} → length (q .blocks) ≡ 16 → q .len ≤ 16
-      → holds q0 t from cycles (places q) ≡ r → r ≡ soundWith from cycles q
+      → chainHolds q0 t from cycles (places q) ≡ r → r ≡ soundWith from cycles q
   unfolding queueSound
   tested from cycles q sixteen most e =
       sym e ∙ holds-is from cycles (places q) ∙ sym (rw (eq-eqb _ 16 sixteen, le-leb _ 16 most) refl)
@@ -148,27 +147,28 @@ module _ (q0 : ℕ) (t : Travel) where
     abbrev one : Waiting
     one = getD l i blank
 
-    step : holds q0 t start count (drop i (take n l))
-        ≡ (fits q0 t start one count && holds q0 t (endAfter start (one .block)) (count - blockCycles start (one .block))
+    step : chainHolds q0 t start count (drop i (take n l))
+        ≡ (fits q0 t start one count && chainHolds q0 t (endAfter start (one .block)) (count - blockCycles start (one .block))
         (drop (i + 1) (take n l)))
-    unfolding holds
-    step = ap (holds q0 t start count) (from-place l i n h long)
+    unfolding chainHolds
+    step = ap (chainHolds q0 t start count) (from-place l i n h long)
 
     pub wrong-one : {r : TakenOff} → r ≡ takenOff q0 t start one count → r .right ≡ false
-        → holds q0 t start count (drop i (take n l)) ≡ false
+        → chainHolds q0 t start count (drop i (take n l)) ≡ false
     wrong-one e no-fit = step ∙ rw (sym (off-right start one count) ∙ sym (ap (λ (r : TakenOff). r .right) e) ∙ no-fit) refl
 
     pub fitting : {r : TakenOff} → r ≡ takenOff q0 t start one count → r .right ≡ true → fits q0 t start one count ≡ true
     fitting e fit = sym (off-right start one count) ∙ sym (ap (λ (r : TakenOff). r .right) e) ∙ fit
 
     pub counted : {r : TakenOff} → r ≡ takenOff q0 t start one count → r .right ≡ true
-        → holds q0 t start count (drop i (take n l)) ≡ holds q0 t (endAfter start (one .block)) (r .left) (drop (i + 1) (take n l))
+        → chainHolds q0 t start count (drop i (take n l))
+        ≡ chainHolds q0 t (endAfter start (one .block)) (r .left) (drop (i + 1) (take n l))
     counted e fit =
         step ∙ rw (fitting e fit)
-        (ap (λ (k : ℕ). holds q0 t (endAfter start (one .block)) k (drop (i + 1) (take n l)))
+        (ap (λ (k : ℕ). chainHolds q0 t (endAfter start (one .block)) k (drop (i + 1) (take n l)))
         (sym (ap (λ (r : TakenOff). r .left) e ∙ off-left start one count (fitting e fit))))
 
   pub none-left : (start : Point) (count : ℕ) (l : List Waiting) (i n : ℕ) → n ≤ i → n ≤ length l
-      → holds q0 t start count (drop i (take n l)) ≡ eqb count 0
-  unfolding holds
-  none-left start count l i n h long = ap (holds q0 t start count) (no-place l i n h long)
+      → chainHolds q0 t start count (drop i (take n l)) ≡ eqb count 0
+  unfolding chainHolds
+  none-left start count l i n h long = ap (chainHolds q0 t start count) (no-place l i n h long)

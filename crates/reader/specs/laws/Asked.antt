@@ -13,8 +13,9 @@ use Rattle.words.specs.computed.Scan.{firstLine}
 use Rattle.words.specs.laws.Meaning.{meaning-broken}
 use Rattle.reader.specs.declared.Reader.{Reader}
 use Rattle.reader.specs.declared.asked.ToLoad.{ToLoad}
-use Rattle.reader.specs.Reader.{longestLine, readerAfter, lineNo}
-use Rattle.reader.specs.Asked.{asked, askedWith, askedOf}
+use Rattle.reader.specs.computed.Reader.{longestLine, lineNo}
+use Rattle.reader.specs.Reader.{readerAfter}
+use Rattle.reader.specs.computed.Asked.{asked, askedWith, askedOf}
 
 pub asked-refused : (p : ℕ) (k k′ : Reader) (place : Point) (ws : Words) (n : ℕ) → (n ≡ 0 → ⊥)
     → asked (ToLoad.Refused n) k ≡ askedWith p k k′ place ws n

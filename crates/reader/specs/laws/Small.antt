@@ -11,7 +11,7 @@ use Rattle.whole.specs.laws.Sign.{signed-size}
 use Rattle.whole.specs.laws.Order.{abs-fits}
 use Rattle.words.specs.computed.Meaning.{meaningOf}
 use Rattle.words.specs.laws.Meaning.{meaning-below}
-use Rattle.reader.specs.Reader.{pulsesOf, coordinate}
+use Rattle.reader.specs.Reader.{inPulses, coordinate}
 use Rattle.letters.specs.declared.letter.Letter.the-variants.{F, X, Y, I, J}
 use Rattle.letters.specs.declared.word.Word.{Word}
 use Rattle.letters.specs.declared.word.Words.{Words}
@@ -27,13 +27,14 @@ pub record SmallWords (p : ℕ) (ws : Words) : Type 0 where
   pub f : Small p (ws .f)
 
 -- and so the pulses are an i64
-pub pulses-fit : (p : ℕ) (w : Word) → Small p w → SFits w64 (pulsesOf p w)
-pulses-fit p w h = abs-fits (pulsesOf p w) (rw (signed-size (w .negative) (w .magnitude * p / 1000)) (lt-of-le-of-lt (div-le-self (w .magnitude * p) 1000) h))
+pub pulses-fit : (p : ℕ) (w : Word) → Small p w → SFits w64 (inPulses p w)
+pulses-fit p w h = abs-fits (inPulses p w)
+    (rw (signed-size (w .negative) (w .magnitude * p / 1000)) (lt-of-le-of-lt (div-le-self (w .magnitude * p) 1000) h))
 
 pub coordinate-fits : (p : ℕ) (w : Word) (here : ℤ) → Small p w → SFits w64 here → SFits w64 (coordinate p w here)
 coordinate-fits p w here h at = by (w .stands)
   where
-    by : (stands : Bool) → SFits w64 (cond stands (pulsesOf p w) here)
+    by : (stands : Bool) → SFits w64 (cond stands (inPulses p w) here)
     by true = pulses-fit p w h
     by false = at
 

@@ -1,32 +1,20 @@
 -- What a line does at a bench, by the meaning that the grammar gives it; and the record after it.
-use mathlib.Core.Path.{_≡_}
 use mathlib.Core.Bool.{Bool, true, false, cond}
 use mathlib.Core.List.{List}
 use Prim.Native.Nat.{ℕ}
 use lib.ListN.{length}
 use Rattle.block.specs.declared.Block.{Block}
-use Rattle.words.specs.declared.line.Line.{Line}
-use Rattle.words.specs.Meaning.{Means}
 use Rattle.words.specs.computed.Meaning.{meaningOf}
-use Rattle.words.specs.laws.Meaning.{meaning-means}
-use Rattle.words.specs.laws.Reading.{means-unique}
 use Rattle.bench.specs.declared.Bench.{Bench}
 use Rattle.bench.specs.declared.Answer.{Answer}
-use Rattle.bench.specs.Bench.{soundOf}
-use Rattle.bench.specs.Calls.{loadOf}
+use Rattle.bench.specs.computed.Bench.{soundOf}
+use Rattle.bench.specs.computed.Calls.{loadOf}
 use Rattle.reader.specs.declared.Reader.{Reader}
 use Rattle.reader.specs.declared.asked.ToLoad.{ToLoad}
 use Rattle.reader.specs.declared.asked.Asked.{Asked}
 use Rattle.reader.specs.declared.«text_line».Read.{Read}
-use Rattle.reader.specs.Asked.{askedOf}
-use Rattle.reader.specs.TextLine.{reads, loaded, takes, takenOf, readLineOf}
-
--- `readLineOf` for whoever holds `Means` against the paper: any answer that the grammar allows gives it, and there is only one
-pub read-means : (k : Reader) (m : Bench) (bytes : List ℕ) (l : Line) → Means bytes l
-    → readLineOf k m bytes
-    ≡ cond (soundOf m) (takenOf k m (askedOf (m .settings .scale) k (m .at) (length bytes) l)) (reads (Read.Refused 9) k m)
-unfolding readLineOf
-read-means k m bytes l means = rw (means-unique bytes (meaningOf bytes) l (meaning-means bytes) means)
+use Rattle.reader.specs.computed.Asked.{askedOf}
+use Rattle.reader.specs.computed.TextLine.{reads, loaded, takes, takenOf, readLineOf}
 
 -- ---- the record after a line is the one before it, or that after a load: what holds of both holds of it
 

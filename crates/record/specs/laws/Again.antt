@@ -16,29 +16,34 @@ use Rattle.plane.specs.computed.Travel.{Wide}
 use Rattle.circle.specs.laws.Count.{quarter-bound}
 use Rattle.arc.specs.Centre.{seenFrom}
 use Rattle.block.specs.declared.Block.{Block}
-use Rattle.block.specs.Chain.{chainAccepted, rootOf, Accepted}
+use Rattle.block.specs.computed.Chain.{chainAccepted, Accepted}
+use Rattle.block.specs.Chain.{rootOf}
 use Rattle.block.specs.laws.Accepted.{yes}
 use Rattle.block.specs.laws.Chain.{accepted-first, first-accepted}
 use Rattle.queue.specs.declared.Queue.{Queue}
 use Rattle.queue.specs.declared.Waiting.{Waiting}
-use Rattle.queue.specs.Queue.{places, blocksOf, rootsRight, blank, pushedOf, poppedOf}
+use Rattle.queue.specs.Queue.{places, blocksOf, blank, pushedOf, poppedOf}
+use Rattle.queue.specs.computed.Queue.{rootsRight}
 use Rattle.queue.specs.laws.Sound.{roots-first}
 use Rattle.work.specs.declared.Work.{Work}
 use Rattle.work.specs.Work.{isNothing, begunOf, endOf}
-use Rattle.work.specs.Rest.{Countable, rootIn}
+use Rattle.work.specs.computed.Rest.{Countable}
+use Rattle.work.specs.Work.{rootIn}
 use Rattle.work.specs.laws.Left.{begun-countable, begun-root}
 use Rattle.settings.specs.Settings.{capacityOf}
 use Rattle.settings.specs.laws.Right.{settings-right}
 use Rattle.bench.specs.declared.Bench.{Bench}
 use Rattle.bench.specs.laws.Sound.{sound as bench-parts}
 use Rattle.machine.specs.declared.Machine.{Machine}
-use Rattle.machine.specs.Machine.{soundOf, machineOf}
+use Rattle.machine.specs.computed.Machine.{soundOf}
+use Rattle.machine.specs.Machine.{machineOf}
 use Rattle.machine.specs.Calls.{firstIn, nextOf}
 use Rattle.machine.specs.laws.Right.{sound}
 use Rattle.machine.specs.laws.Onward.{wide, work-countable, work-end-inside}
 use Rattle.machine.specs.laws.Load.{left-bound}
-use Rattle.layout.specs.laws.Record.{small}
-use Rattle.record.specs.Words.{encodeOf, over, placesIn, lenIn, machineIn, soundWords}
+use Rattle.encoding.specs.laws.Record.{small}
+use Rattle.record.specs.Words.{encodeOf, over}
+use Rattle.record.specs.computed.Words.{placesIn, lenIn, machineIn, soundWords}
 use Rattle.record.specs.laws.Places.{AllSmall, places-length}
 use Rattle.record.specs.laws.Record.{words-record, MachineSmall, machine-back}
 use Rattle.record.specs.laws.Write.{told-sound}

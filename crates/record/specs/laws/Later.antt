@@ -7,39 +7,41 @@ use lib.Dec.{eqb}
 use lib.IntN.{ℤ}
 use Rattle.plane.specs.declared.point.Point.{Point}
 use Rattle.plane.specs.Point.{equalPoint}
-use Rattle.line.specs.Line.{steppedOf}
-use Rattle.arc.specs.Arc.{arcStepped}
+use Rattle.line.specs.computed.Line.{steppedOf}
+use Rattle.arc.specs.computed.Arc.{arcStepped}
 use Rattle.divider.specs.Divider.{fedOf}
 use Rattle.work.specs.declared.Work.{Work}
 use Rattle.work.specs.declared.Advance.{Advance}
-use Rattle.work.specs.Work.{isNothing, following, lineCycle, arcCycle, cycleOf, cyclesLeft, dueOf, addedOf, advanceBy, advanceOf}
-use Rattle.run.specs.Run.{Strip, inFront, stripOf}
+use Rattle.work.specs.Work.{isNothing, following, cyclesLeft, addedOf}
+use Rattle.work.specs.computed.Work.{lineCycle, arcCycle, cycleOf, dueOf, advanceBy, advanceOf}
+use Rattle.run.specs.computed.Run.{Strip, inFront, stripOf}
 use Rattle.settings.specs.Settings.{capacityOf}
 use Rattle.bench.specs.declared.Bench.{Bench}
 use Rattle.bench.specs.declared.Tick.{Tick}
 use Rattle.bench.specs.declared.Ticked.{Ticked}
 use Rattle.bench.specs.declared.Ran.{Ran}
 use Rattle.bench.specs.declared.Report.{Report}
-use Rattle.bench.specs.Bench.{soundOf, movedOf}
-use Rattle.bench.specs.Calls.{ticks, working, tickOf}
-use Rattle.bench.specs.Run.{ranOver, noTick, runOf}
+use Rattle.bench.specs.computed.Bench.{soundOf}
+use Rattle.bench.specs.Bench.{movedOf}
+use Rattle.bench.specs.computed.Calls.{ticks, working, tickOf}
+use Rattle.bench.specs.computed.Run.{ranOver, noTick, runOf}
 use Rattle.machine.specs.declared.Machine.{Machine}
-use Rattle.machine.specs.Asked.{cyclesTold}
+use Rattle.machine.specs.computed.Asked.{cyclesTold}
 use Rattle.machine.specs.laws.Right.{Sound, sound}
 use Rattle.machine.specs.laws.Onward.{Onward, tick-onward, tick-left, run-onward, run-left}
 use Rattle.machine.specs.laws.Next.{coming, left-less}
-use Rattle.record.specs.Words.{machineIn, soundWords}
-use Rattle.record.specs.Write.{Follows, Later}
+use Rattle.record.specs.computed.Words.{machineIn, soundWords}
+use Rattle.record.specs.computed.Write.{SameWork, Later}
 use Rattle.record.specs.laws.Write.{told-sound}
 
 -- ---- ticks and runs
 
-follows-self : (w : Work) → Follows w w
+follows-self : (w : Work) → SameWork w w
 follows-self Work.Nothing = tt
 follows-self (Work.Line l) = (refl, refl, refl, refl)
 follows-self (Work.Arc a) = refl
 
-follows-again : (u v w : Work) → Follows u v → Follows v w → Follows u w
+follows-again : (u v w : Work) → SameWork u v → SameWork v w → SameWork u w
 follows-again u v Work.Nothing f g = tt
 follows-again u Work.Nothing (Work.Line l) f g = absurd g
 follows-again Work.Nothing (Work.Line k) (Work.Line l) f g = absurd f
@@ -52,50 +54,50 @@ follows-again Work.Nothing (Work.Arc a) (Work.Arc b) f g = absurd f
 follows-again (Work.Line l) (Work.Arc a) (Work.Arc b) f g = absurd f
 follows-again (Work.Arc c) (Work.Arc a) (Work.Arc b) f g = f ∙ g
 
-cycle-follows : (at : Point) (w : Work) → Follows w (cycleOf at w .work)
+cycle-follows : (at : Point) (w : Work) → SameWork w (cycleOf at w .work)
 unfolding cycleOf lineCycle arcCycle steppedOf
 cycle-follows at Work.Nothing = tt
 cycle-follows at (Work.Line l) = by (eqb (l .done + 1) (l .cycles))
   where
-    by : (ended : Bool) → Follows (Work.Line l) (following ended (Work.Line (steppedOf l .line)))
+    by : (ended : Bool) → SameWork (Work.Line l) (following ended (Work.Line (steppedOf l .line)))
     by true = tt
     by false = (refl, refl, refl, refl)
 cycle-follows at (Work.Arc a) = by (equalPoint (arcStepped a at .at) (a .end))
   where
-    by : (ended : Bool) → Follows (Work.Arc a) (following ended (Work.Arc a))
+    by : (ended : Bool) → SameWork (Work.Arc a) (following ended (Work.Arc a))
     by true = tt
     by false = refl
 
-advance-follows : (q0 : ℕ) (at : Point) (r : ℕ) (w : Work) → Follows w (advanceOf q0 at r w .work)
+advance-follows : (q0 : ℕ) (at : Point) (r : ℕ) (w : Work) → SameWork w (advanceOf q0 at r w .work)
 unfolding advanceOf
 advance-follows q0 at r w = let f = fedOf (dueOf q0 at w) (addedOf w) r in by (f .cycle) (f .remainder)
   where
-    by : (cycle : Bool) (left : ℕ) → Follows w (advanceBy at w (record { cycle = cycle; remainder = left }) .work)
+    by : (cycle : Bool) (left : ℕ) → SameWork w (advanceBy at w (record { cycle = cycle; remainder = left }) .work)
     by true left = cycle-follows at w
     by false left = follows-self w
 
-strip-follows : (q0 n : ℕ) (at : Point) (r : ℕ) (w : Work) → Follows w (stripOf q0 n at r w .work)
+strip-follows : (q0 n : ℕ) (at : Point) (r : ℕ) (w : Work) → SameWork w (stripOf q0 n at r w .work)
 unfolding stripOf
 strip-follows q0 zero at r w = follows-self w
 strip-follows q0 (suc n) at r w = let a = advanceOf q0 at r w in by (isNothing (a .work)) (advance-follows q0 at r w)
     (strip-follows q0 n (a .at) (a .remainder) (a .work))
   where
     by : (ended : Bool) →
-        (let a = advanceOf q0 at r w in Follows w (a .work) → Follows (a .work) (stripOf q0 n (a .at) (a .remainder) (a .work) .work)
-        → Follows w (inFront ended a (stripOf q0 n (a .at) (a .remainder) (a .work)) .work))
+        (let a = advanceOf q0 at r w in SameWork w (a .work) → SameWork (a .work) (stripOf q0 n (a .at) (a .remainder) (a .work) .work)
+        → SameWork w (inFront ended a (stripOf q0 n (a .at) (a .remainder) (a .work)) .work))
     by true f g = f
     by false f g = let a = advanceOf q0 at r w in follows-again w (a .work) (stripOf q0 n (a .at) (a .remainder) (a .work) .work) f g
 
 -- a bench after ticks: settings and mark as they were
 record Ahead (k n : Bench) : Type 0 where
   same : n ≡ movedOf k (n .at) (n .remainder) (n .work)
-  follows : Follows (k .work) (n .work)
+  follows : SameWork (k .work) (n .work)
 
 unmoved : (k : Bench) → Ahead k k
 unfolding movedOf
 unmoved k = record { same = refl; follows = follows-self (k .work) }
 
-moved : (k : Bench) (at : Point) (r : ℕ) (w : Work) → Follows (k .work) w → Ahead k (movedOf k at r w)
+moved : (k : Bench) (at : Point) (r : ℕ) (w : Work) → SameWork (k .work) w → Ahead k (movedOf k at r w)
 unfolding movedOf
 moved k at r w f = record { same = refl; follows = f }
 

@@ -15,10 +15,11 @@ use Rattle.work.specs.declared.Work.{Work}
 use Rattle.bench.specs.Bench.{movedOf}
 use Rattle.machine.specs.declared.Machine.{Machine}
 use Rattle.machine.specs.laws.Right.{sound}
-use Rattle.layout.specs.Words.{wordOf, workWordsOf}
+use Rattle.encoding.specs.Words.{wordOf, workWordsOf}
 use Rattle.record.specs.declared.read.BlockWords.{BlockWords}
-use Rattle.record.specs.Words.{blockWordsOf, sevenOf, queueWords, encodeOf, over, machineIn, soundWords}
-use Rattle.record.specs.Write.{setWork, setBlock, workingOf, waitsOf}
+use Rattle.record.specs.Words.{blockWordsOf, sevenOf, queueWords, encodeOf, over}
+use Rattle.record.specs.computed.Words.{machineIn, soundWords}
+use Rattle.record.specs.computed.Write.{setWork, setBlock, workingOf, waitsOf}
 use Rattle.record.specs.laws.Places.{queue-length}
 use Rattle.record.specs.laws.Write.{whole, told-sound, words-are}
 

@@ -13,11 +13,12 @@ use Rattle.block.specs.Chain.{chainEnd}
 use Rattle.queue.specs.declared.Waiting.{Waiting}
 use Rattle.queue.specs.Queue.{places, waiting, blank}
 use Rattle.queue.specs.laws.Waiting.{none-waits, end-last}
-use Rattle.layout.specs.Words.{at}
-use Rattle.layout.specs.laws.Record.{count-word}
+use Rattle.encoding.specs.Words.{at}
+use Rattle.encoding.specs.laws.Record.{count-word}
 use Rattle.record.specs.declared.read.BlockWords.{BlockWords}
-use Rattle.record.specs.Words.{blockWords, blockWordsAlong, blockWordsOf, sevenOf, queueWords, waitingOf, blockWordsIn, waitingIn}
-use Rattle.record.specs.Words.{placesIn, queueIn, lenIn}
+use Rattle.record.specs.Words.{blockWords, blockWordsAlong, blockWordsOf, sevenOf, queueWords}
+use Rattle.record.specs.computed.Words.{waitingOf, blockWordsIn, waitingIn}
+use Rattle.record.specs.computed.Words.{placesIn, queueIn, lenIn}
 
 -- ---- how many words
 

@@ -10,10 +10,11 @@ use lib.Seq.{take-append-seam, length-take-le}
 use Rattle.queue.specs.declared.Waiting.{Waiting}
 use Rattle.queue.specs.Queue.{places, blank}
 use Rattle.machine.specs.declared.Machine.{Machine}
-use Rattle.layout.specs.Words.{wordOf, countOf}
-use Rattle.layout.specs.laws.Same.{same-true, same-self}
-use Rattle.layout.specs.laws.Record.{Small, count-word, mark-back, work-back}
-use Rattle.record.specs.Words.{encodeOf, over, placesIn, queueIn, benchIn, machineIn, isRecord}
+use Rattle.encoding.specs.Words.{wordOf, countOf}
+use Rattle.encoding.specs.laws.Same.{same-true, same-self}
+use Rattle.encoding.specs.laws.Record.{Small, count-word, mark-back, work-back}
+use Rattle.record.specs.Words.{encodeOf, over}
+use Rattle.record.specs.computed.Words.{placesIn, queueIn, benchIn, machineIn, isRecord}
 use Rattle.record.specs.laws.Places.{AllSmall, places-back}
 
 -- ---- from words to a machine and back

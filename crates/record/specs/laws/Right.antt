@@ -19,19 +19,22 @@ use Rattle.circle.specs.declared.plane.Turn.{Turn}
 use Rattle.block.specs.Block.{blockCycles}
 use Rattle.queue.specs.declared.Waiting.{Waiting}
 use Rattle.queue.specs.declared.TakenOff.{TakenOff}
-use Rattle.queue.specs.Test.{fits, takenOff, holds}
+use Rattle.queue.specs.computed.Test.{fits, takenOff, chainHolds}
 use Rattle.queue.specs.laws.Test.{soundWith, too-long, tested, off-right, off-left}
-use Rattle.layout.specs.declared.encode.Head.{Head}
-use Rattle.layout.specs.declared.encode.WorkWords.{WorkWords}
-use Rattle.layout.specs.Words.{abi, at, wordOf, countOf, headOf, headIn, workWordsOf, workWordsIn, workOf}
-use Rattle.layout.specs.laws.Same.{same-true, same-words}
-use Rattle.layout.specs.laws.Right.{count-again, count-right, zero-right, head-again, head-right, WorkFits, work-again, work-right, wordsAt}
+use Rattle.encoding.specs.declared.encode.Head.{Head}
+use Rattle.encoding.specs.declared.encode.WorkWords.{WorkWords}
+use Rattle.encoding.specs.Words.{abi, at, wordOf, countOf, headOf, workWordsOf}
+use Rattle.encoding.specs.computed.Words.{headIn, workWordsIn, workTold}
+use Rattle.encoding.specs.laws.Same.{same-true, same-words}
+use Rattle.encoding.specs.laws.Right.{count-again, count-right, zero-right, head-again, head-right, WorkFits, work-again, work-right}
+use Rattle.encoding.specs.laws.Right.{wordsAt}
 use Rattle.record.specs.declared.read.BlockWords.{BlockWords}
 use Rattle.record.specs.Words.{figuresOf, frontOf, blockWords, blockWordsAlong, blockWordsOf, sevenOf, queueWords, encodeOf}
 use Rattle.record.specs.Words.{over}
-use Rattle.record.specs.Words.{waitingOf, pathOf, blockWordsIn, waitingIn, placesIn, queueIn, figuresIn, lenIn, benchIn, machineIn}
-use Rattle.record.specs.Words.{isRecord}
-use Rattle.record.specs.Right.{figuresRight, isFront, frontRight, isBlock, kindRight, blockRight, areBlocks, rowRight}
+use Rattle.record.specs.computed.Words.{waitingOf, pathTold, blockWordsIn, waitingIn, placesIn, queueIn, figuresIn, lenIn, benchIn}
+use Rattle.record.specs.computed.Words.{machineIn}
+use Rattle.record.specs.computed.Words.{isRecord}
+use Rattle.record.specs.computed.Right.{figuresRight, isFront, frontRight, blockRowRight, kindRight, blockRight, areBlocks, rowRight}
 use Rattle.record.specs.laws.Places.{queue-length, seven, blockAt, queue-sixteen, queue-places, places-length}
 use Rattle.record.specs.laws.Record.{record-words, words-record}
 
@@ -65,7 +68,7 @@ module _ (ws : List ℤ) where
       let c = both (b .1) in
       let d = both (c .1) in
       let e = both (d .1) in
-      let h = head-again (headIn ws) (workOf (workWordsIn ws)) (f .p) (f .w) (f .remainder) (b .0) in
+      let h = head-again (headIn ws) (workTold (workWordsIn ws)) (f .p) (f .w) (f .remainder) (b .0) in
       let w = work-again (workWordsIn ws) (f .work) (c .0) in
       let root = count-again (at ws 19) (f .root) (d .0) in
       let left = count-again (at ws 20) (f .left) (e .0) in
@@ -85,7 +88,7 @@ module _ (ws : List ℤ) where
   front-right rest rest′ e =
       let first : equalZ (at ws 0) abi ≡ true = rw (ap (λ (l : List ℤ). at l 0) e) in
       joined first
-      (joined (head-right (headIn ws) (workOf (workWordsIn ws)) (sym (ap headIn e)))
+      (joined (head-right (headIn ws) (workTold (workWordsIn ws)) (sym (ap headIn e)))
       (joined (work-right (workWordsIn ws) (sym (ap workWordsIn e)))
       (joined (count-right (at ws 19) (sym (ap (λ (l : List ℤ). at l 19) e)))
       (joined (count-right (at ws 20) (sym (ap (λ (l : List ℤ). at l 20) e)))
@@ -130,8 +133,8 @@ module _ (b : BlockWords) where
   block-right : own ≡ b → blockRight b ≡ true
   unfolding blockRight waitingOf
   block-right e =
-      joined (count-right (b .feed) (feed (pathOf b) ∙ ap (λ (v : BlockWords). v .feed) e))
-      (joined (count-right (b .root) (root (pathOf b) ∙ ap (λ (v : BlockWords). v .root) e))
+      joined (count-right (b .feed) (feed (pathTold b) ∙ ap (λ (v : BlockWords). v .feed) e))
+      (joined (count-right (b .root) (root (pathTold b) ∙ ap (λ (v : BlockWords). v .root) e))
       (by (eqb (countOf (b .kind)) 2) (eqb (countOf (b .kind)) 3) e))
     where
       feed : (p : Path) → wordOf (countOf (b .feed)) ≡ blockWordsAlong (waitingOf b) p .feed
@@ -153,15 +156,15 @@ module _ (b : BlockWords) where
           rw (sym (ap (λ (v : BlockWords). v .kind) e))
           (joined (zero-right (ap (λ (v : BlockWords). v .i) e)) (zero-right (ap (λ (v : BlockWords). v .j) e)))
 
-  is-block : isBlock b ≡ true → own ≡ b
-  unfolding isBlock
+  is-block : blockRowRight b ≡ true → own ≡ b
+  unfolding blockRowRight
   is-block t = sym (ap blockAt (same-true (sevenOf b []) (sevenOf own []) t))
 
-  block-is : own ≡ b → isBlock b ≡ true
-  unfolding isBlock
+  block-is : own ≡ b → blockRowRight b ≡ true
+  unfolding blockRowRight
   block-is e = sym (same-words (ap (λ (v : BlockWords). sevenOf v []) (sym e)))
 
-  pub block-same : BlockFits b → blockRight b ≡ isBlock b
+  pub block-same : BlockFits b → blockRight b ≡ blockRowRight b
   block-same f = same-test (λ t. block-is (block-again f t)) (λ t. block-right (is-block t))
 
 -- ---- the words of all blocks
@@ -270,24 +273,24 @@ none false = refl
 
 module _ (q0 : ℕ) (t : Travel) (ws : List ℤ) where
   row-is : (start : Point) (count i n : ℕ) → rowRight q0 t ws start count i n ≡
-      (areBlocks ws i n && holds q0 t start count (placesIn ws i n))
-  unfolding rowRight areBlocks placesIn holds
+      (areBlocks ws i n && chainHolds q0 t start count (placesIn ws i n))
+  unfolding rowRight areBlocks placesIn chainHolds
   row-is start count i zero = refl
   row-is start count i (suc n) =
       let w = waitingIn ws i in
       let rest = count - blockCycles start (w .block) in
       rw (row-is (w .block .end) rest (i + 1) n)
-      (regroup (isBlock (blockWordsIn ws i)) (fits q0 t start w count) (areBlocks ws (i + 1) n)
-      (holds q0 t (w .block .end) rest (placesIn ws (i + 1) n)))
+      (regroup (blockRowRight (blockWordsIn ws i)) (fits q0 t start w count) (areBlocks ws (i + 1) n)
+      (chainHolds q0 t (w .block .end) rest (placesIn ws (i + 1) n)))
 
   -- the whole row as the loop has found it
   pub row-tested : (from : Point) (cycles n : ℕ) {r : Bool} → n ≤ 16 → rowRight q0 t ws from cycles 0 (n - 0) ≡ r
       → r ≡ (areBlocks ws 0 (min n 16) && soundWith q0 t from cycles (queueIn ws n))
   row-tested from cycles n h e =
       sym e ∙ ap (rowRight q0 t ws from cycles 0) from-first ∙ row-is from cycles 0 n
-      ∙ ap (λ (k : ℕ). areBlocks ws 0 k && holds q0 t from cycles (placesIn ws 0 k)) (sym all)
+      ∙ ap (λ (k : ℕ). areBlocks ws 0 k && chainHolds q0 t from cycles (placesIn ws 0 k)) (sym all)
       ∙ ap (λ (b : Bool). areBlocks ws 0 (min n 16) && b)
-      (tested q0 t from cycles (queueIn ws n) (queue-sixteen ws n) h (ap (holds q0 t from cycles) (queue-places ws n)))
+      (tested q0 t from cycles (queueIn ws n) (queue-sixteen ws n) h (ap (chainHolds q0 t from cycles) (queue-places ws n)))
     where
       from-first : n - 0 ≡ n
       from-first = omega arith
@@ -308,9 +311,9 @@ module _ (q0 : ℕ) (t : Travel) (ws : List ℤ) where
 
   -- what the code has found out of the i-th
   module _ (start : Point) (count i n : ℕ) (h : i < n) {b : BlockWords} (b-is : b ≡ blockWordsIn ws i) {yes : Bool}
-      (yes-is : yes ≡ isBlock b) where
+      (yes-is : yes ≡ blockRowRight b) where
     step : rowRight q0 t ws start count i (n - i)
-        ≡ ((isBlock (blockWordsIn ws i) && fits q0 t start (waitingIn ws i) count)
+        ≡ ((blockRowRight (blockWordsIn ws i) && fits q0 t start (waitingIn ws i) count)
         && rowRight q0 t ws (waitingIn ws i .block .end) (count - blockCycles start (waitingIn ws i .block)) (i + 1) (n - (i + 1)))
     unfolding rowRight
     step = ap (rowRight q0 t ws start count i) less
@@ -319,7 +322,7 @@ module _ (q0 : ℕ) (t : Travel) (ws : List ℤ) where
         less = omega arith
 
     pub wrong-words : yes ≡ false → rowRight q0 t ws start count i (n - i) ≡ false
-    wrong-words other = step ∙ rw (sym (ap isBlock b-is) ∙ sym yes-is ∙ other)
+    wrong-words other = step ∙ rw (sym (ap blockRowRight b-is) ∙ sym yes-is ∙ other)
 
     module _ (own : yes ≡ true) {w : Waiting} (w-is : w ≡ waitingOf b) {r : TakenOff} (r-is : r ≡ takenOff q0 t start w count) where
       same : w ≡ waitingIn ws i
@@ -332,7 +335,7 @@ module _ (q0 : ℕ) (t : Travel) (ws : List ℤ) where
       fit-is = ap (λ (r : TakenOff). r .right) off ∙ off-right q0 t start (waitingIn ws i) count
 
       pub wrong-block : r .right ≡ false → rowRight q0 t ws start count i (n - i) ≡ false
-      wrong-block other = step ∙ rw (sym fit-is ∙ other, none (isBlock (blockWordsIn ws i)))
+      wrong-block other = step ∙ rw (sym fit-is ∙ other, none (blockRowRight (blockWordsIn ws i)))
 
       pub fitting : r .right ≡ true → fits q0 t start w count ≡ true
       fitting fit = ap (λ (v : Waiting). fits q0 t start v count) same ∙ sym fit-is ∙ fit
@@ -340,7 +343,7 @@ module _ (q0 : ℕ) (t : Travel) (ws : List ℤ) where
       pub counted : r .right ≡ true
           → rowRight q0 t ws start count i (n - i) ≡ rowRight q0 t ws (w .block .end) (r .left) (i + 1) (n - (i + 1))
       counted fit =
-          step ∙ rw (sym (ap isBlock b-is) ∙ sym yes-is ∙ own, sym fit-is ∙ fit)
+          step ∙ rw (sym (ap blockRowRight b-is) ∙ sym yes-is ∙ own, sym fit-is ∙ fit)
           (ap (λ (v : Waiting). rowRight q0 t ws (v .block .end) (count - blockCycles start (waitingIn ws i .block)) (i + 1) (n - (i + 1)))
           (sym same)
           ∙ ap (λ (k : ℕ). rowRight q0 t ws (w .block .end) k (i + 1) (n - (i + 1)))

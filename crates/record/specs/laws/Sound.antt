@@ -14,13 +14,13 @@ use Rattle.work.specs.declared.Work.{Work}
 use Rattle.work.specs.Work.{isNothing, endOf}
 use Rattle.settings.specs.Settings.{capacityOf}
 use Rattle.bench.specs.declared.Bench.{Bench}
-use Rattle.bench.specs.Bench.{soundOf as benchSound}
-use Rattle.machine.specs.Machine.{waitingRight}
-use Rattle.machine.specs.Asked.{workOff}
+use Rattle.bench.specs.computed.Bench.{soundOf as benchSound}
+use Rattle.machine.specs.computed.Machine.{waitingRight}
+use Rattle.machine.specs.computed.Asked.{workOff}
 use Rattle.machine.specs.laws.Right.{wrong-work, none-waiting, idle-waiting, busy-waiting}
-use Rattle.layout.specs.Words.{at, countOf}
-use Rattle.record.specs.Words.{lenIn, queueIn, benchIn, machineIn, soundWords}
-use Rattle.record.specs.Right.{isFront, areBlocks}
+use Rattle.encoding.specs.Words.{at, countOf}
+use Rattle.record.specs.computed.Words.{lenIn, queueIn, benchIn, machineIn, soundWords}
+use Rattle.record.specs.computed.Right.{isFront, areBlocks}
 use Rattle.record.specs.laws.Places.{queue-sixteen}
 use Rattle.record.specs.laws.Right.{none, record-is}
 

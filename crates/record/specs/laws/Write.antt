@@ -19,21 +19,23 @@ use Rattle.line.specs.declared.line.Line.{Line}
 use Rattle.arc.specs.declared.arc.Arc.{Arc}
 use Rattle.work.specs.declared.Work.{Work}
 use Rattle.work.specs.Work.{isNothing, begunOf}
-use Rattle.work.specs.computed.Work.{Loadable}
+use Rattle.work.specs.computed.Asked.{Loadable}
 use Rattle.work.specs.laws.Left.{nothing-is, accepted-loadable}
 use Rattle.bench.specs.declared.Bench.{Bench}
 use Rattle.bench.specs.Bench.{movedOf}
 use Rattle.block.specs.Chain.{chainCycles}
 use Rattle.machine.specs.declared.Machine.{Machine}
-use Rattle.machine.specs.Machine.{soundOf, machineOf, toDo}
+use Rattle.machine.specs.computed.Machine.{soundOf}
+use Rattle.machine.specs.Machine.{machineOf, toDo}
 use Rattle.machine.specs.Calls.{markOf, beginning, nextOf}
 use Rattle.machine.specs.laws.Right.{sound, marked-record}
 use Rattle.machine.specs.laws.Next.{next-busy, next-none, first-accepted, next-first}
-use Rattle.layout.specs.Words.{abi, wordOf, markWord, headOf, workWordsOf}
-use Rattle.record.specs.Words.{figuresOf, frontOf, queueWords, encodeOf, over, waitingIn, placesIn, queueIn, lenIn, benchIn}
-use Rattle.record.specs.Words.{machineIn, isRecord, soundWords}
-use Rattle.record.specs.Write.{Bringing, Follows, Later, setPlace, setWork, shifted, emptied, broughtOf, ticked, idleOf}
-use Rattle.layout.specs.laws.Record.{count-word}
+use Rattle.encoding.specs.Words.{abi, wordOf, markWord, headOf, workWordsOf}
+use Rattle.record.specs.Words.{figuresOf, frontOf, queueWords, encodeOf, over}
+use Rattle.record.specs.computed.Words.{waitingIn, placesIn, queueIn, lenIn, benchIn}
+use Rattle.record.specs.computed.Words.{machineIn, isRecord, soundWords}
+use Rattle.record.specs.computed.Write.{Bringing, SameWork, Later, setPlace, setWork, shifted, emptied, broughtOf, ticked, idleOf}
+use Rattle.encoding.specs.laws.Record.{count-word}
 use Rattle.record.specs.laws.Places.{queue-length}
 use Rattle.record.specs.laws.Record.{record-words}
 
@@ -100,7 +102,7 @@ first-in ws len some = by (min len 16) (omega arith)
 
 -- the words before a block comes into work, or those of one that goes on
 module _ (k : Bench) (root left len : ℕ) (rest : List ℤ) (p : Point) (r next : ℕ) where
-  gone-on : (v w : Work) → k .work ≡ v → Follows v w → isNothing w ≡ false
+  gone-on : (v w : Work) → k .work ≡ v → SameWork v w → isNothing w ≡ false
       → ticked (whole k root left len rest) p r next w ≡ whole (movedOf k p r w) root next len rest
   unfolding movedOf
   gone-on v Work.Nothing e f busy = absurd (subst T busy tt)

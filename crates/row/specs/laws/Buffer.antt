@@ -10,7 +10,7 @@ use mir.Syntax.{w64}
 use mir.Val.{Fits, SFits}
 use Rattle.row.specs.declared.lines.Kind.{Kind}
 use Rattle.row.specs.Lines.{headerLine, blockLine, totalLine, refusedLine}
-use Rattle.row.specs.Buffer.{lineRoom, placed}
+use Rattle.row.specs.computed.Buffer.{lineRoom, placed}
 use Rattle.row.specs.laws.Lines.{block-length, total-length, refused-length}
 
 -- ---- there is room for every line
@@ -23,7 +23,8 @@ pub block-short : (block textLine : ℕ) (kind : Kind) (cycles : ℕ) (x y : ℤ
     → length (blockLine block textLine kind cycles x y bits) ≤ lineRoom
 block-short block textLine kind cycles x y bits b l c p q w = omega (arith, block-length block textLine kind cycles x y bits b l c p q w)
 
-pub total-short : (blocks cycles ticks : ℕ) → Fits w64 blocks → Fits w64 cycles → Fits w64 ticks → length (totalLine blocks cycles ticks) ≤ lineRoom
+pub total-short : (blocks cycles ticks : ℕ) → Fits w64 blocks → Fits w64 cycles → Fits w64 ticks
+    → length (totalLine blocks cycles ticks) ≤ lineRoom
 total-short blocks cycles ticks b c t = omega (arith, total-length blocks cycles ticks b c t)
 
 pub refused-short : (textLine number : ℕ) → Fits w64 textLine → Fits w64 number → length (refusedLine textLine number) ≤ lineRoom
@@ -54,7 +55,8 @@ module _ (line old : List ℕ) (at : ℕ) (fits : at + length line ≤ length ol
   unfolding placed
   placed-join more =
       let skip : drop (at + length line + length more) (placed line old at) ≡ drop (at + length line + length more) old =
-      sym (drop-drop (length more) (at + length line) (placed line old at)) ∙ ap (drop (length more)) placed-rest ∙ drop-drop (length more) (at + length line) old in
+      sym (drop-drop (length more) (at + length line) (placed line old at)) ∙ ap (drop (length more)) placed-rest
+      ∙ drop-drop (length more) (at + length line) old in
       let long : at + length (line ++ more) ≡ at + length line + length more = simp length-append (omega arith) in
       rw (long, ← append-assoc (take at old) line more)
       (ap (λ (s : List ℕ). s ++ more ++ drop (at + length line + length more) (placed line old at)) placed-front

@@ -12,7 +12,7 @@ use mir.Syntax.{w64}
 use mir.Val.{Fits, SFits}
 use borrow.Author.Tests.{lt-ltb, le-ltb, ltb-true, ltb-false}
 use Rattle.whole.specs.declared.sign.SignMagnitude.{SignMagnitude}
-use Rattle.whole.specs.Sign.{partOf}
+use Rattle.whole.specs.computed.Sign.{partOf}
 use Rattle.row.specs.Decimal.{digit, digitsIn, decimal, signedDecimal}
 
 -- Induction on the digits: what holds of one digit, and of n where it holds of n / 10, holds of every number.

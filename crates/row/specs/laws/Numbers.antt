@@ -10,7 +10,7 @@ use borrow.Author.Tests.{le-leb, lt-leb}
 use Rattle.row.specs.declared.lines.Place.{Place}
 use Rattle.row.specs.declared.lines.Place.the-variants.{Next, NoRoom}
 use Rattle.row.specs.Decimal.{signedDecimal}
-use Rattle.row.specs.Numbers.{numbersLine, bufferWith, placeWith}
+use Rattle.row.specs.computed.Numbers.{numbersLine, bufferWith, placeWith}
 use Rattle.row.specs.laws.Puts.{Puts, _then_, at-most, puts-none}
 
 abbrev pub PutsNumbers : List ℤ → (old : List ℕ) (at : ℕ) (new : List ℕ) (next : ℕ) → Type 0

@@ -10,7 +10,7 @@ use lib.Seq.{paste, paste-zero, take-length, length-take-le, append-snoc}
 use lib.Seq.{set-split, set-append-left, take-set-le, take-set-lt, take-suc-set, drop-set-lt}
 use borrow.Author.Tests.{le-leb, lt-leb}
 use Rattle.row.specs.declared.lines.Place.the-variants.{Next, NoRoom}
-use Rattle.row.specs.Buffer.{lineRoom, placed, bufferAfter, placeAfter}
+use Rattle.row.specs.computed.Buffer.{lineRoom, placed, bufferAfter, placeAfter}
 use Rattle.row.specs.laws.Buffer.{placed-length, placed-join}
 
 -- new is old with the line at a place; the next place is after the line, at most k further on, and within the buffer
@@ -83,7 +83,8 @@ puts-over {line} {old} at b some p = record {
 }
 
 -- a text, once all of it is copied
-pub puts-text : (s old new : List ℕ) (at i : ℕ) → at + length s ≤ length old → i ≡ length s → new ≡ paste old at s i → Puts s (length s) old at new (at + length s)
+pub puts-text : (s old new : List ℕ) (at i : ℕ) → at + length s ≤ length old → i ≡ length s → new ≡ paste old at s i
+    → Puts s (length s) old at new (at + length s)
 unfolding placed
 puts-text s old new at i h e copied =
     let same : new ≡ placed s old at = copied ∙ rw (e, take-length) in

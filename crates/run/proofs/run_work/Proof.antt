@@ -16,13 +16,15 @@ enum-known-work : tie.Need-enum-known-work
 enum-known-work c = search needs
 
 run-line-requires : tie.Need-run-line-requires
-run-line-requires c κs = let w = c .before .before in (rw (w .work .given .1) at (w .before .before .before .before .pre), omega (arith, w .before .before .least .ensures))
+run-line-requires c κs = let w = c .before .before in
+    (rw (w .work .given .1) at (w .before .before .before .before .pre), omega (arith, w .before .before .least .ensures))
 
 enum-known-work-2 : tie.Need-enum-known-work-2
 enum-known-work-2 c = search needs
 
 run-arc-requires : tie.Need-run-arc-requires
-run-arc-requires c κs = let w = c .before .before in (rw (w .work2 .given .1) at (w .before .before .before .before .pre), omega (arith, w .before .before .least .ensures))
+run-arc-requires c κs = let w = c .before .before in
+    (rw (w .work2 .given .1) at (w .before .before .before .before .pre), omega (arith, w .before .before .least .ensures))
 
 returns : tie.Need-returns
 returns c = absurd (subst T (rw (c .enum-told .given .1) at (c .before .before .before .before .pre .busy)) tt)

@@ -12,19 +12,20 @@ use Rattle.circle.specs.computed.Charge.{moveCharge}
 use Rattle.arc.specs.declared.arc.Arc.{Arc}
 use Rattle.arc.specs.declared.stepper.Tracer.{Tracer}
 use Rattle.arc.specs.declared.stepper.Traced.{Traced}
-use Rattle.arc.specs.Arc.{OnArc, arcStepped}
-use Rattle.arc.specs.Stepper.{arcTracer, tracedOf, tracerAt, Tracing}
-use Rattle.arc.specs.Charge.{arcCharge}
+use Rattle.arc.specs.computed.Arc.{StandsOnArc, arcStepped}
+use Rattle.arc.specs.computed.Stepper.{arcTracer, tracedOf, tracerAt, Tracing}
+use Rattle.arc.specs.computed.Charge.{arcCharge}
 use Rattle.arc.specs.laws.Step.{Circles, circles, next-circles}
 use Rattle.arc.specs.laws.Charge.{tracer-charge}
 use Rattle.arc.specs.laws.Stepper.{tracing, tracer-next, tracer-at}
 use Rattle.work.specs.declared.Work.{Work}
 use Rattle.work.specs.declared.Cycle.{Cycle}
-use Rattle.work.specs.Work.{isNothing, following, arcCycle, cycleOf, dueOf}
+use Rattle.work.specs.Work.{isNothing, following}
+use Rattle.work.specs.computed.Work.{arcCycle, cycleOf, dueOf}
 use Rattle.work.specs.laws.Cycle.{cycleWith, arc-cycle, arc-codes}
 use Rattle.run.specs.declared.gap.Gap.{Gap}
-use Rattle.run.specs.Run.{Strip}
-use Rattle.run.specs.Gap.{nextGap, remainderAt, clearedOf}
+use Rattle.run.specs.computed.Run.{Strip}
+use Rattle.run.specs.computed.Gap.{nextGap, remainderAt, clearedOf}
 use Rattle.run.specs.laws.Going.{Answer}
 use Rattle.run.specs.laws.Sound.{run-ready}
 use Rattle.run.specs.laws.Cycling.{Cycling, count-few, goes-on, ends-now, cycling-on, cycling-end, cycling-out}
@@ -39,7 +40,8 @@ arc-ended at a e = by (equalPoint (arcStepped a at .at) (a .end)) ∙ e
     by false = refl
 
 -- the cycle with its byte
-cycle-is : (a : Arc) (at : Point) {byte : ℕ} {ended : Bool} → isNothing (cycleOf at (Work.Arc a) .work) ≡ ended → byte ≡ cycleByte (arcStepped a at .pulses) ended
+cycle-is : (a : Arc) (at : Point) {byte : ℕ} {ended : Bool} → isNothing (cycleOf at (Work.Arc a) .work) ≡ ended
+    → byte ≡ cycleByte (arcStepped a at .pulses) ended
     → cycleWith (arcStepped a at .at) byte ended (Work.Arc a) ≡ cycleOf at (Work.Arc a)
 unfolding cycleOf
 cycle-is a at end byte = arc-cycle at a refl (arc-ended at a end) byte
@@ -50,7 +52,7 @@ StandsOn a t = t ≡ arcTracer a (tracerAt (a .centre) t)
 
 module _ {q0 most : ℕ} {all : Strip} {out₀ out : List ℕ} {last n c : ℕ} (a : Arc) (tracer : Tracer) {g : Gap}
     (s : Cycling q0 (a .feed) most all out₀ out last n 0 c (tracerAt (a .centre) tracer) (Work.Arc a) g) (is : StandsOn a tracer) where
-  on : OnArc a (tracerAt (a .centre) tracer)
+  on : StandsOnArc a (tracerAt (a .centre) tracer)
   on = run-ready (s .work) .0
 
   pub arc-asks : Near 2000000 (a .centre) × Tracing tracer
@@ -78,7 +80,11 @@ module _ {q0 most : ℕ} {all : Strip} {out₀ out : List ℕ} {last n c : ℕ} 
   arc-out m h clear = let since : c - 0 ≡ c = omega arith in rw since at (cycling-out s m h clear)
 
   module _ {t : Traced} (e : t ≡ tracedOf tracer) where
-    next-is : t ≡ record { tracer = arcTracer a (arcStepped a (tracerAt (a .centre) tracer) .at); code = bothCodes (arcStepped a (tracerAt (a .centre) tracer) .pulses) }
+    next-is : t ≡ record {
+      tracer = arcTracer a (arcStepped a (tracerAt (a .centre) tracer) .at);
+      code =
+          bothCodes (arcStepped a (tracerAt (a .centre) tracer) .pulses);
+    }
     next-is = e ∙ ap tracedOf is ∙ tracer-next a (tracerAt (a .centre) tracer) (circles on)
 
     code-is : t .code ≡ bothCodes (arcStepped a (tracerAt (a .centre) tracer) .pulses)
@@ -97,7 +103,8 @@ module _ {q0 most : ℕ} {all : Strip} {out₀ out : List ℕ} {last n c : ℕ} 
     next-at : tracerAt (a .centre) (t .tracer) ≡ arcStepped a (tracerAt (a .centre) tracer) .at
     next-at = ap (tracerAt (a .centre)) tracer-is ∙ tracer-at a (arcStepped a (tracerAt (a .centre) tracer) .at) next-on
 
-    byte-is : {byte : ℕ} (ended : Bool) → byte ≡ withMarks (t .code) ended → byte ≡ cycleByte (arcStepped a (tracerAt (a .centre) tracer) .pulses) ended
+    byte-is : {byte : ℕ} (ended : Bool) → byte ≡ withMarks (t .code) ended
+        → byte ≡ cycleByte (arcStepped a (tracerAt (a .centre) tracer) .pulses) ended
     byte-is ended b = b ∙ ap (λ (codes : ℕ). withMarks codes ended) code-is
 
     -- the tracer's move tells the next charge

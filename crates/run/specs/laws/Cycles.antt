@@ -11,22 +11,25 @@ use Rattle.plane.specs.declared.travel.Travel.{Travel}
 use Rattle.plane.specs.Point.{equalPoint}
 use Rattle.plane.specs.laws.Point.{equal-point, equal-itself}
 use Rattle.line.specs.declared.line.Line.{Line}
-use Rattle.line.specs.Line.{pointOf, steppedOf}
+use Rattle.line.specs.Line.{linePoint}
+use Rattle.line.specs.computed.Line.{steppedOf}
 use Rattle.line.specs.laws.Cycles.{cycles-bound}
 use Rattle.line.specs.laws.Points.{point-end}
 use Rattle.line.specs.laws.Work.{Drawn, some-cycle}
 use Rattle.arc.specs.declared.arc.Arc.{Arc}
-use Rattle.arc.specs.Arc.{arcAfter, arcCycles, arcStepped}
+use Rattle.arc.specs.computed.Arc.{arcAfter, arcCycles, arcStepped}
 use Rattle.arc.specs.laws.Step.{Circles, cycles-bounds, last-cycle, more-cycles, next-circles}
 use Rattle.arc.specs.laws.Charge.{charges-most, charges-least, last-charge, more-charges}
-use Rattle.divider.specs.Divider.{lastTick}
+use Rattle.divider.specs.computed.Divider.{lastTick}
 use Rattle.divider.specs.laws.Last.{last-tick}
 use Rattle.work.specs.declared.Work.{Work}
-use Rattle.work.specs.Work.{isNothing, workSound, following, lineCycle, arcCycle, cycleOf, feedOf, endOf}
-use Rattle.work.specs.Work.{cyclesLeft, chargeOf, dueOf, addedOf, chargesLeft}
+use Rattle.work.specs.Work.{isNothing, following, feedOf, endOf}
+use Rattle.work.specs.computed.Work.{workSound, lineCycle, arcCycle, cycleOf}
+use Rattle.work.specs.Work.{cyclesLeft, addedOf, chargesLeft}
+use Rattle.work.specs.computed.Work.{chargeOf, dueOf}
 use Rattle.work.specs.laws.Sound.{Feed, line-work, arc-work}
 use Rattle.work.specs.laws.Charge.{due-range}
-use Rattle.run.specs.Run.{SoundIn}
+use Rattle.run.specs.computed.Run.{SoundIn}
 
 line-counts : (l : Line) → Drawn l → (ended : Bool) → eqb (l .done + 1) (l .cycles) ≡ ended
     → l .cycles - l .done ≡ suc (cyclesLeft (steppedOf l .at) (following ended (Work.Line (steppedOf l .line))))
@@ -84,7 +87,7 @@ pub record PaysOff (at : Point) (w : Work) (there : Point) (rest : Work) : Type 
   pub none : cyclesLeft there rest ≡ 0 → chargesLeft there rest ≡ 0
 
 line-paid : (l : Line) → Drawn l → (ended : Bool) → eqb (l .done + 1) (l .cycles) ≡ ended
-    → PaysOff (pointOf (l .start) (l .end) (l .done)) (Work.Line l) (steppedOf l .at) (following ended (Work.Line (steppedOf l .line)))
+    → PaysOff (linePoint (l .start) (l .end) (l .done)) (Work.Line l) (steppedOf l .at) (following ended (Work.Line (steppedOf l .line)))
 unfolding steppedOf
 line-paid l d true e = record { charges = omega (arith, d .due, line-counts l d true e); least = omega arith; none = λ z. omega arith }
 line-paid l d false e = record { charges = omega (arith, d .due, line-counts l d false e); least = omega arith; none = λ z. omega arith }
@@ -117,7 +120,8 @@ unfolding cycleOf lineCycle arcCycle steppedOf
 same-feed at Work.Nothing more = refl
 same-feed at (Work.Line l) more = by (eqb (l .done + 1) (l .cycles)) more
   where
-    by : (ended : Bool) → isNothing (following ended (Work.Line (steppedOf l .line))) ≡ false → feedOf (following ended (Work.Line (steppedOf l .line))) ≡ l .feed
+    by : (ended : Bool) → isNothing (following ended (Work.Line (steppedOf l .line))) ≡ false
+        → feedOf (following ended (Work.Line (steppedOf l .line))) ≡ l .feed
     by true m = absurd (subst T m tt)
     by false m = refl
 same-feed at (Work.Arc a) more = by (equalPoint (arcStepped a at .at) (a .end)) more
@@ -129,10 +133,12 @@ same-feed at (Work.Arc a) more = by (equalPoint (arcStepped a at .at) (a .end)) 
 line-ends : (l : Line) → Drawn l → (ended : Bool) → eqb (l .done + 1) (l .cycles) ≡ ended
     → endOf (steppedOf l .at) (following ended (Work.Line (steppedOf l .line))) ≡ l .end
 unfolding steppedOf
-line-ends l d true e = ap (pointOf (l .start) (l .end)) (eqb-true (l .done + 1) (l .cycles) e ∙ d .own) ∙ point-end (l .start) (l .end) (some-cycle l d)
+line-ends l d true e = ap (linePoint (l .start) (l .end)) (eqb-true (l .done + 1) (l .cycles) e ∙ d .own)
+    ∙ point-end (l .start) (l .end) (some-cycle l d)
 line-ends l d false e = refl
 
-arc-ends : (a : Arc) (at : Point) (ended : Bool) → equalPoint (arcAfter a at 1) (a .end) ≡ ended → endOf (arcAfter a at 1) (following ended (Work.Arc a)) ≡ a .end
+arc-ends : (a : Arc) (at : Point) (ended : Bool) → equalPoint (arcAfter a at 1) (a .end) ≡ ended
+    → endOf (arcAfter a at 1) (following ended (Work.Arc a)) ≡ a .end
 arc-ends a at true e = equal-point _ _ e
 arc-ends a at false e = refl
 

@@ -7,15 +7,16 @@ use native.Mathlib.Nat.{mul-le-mul-left}
 use native.Mathlib.Omega.{arith}
 use lib.ListN.{length, set}
 use Rattle.plane.specs.declared.point.Point.{Point}
-use Rattle.divider.specs.Divider.{lastTick}
+use Rattle.divider.specs.computed.Divider.{lastTick}
 use Rattle.work.specs.declared.Work.{Work}
 use Rattle.work.specs.declared.Cycle.{Cycle}
 use Rattle.work.specs.laws.Charge.{due-range}
 use Rattle.work.specs.laws.Left.{nothing-is}
-use Rattle.work.specs.Work.{isNothing, cycleOf, feedOf, cyclesLeft, chargesLeft, dueOf, addedOf, endOf, advanceOf}
+use Rattle.work.specs.Work.{isNothing, feedOf, cyclesLeft, chargesLeft, addedOf, endOf}
+use Rattle.work.specs.computed.Work.{cycleOf, dueOf, advanceOf}
 use Rattle.run.specs.declared.gap.Gap.{Gap}
-use Rattle.run.specs.Run.{Strip, stripOf, SoundIn}
-use Rattle.run.specs.Gap.{gapOf, later, nextGap, remainderAt, Before, clearedOf}
+use Rattle.run.specs.computed.Run.{Strip, stripOf, SoundIn}
+use Rattle.run.specs.computed.Gap.{gapOf, later, nextGap, remainderAt, Before, clearedOf}
 use Rattle.run.specs.laws.Going.{Going, Answer, going-start, going-on, going-end, going-out}
 use Rattle.run.specs.laws.Sound.{waiting, still-sound}
 use Rattle.run.specs.laws.Gap.{DueGap, gap-due, gap-sound}
@@ -41,7 +42,8 @@ pub record Cycling (q0 f most : ℕ) (all : Strip) (out₀ out : List ℕ) (last
   pub counted : cyclesOver all ≡ c - from + cyclesLeft at w
   pub countable : cyclesOver all ≤ 8000000
 
-pub cycling-start : {q0 : ℕ} {at : Point} {r : ℕ} {w : Work} {last n : ℕ} {g : Gap} (most : ℕ) (old : List ℕ) {out : List ℕ} → SoundIn q0 at r w → most ≤ length old
+pub cycling-start : {q0 : ℕ} {at : Point} {r : ℕ} {w : Work} {last n : ℕ} {g : Gap} (most : ℕ) (old : List ℕ) {out : List ℕ}
+    → SoundIn q0 at r w → most ≤ length old
     → last ≡ min most (lastTick (chargesLeft at w * q0) (addedOf w) r (cyclesLeft at w) - 1)
     → n ≡ min most (lastTick (chargesLeft at w * q0) (addedOf w) r (cyclesLeft at w))
     → out ≡ clearedOf n old → g ≡ gapOf (dueOf q0 at w) (addedOf w) r
@@ -65,7 +67,8 @@ cycling-start {q0} {at} {r} {w} {last} {n} {g} most old {out} i room before e cl
     }
 
 -- the buffer keeps its length
-pub cleared-long : (most : ℕ) (old : List ℕ) {out : List ℕ} {n : ℕ} → most ≤ length old → n ≤ most → out ≡ clearedOf n old → length out ≡ length old
+pub cleared-long : (most : ℕ) (old : List ℕ) {out : List ℕ} {n : ℕ} → most ≤ length old → n ≤ most → out ≡ clearedOf n old
+    → length out ≡ length old
 cleared-long most old room short clear = ap length clear ∙ cleared-length _ old (omega arith)
 
 pub some-left : (at : Point) (w : Work) → 1 ≤ cyclesLeft at w → isNothing w ≡ false
@@ -156,7 +159,8 @@ module _ {q0 f most : ℕ} {all : Strip} {out₀ out : List ℕ} {last n from c 
 
   -- the tick that ends it, where there is one
   module _ (m : last < n) (h : last ≤ g .ticks) where
-    last-tick : (s .done + ahead .ticks ≡ last) × (s .done + ahead .ticks + 1 ≡ n) × (cyclesLeft (cycleOf at w .at) (cycleOf at w .work) ≡ 0)
+    last-tick : (s .done + ahead .ticks ≡ last) × (s .done + ahead .ticks + 1 ≡ n)
+        × (cyclesLeft (cycleOf at w .at) (cycleOf at w .work) ≡ 0)
     last-tick = left-end (added-some (s .work)) due (each-pays (s .work)) (none-pays (s .work)) parted m (omega (arith, ticks-are))
 
     pub ends-now : isNothing (cycleOf at w .work) ≡ true

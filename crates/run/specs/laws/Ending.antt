@@ -9,23 +9,23 @@ use borrow.Author.Tests.{ltb-true}
 use Rattle.whole.specs.laws.Test.{both}
 use Rattle.plane.specs.declared.point.Point.{Point}
 use Rattle.arc.specs.declared.arc.Arc.{Arc}
-use Rattle.arc.specs.Charge.{arcCharges}
+use Rattle.arc.specs.computed.Charge.{arcCharges}
 use Rattle.arc.specs.laws.Step.{circles}
 use Rattle.arc.specs.laws.Way.{way-left}
 use Rattle.arc.specs.laws.Charge.{charges-least}
-use Rattle.divider.specs.Divider.{lastTick}
+use Rattle.divider.specs.computed.Divider.{lastTick}
 use Rattle.divider.specs.laws.Last.{last-tick}
 use Rattle.work.specs.declared.Work.{Work}
 use Rattle.work.specs.Work.{addedOf, cyclesLeft, chargesLeft}
-use Rattle.run.specs.Run.{SoundIn}
-use Rattle.run.specs.Ending.{Same, shortOf, longerOf}
+use Rattle.run.specs.computed.Run.{SoundIn}
+use Rattle.run.specs.computed.Ending.{Same, fallsShort, longerOf}
 use Rattle.run.specs.laws.Cycles.{in-work, added-some, rest-most}
 use Rattle.run.specs.laws.Sound.{run-ready}
 
 -- `due` is no more than what is left
 pub short-same : {q0 : ℕ} {at : Point} {r : ℕ} {w : Work} → SoundIn q0 at r w → (most due : ℕ) → due ≤ chargesLeft at w * q0
-    → shortOf due (addedOf w) r most ≡ true → Same most (most + 1) (lastTick (chargesLeft at w * q0) (addedOf w) r (cyclesLeft at w))
-unfolding shortOf
+    → fallsShort due (addedOf w) r most ≡ true → Same most (most + 1) (lastTick (chargesLeft at w * q0) (addedOf w) r (cyclesLeft at w))
+unfolding fallsShort
 short-same {q0} {at} {r} {w} i most due few t =
     let short = ltb-true (r + most * addedOf w) due (both {a = ltb most 10000000} t .1) in
     let D = chargesLeft at w * q0 in
@@ -39,8 +39,8 @@ pub short-asks : {q0 : ℕ} {at : Point} {r : ℕ} {w : Work} → SoundIn q0 at 
 short-asks i = (omega (arith, in-work i .feed .most, i .capacity), rest-most i)
 
 -- and so its ticks are few
-pub short-few : (due a r most : ℕ) → shortOf due a r most ≡ true → most < 10000000
-unfolding shortOf
+pub short-few : (due a r most : ℕ) → fallsShort due a r most ≡ true → most < 10000000
+unfolding fallsShort
 short-few due a r most t = ltb-true most 10000000 (both t .0)
 
 -- the longer way of an arc is charged no more than what is left of it

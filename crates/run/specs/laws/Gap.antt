@@ -13,7 +13,7 @@ use Rattle.divider.specs.laws.Last.{Due}
 use Rattle.work.specs.laws.Sound.{Feed}
 use Rattle.run.specs.declared.gap.Gap.{Gap}
 use Rattle.run.specs.declared.gap.Divided.{Divided}
-use Rattle.run.specs.Gap.{gapOf, dividedOf, later, nextGap, ifLess, byMove}
+use Rattle.run.specs.computed.Gap.{gapOf, dividedOf, later, nextGap, ifLess, byMove}
 
 -- the gap is the divider's
 abbrev pub DueGap : (due a r : ℕ) → Gap → Type 0

@@ -11,9 +11,10 @@ use Rattle.plane.specs.declared.point.Point.{Point}
 use Rattle.plane.specs.Byte.{cyclesMarked}
 use Rattle.work.specs.declared.Work.{Work}
 use Rattle.work.specs.declared.Advance.{Advance}
-use Rattle.work.specs.Work.{isNothing, cyclesLeft, advanceOf}
+use Rattle.work.specs.Work.{isNothing, cyclesLeft}
+use Rattle.work.specs.computed.Work.{advanceOf}
 use Rattle.run.specs.declared.Ran.{Ran}
-use Rattle.run.specs.Run.{Strip, inFront, stripOf, ranOf, written}
+use Rattle.run.specs.computed.Run.{Strip, inFront, stripOf, ranOf, written}
 use Rattle.run.specs.laws.Keep.{cyclesOver}
 
 -- some bytes in front of a strip
@@ -28,7 +29,8 @@ pub record Going (q0 k : ℕ) (all : Strip) (out₀ out : List ℕ) (n : ℕ) (a
   pub rest : drop n out ≡ drop n out₀
   pub so-far : all ≡ after (take n out) (stripOf q0 (k - n) at r w)
 
-pub going-start : (q0 k : ℕ) (out : List ℕ) (at : Point) (r : ℕ) (w : Work) → k ≤ length out → Going q0 k (stripOf q0 k at r w) out out 0 at r w
+pub going-start : (q0 k : ℕ) (out : List ℕ) (at : Point) (r : ℕ) (w : Work) → k ≤ length out
+    → Going q0 k (stripOf q0 k at r w) out out 0 at r w
 unfolding after
 going-start q0 k out at r w h =
     record { here = omega arith; room = h; long = refl; rest = refl; so-far = ap (λ (j : ℕ). stripOf q0 j at r w) (omega arith) }
@@ -39,7 +41,8 @@ pub record Answer (all : Strip) (out₀ out : List ℕ) (ran : Ran) : Type 0 whe
   pub buffer : out ≡ written (all .bytes) out₀
 
 -- the answer of a run from a point, over its contract
-pub answers : (all : Point → Strip) {at p : Point} {old out : List ℕ} {ran : Ran} → at ≡ p → Answer (all p) old out ran → (ran ≡ ranOf (all at)) × (out ≡ written (all at .bytes) old)
+pub answers : (all : Point → Strip) {at p : Point} {old out : List ℕ} {ran : Ran} → at ≡ p → Answer (all p) old out ran
+    → (ran ≡ ranOf (all at)) × (out ≡ written (all at .bytes) old)
 answers all same a = rw same (a .report, a .buffer)
 
 -- one byte more

@@ -10,16 +10,18 @@ use lib.Seq.{take-add, drop-drop, drop-at}
 use Rattle.plane.specs.declared.point.Point.{Point}
 use Rattle.work.specs.declared.Work.{Work}
 use Rattle.work.specs.declared.Cycle.{Cycle}
-use Rattle.work.specs.Work.{isNothing, cycleOf, dueOf, addedOf, advanceOf}
+use Rattle.work.specs.Work.{isNothing, addedOf}
+use Rattle.work.specs.computed.Work.{cycleOf, dueOf, advanceOf}
 use Rattle.run.specs.declared.Ran.{Ran}
-use Rattle.run.specs.Run.{Strip, stripOf, written}
-use Rattle.run.specs.Gap.{clearedOf}
+use Rattle.run.specs.computed.Run.{Strip, stripOf, written}
+use Rattle.run.specs.computed.Gap.{clearedOf}
 use Rattle.run.specs.laws.Going.{after, Going, Answer}
 
 after-after : (xs ys : List ℕ) (s : Strip) → after xs (after ys s) ≡ after (xs ++ ys) s
 unfolding after
 after-after xs ys s =
-    ap (λ (bs : List ℕ). record { bytes = bs; at = s .at; remainder = s .remainder; work = s .work; ended = s .ended }) (sym (append-assoc xs ys (s .bytes)))
+    ap (λ (bs : List ℕ). record { bytes = bs; at = s .at; remainder = s .remainder; work = s .work; ended = s .ended })
+    (sym (append-assoc xs ys (s .bytes)))
 
 pub idle-tick : (q0 : ℕ) (at : Point) (r : ℕ) (w : Work) → r + addedOf w < dueOf q0 at w
     → advanceOf q0 at r w ≡ record { at = at; remainder = r + addedOf w; byte = 0; work = w }
@@ -97,7 +99,8 @@ going-idle {q0} {k} {all} {out₀} {out} {n} {done} {at} {r} {w} clear i busy sh
         ∙ ap (λ (l : List ℕ). take done out ++ l) (zeros done g n (drop n out₀) here)
 
 -- a run that wrote as many bytes as were cleared wrote over the old buffer
-pub answer-old : {all : Strip} {old out₀ out : List ℕ} {n : ℕ} {ran : Ran} → out₀ ≡ clearedOf n old → Answer all out₀ out ran → ran .ticks ≡ n → Answer all old out ran
+pub answer-old : {all : Strip} {old out₀ out : List ℕ} {n : ℕ} {ran : Ran} → out₀ ≡ clearedOf n old → Answer all out₀ out ran
+    → ran .ticks ≡ n → Answer all old out ran
 unfolding clearedOf written
 answer-old {all} {old} {out₀} {out} {n} clear a e =
     record {

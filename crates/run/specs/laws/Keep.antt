@@ -11,15 +11,18 @@ use Rattle.plane.specs.Point.{equalPoint}
 use Rattle.plane.specs.Byte.{cycleMark, cyclesMarked}
 use Rattle.plane.specs.laws.Byte.{told}
 use Rattle.plane.specs.laws.Travel.{inside}
-use Rattle.line.specs.Line.{pointOf, steppedOf}
-use Rattle.arc.specs.Arc.{arcAfter, arcStepped}
+use Rattle.line.specs.Line.{linePoint}
+use Rattle.line.specs.computed.Line.{steppedOf}
+use Rattle.arc.specs.computed.Arc.{arcAfter, arcStepped}
 use Rattle.divider.specs.Divider.{fedOf}
 use Rattle.work.specs.declared.Work.{Work}
-use Rattle.work.specs.Work.{isNothing, workSound, following, lineCycle, arcCycle, cycleOf}
-use Rattle.work.specs.Work.{cyclesLeft, endOf, dueOf, addedOf, advanceBy, advanceOf}
-use Rattle.work.specs.Rest.{rootIn}
+use Rattle.work.specs.Work.{isNothing, following}
+use Rattle.work.specs.computed.Work.{workSound, lineCycle, arcCycle, cycleOf}
+use Rattle.work.specs.Work.{cyclesLeft, endOf, addedOf}
+use Rattle.work.specs.computed.Work.{dueOf, advanceBy, advanceOf}
+use Rattle.work.specs.Work.{rootIn}
 use Rattle.work.specs.laws.Keep.{SoundAt, keeps-sound}
-use Rattle.run.specs.Run.{Strip, inFront, stripOf, SoundIn}
+use Rattle.run.specs.computed.Run.{Strip, inFront, stripOf, SoundIn}
 use Rattle.run.specs.laws.Cycles.{counts, ends}
 
 -- ---- a cycle
@@ -28,7 +31,7 @@ pub marked : (at : Point) (w : Work) → isNothing w ≡ false → cycleMark (cy
 unfolding cycleOf lineCycle arcCycle steppedOf arcStepped
 marked at Work.Nothing busy = absurd (subst T busy tt)
 marked at (Work.Line l) busy =
-    let on = pointOf (l .start) (l .end) in told (on (l .done)) (on (l .done + 1)) (eqb (l .done + 1) (l .cycles)) .cycle
+    let on = linePoint (l .start) (l .end) in told (on (l .done)) (on (l .done + 1)) (eqb (l .done + 1) (l .cycles)) .cycle
 marked at (Work.Arc a) busy = told at (arcAfter a at 1) (equalPoint (arcAfter a at 1) (a .end)) .cycle
 
 -- so it is 16 or more

@@ -3,8 +3,8 @@ use mathlib.Core.Path.{_≡_}
 use Prim.Native.Nat.{ℕ, zero, suc, _+_, _-_, _*_, _≤_, _<_, min}
 use native.Mathlib.Nat.{mul-le-mul-right}
 use native.Mathlib.Omega.{arith}
-use Rattle.divider.specs.Divider.{lastTick}
-use Rattle.divider.specs.laws.Last.{Ends, unique, last-tick, end-one, end-more}
+use Rattle.divider.specs.computed.Divider.{lastTick}
+use Rattle.divider.specs.laws.Last.{EndsAt, unique, last-tick, end-one, end-more}
 use Rattle.run.specs.declared.gap.Gap.{Gap}
 use Rattle.run.specs.laws.Gap.{DueGap}
 
@@ -12,7 +12,7 @@ use Rattle.run.specs.laws.Gap.{DueGap}
 -- ticks on, before the tick `last` none ends the block, and where n is one more its last tick does
 pub record Left (a most last n done due k r : ℕ) : Type 0 where
   pub end : ℕ
-  pub ends : Ends due a r k end
+  pub ends : EndsAt due a r k end
   pub here : done ≤ last
   pub short : n ≤ most
   pub low : last ≤ n
@@ -23,7 +23,7 @@ pub left-start : (a most due r k : ℕ) → 1 ≤ a → 1 ≤ k
     → Left a most (min most (lastTick due a r k - 1)) (min most (lastTick due a r k)) 0 due k r
 left-start a most due r k some cycles = by (lastTick due a r k) (last-tick due a r k some)
   where
-    by : (t : ℕ) → Ends due a r k t → Left a most (min most (t - 1)) (min most t) 0 due k r
+    by : (t : ℕ) → EndsAt due a r k t → Left a most (min most (t - 1)) (min most t) 0 due k r
     by t e =
         record { end = t; ends = e; here = omega arith; short = omega arith; low = omega arith; is-last = omega arith; is-n = omega arith }
 
@@ -33,7 +33,7 @@ module _ {a most last n done d D k r : ℕ} {g : Gap} (some : 1 ≤ a) (x : DueG
   one : k ≡ 0 → l .end ≡ g .ticks + 1
   one z =
       let e = l .ends in
-      let alone : Ends d a r 1 (l .end) = record {
+      let alone : EndsAt d a r 1 (l .end) = record {
         enough = omega (arith, e .enough);
         reached = omega (arith, e .reached, none z);
         first = λ s h j. e .first s (omega arith) (omega (arith, none z));

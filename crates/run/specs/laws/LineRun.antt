@@ -12,17 +12,19 @@ use Rattle.plane.specs.Byte.{cycleByte}
 use Rattle.line.specs.declared.line.Line.{Line}
 use Rattle.line.specs.declared.stepper.Stepper.{Stepper}
 use Rattle.line.specs.declared.stepper.Advanced.{Advanced}
-use Rattle.line.specs.Line.{pointOf, drawnOf, steppedOf}
-use Rattle.line.specs.Stepper.{stepperOf, advancedOf, Fitting}
+use Rattle.line.specs.Line.{linePoint}
+use Rattle.line.specs.computed.Line.{drawnOf, steppedOf}
+use Rattle.line.specs.computed.Stepper.{stepperOf, advancedOf, Fitting}
 use Rattle.line.specs.laws.Stepper.{advance-next, stepper-fits}
 use Rattle.line.specs.laws.Work.{LineAt, line-at, drawn-test, axis-x}
 use Rattle.work.specs.declared.Work.{Work}
 use Rattle.work.specs.declared.Cycle.{Cycle}
-use Rattle.work.specs.Work.{isNothing, following, lineCycle, cycleOf}
+use Rattle.work.specs.Work.{isNothing, following}
+use Rattle.work.specs.computed.Work.{lineCycle, cycleOf}
 use Rattle.work.specs.laws.Cycle.{cycleWith, line-cycle, line-codes}
 use Rattle.run.specs.declared.gap.Gap.{Gap}
-use Rattle.run.specs.Run.{Strip}
-use Rattle.run.specs.Gap.{nextGap, clearedOf}
+use Rattle.run.specs.computed.Run.{Strip}
+use Rattle.run.specs.computed.Gap.{nextGap, clearedOf}
 use Rattle.run.specs.laws.Going.{Answer}
 use Rattle.run.specs.laws.Sound.{run-ready}
 use Rattle.run.specs.laws.Cycling.{Cycling, goes-on, ends-now, cycling-on, cycling-end}
@@ -32,7 +34,7 @@ abbrev pub lineAfter : Line → (c : ℕ) → Line
 lineAfter l c = record { start = l .start; end = l .end; feed = l .feed; cycles = l .cycles; done = c }
 
 abbrev pub pointAfter : Line → (c : ℕ) → Point
-pointAfter l c = pointOf (l .start) (l .end) c
+pointAfter l c = linePoint (l .start) (l .end) c
 
 -- a cycle's line is done where nothing is in work after it
 line-ended : (l : Line) {b : Bool} → isNothing (lineCycle l .work) ≡ b → eqb (l .done + 1) (l .cycles) ≡ b
@@ -69,8 +71,10 @@ module _ {q0 most : ℕ} {all : Strip} {out₀ out : List ℕ} {last n from : �
       line-small = rw pulses-are (line-codes (lineAfter l c) refl)
 
       -- the cycle with the byte that the code writes
-      cycle-is : {byte : ℕ} {ended : Bool} → isNothing (cycleOf (pointAfter l c) (Work.Line (lineAfter l c)) .work) ≡ ended → byte ≡ cycleByte (a .pulses) ended
-          → cycleWith (steppedOf (lineAfter l c) .at) byte ended (Work.Line (steppedOf (lineAfter l c) .line)) ≡ cycleOf (pointAfter l c) (Work.Line (lineAfter l c))
+      cycle-is : {byte : ℕ} {ended : Bool} → isNothing (cycleOf (pointAfter l c) (Work.Line (lineAfter l c)) .work) ≡ ended
+          → byte ≡ cycleByte (a .pulses) ended
+          → cycleWith (steppedOf (lineAfter l c) .at) byte ended (Work.Line (steppedOf (lineAfter l c) .line))
+          ≡ cycleOf (pointAfter l c) (Work.Line (lineAfter l c))
       unfolding cycleOf steppedOf
       cycle-is {ended = ended} end byte =
           line-cycle (lineAfter l c) refl (line-ended (lineAfter l c) end) (byte ∙ ap (λ (p : Pulses). cycleByte p ended) pulses-are)

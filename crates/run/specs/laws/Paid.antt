@@ -9,13 +9,14 @@ use Rattle.plane.specs.declared.point.Point.{Point}
 use Rattle.plane.specs.laws.Travel.{inside, inside-test}
 use Rattle.charges.specs.Paid.{mostPaid}
 use Rattle.charges.specs.laws.Paid.{Most, Grows, most-unique}
-use Rattle.divider.specs.Divider.{goneOf}
+use Rattle.divider.specs.computed.Divider.{goneOf}
 use Rattle.divider.specs.laws.Ticks.{counts, total-le}
 use Rattle.work.specs.declared.Work.{Work}
-use Rattle.work.specs.Work.{isNothing, cycleOf, addedOf, cyclesLeft, chargesFor, lastTickFor}
+use Rattle.work.specs.Work.{isNothing, addedOf, cyclesLeft, chargesFor}
+use Rattle.work.specs.computed.Work.{cycleOf, lastTickFor}
 use Rattle.work.specs.laws.Keep.{cycle-keeps}
 use Rattle.work.specs.laws.Rest.{Reached, reachedOf, duesOf, reached-none, reached-next, dues-for}
-use Rattle.run.specs.Run.{stripOf, SoundIn}
+use Rattle.run.specs.computed.Run.{stripOf, SoundIn}
 use Rattle.run.specs.laws.Cycles.{cycle-counts, added-some}
 use Rattle.run.specs.laws.Cycling.{some-left}
 use Rattle.run.specs.laws.Strip.{strip-ends, end-tick, each-due, cycles-fewer, strip-early}

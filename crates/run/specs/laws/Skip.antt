@@ -10,25 +10,27 @@ use Rattle.plane.specs.Byte.{cyclesMarked}
 use Rattle.plane.specs.laws.Travel.{inside}
 use Rattle.divider.specs.declared.End.{End}
 use Rattle.divider.specs.declared.Gone.{Gone}
-use Rattle.divider.specs.Divider.{endingOf, goneOf}
+use Rattle.divider.specs.computed.Divider.{endingOf, goneOf}
 use Rattle.divider.specs.laws.Ticks.{ticked, counts}
 use Rattle.divider.specs.laws.Last.{last-most}
 use Rattle.line.specs.declared.line.Line.{Line}
-use Rattle.line.specs.Line.{pointOf, drawnOf}
+use Rattle.line.specs.Line.{linePoint}
+use Rattle.line.specs.computed.Line.{drawnOf}
 use Rattle.line.specs.laws.Work.{drawn-test}
 use Rattle.charges.specs.laws.Paid.{Most}
 use Rattle.arc.specs.declared.arc.Arc.{Arc}
 use Rattle.arc.specs.declared.arc.ArcPaid.{ArcPaid}
-use Rattle.arc.specs.Arc.{arcAfter, arcCycles}
-use Rattle.arc.specs.Charge.{arcChargesIn, arcPaidOf}
+use Rattle.arc.specs.computed.Arc.{arcAfter, arcCycles}
+use Rattle.arc.specs.computed.Charge.{arcChargesIn, arcPaidOf}
 use Rattle.arc.specs.laws.Charge.{arc-paid-unique}
 use Rattle.work.specs.declared.Work.{Work}
 use Rattle.work.specs.declared.rest.Left.{Left}
-use Rattle.work.specs.Work.{workSound, addedOf, cyclesLeft, chargesLeft, lastTickFor}
-use Rattle.work.specs.Rest.{leftOf, Countable}
+use Rattle.work.specs.computed.Work.{workSound, lastTickFor}
+use Rattle.work.specs.Work.{addedOf, cyclesLeft, chargesLeft}
+use Rattle.work.specs.computed.Rest.{leftOf, Countable}
 use Rattle.work.specs.laws.Sound.{line-work}
 use Rattle.work.specs.laws.Rest.{lineOn, Reached, reachedOf, duesOf, countable, dues-for}
-use Rattle.run.specs.Run.{stripOf, ranOf, SoundIn}
+use Rattle.run.specs.computed.Run.{stripOf, ranOf, SoundIn}
 use Rattle.run.specs.laws.Keep.{ran-left}
 use Rattle.run.specs.laws.Cycles.{in-work, added-some, all-pays, end-fits}
 use Rattle.run.specs.laws.Strip.{strip-ends, end-tick, each-due, cycles-fewer, strip-early}
@@ -106,7 +108,7 @@ module _ {q0 : ℕ} {at : Point} {r : ℕ} (l : Line) (i : SoundIn q0 at r (Work
       ticks = t;
       cycles = g .cycles;
       ended = false;
-      at = pointOf (l .start) (l .end) (l .done + g .cycles);
+      at = linePoint (l .start) (l .end) (l .done + g .cycles);
       remainder = g .remainder;
       work = Work.Line (lineOn l (g .cycles));
     } ≡ ranOf (stripOf q0 t at r (Work.Line l))

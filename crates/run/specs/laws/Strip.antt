@@ -1,34 +1,31 @@
 -- What the ticks of a run come to: on the end tick the block's end, before it as many cycles as the sum pays, at most one a tick.
-use mathlib.Core.Path.{_≡_, refl, sym, ap, subst, _∙_}
+use mathlib.Core.Path.{_≡_, refl, sym, ap, _∙_}
 use mathlib.Core.Bool.{Bool, true, false}
 use Prim.Native.Nat.{ℕ, zero, suc, _+_, _-_, _*_, _≤_, _<_}
 use native.Mathlib.Nat.{le-of-suc-le-suc}
 use native.Mathlib.Decide.{decLe}
 use native.Mathlib.Omega.{arith}
-use lib.Dec.{T, leb}
+use lib.Dec.{leb}
 use lib.ListN.{length}
 use borrow.Author.Tests.{leb-true, leb-false}
 use Rattle.plane.specs.declared.point.Point.{Point}
 use Rattle.plane.specs.Byte.{cyclesMarked}
 use Rattle.divider.specs.declared.Gone.{Gone}
-use Rattle.divider.specs.Divider.{goneOf, lastTick}
+use Rattle.divider.specs.computed.Divider.{goneOf, lastTick}
 use Rattle.divider.specs.laws.Ticks.{total, Ticked, ticked}
 use Rattle.divider.specs.laws.Front.{ticked-none, ticked-idle, ticked-cycle}
-use Rattle.divider.specs.laws.Last.{Ends, last-tick, not-before}
+use Rattle.divider.specs.laws.Last.{EndsAt, last-tick, not-before}
 use Rattle.work.specs.declared.Work.{Work}
-use Rattle.work.specs.Work.{isNothing, cycleOf, dueOf, addedOf, cyclesLeft, chargesLeft, endOf}
+use Rattle.work.specs.Work.{isNothing, addedOf, cyclesLeft, chargesLeft, endOf}
+use Rattle.work.specs.computed.Work.{cycleOf, dueOf}
 use Rattle.work.specs.laws.Charge.{due-range}
 use Rattle.work.specs.laws.Rest.{reachedOf, duesOf, reached-none, reached-next, dues-first, dues-next, dues-for}
-use Rattle.run.specs.Run.{Strip, stripOf, SoundIn}
+use Rattle.work.specs.laws.Left.{nothing-is}
+use Rattle.run.specs.computed.Run.{Strip, stripOf, SoundIn}
 use Rattle.run.specs.laws.Sound.{waiting, still-sound}
 use Rattle.run.specs.laws.Cycles.{in-work, cycle-counts, cycle-pays, each-pays, none-pays, added-some, same-feed, same-end}
 use Rattle.run.specs.laws.Keep.{marked}
 use Rattle.run.specs.laws.Idle.{idle-tick, cycle-tick}
-
-nothing : (w : Work) → isNothing w ≡ true → w ≡ Work.Nothing
-nothing Work.Nothing e = refl
-nothing (Work.Line l) e = absurd (subst T (sym e) tt)
-nothing (Work.Arc a) e = absurd (subst T (sym e) tt)
 
 -- ---- to the block's end
 
@@ -41,8 +38,8 @@ pub record Ended (q0 : ℕ) (at : Point) (r : ℕ) (w : Work) (t : ℕ) (s : Str
   pub ended : s .ended ≡ true
 
 -- the end tick, one tick later: the next cycle has the due d, and the j after it together D
-module _ (d D a r j t : ℕ) (each : j * a ≤ D) (e : Ends (d + D) a r (suc j) (suc t)) where
-  ends-idle : r + a < d → Ends (d + D) a (r + a) (suc j) t
+module _ (d D a r j t : ℕ) (each : j * a ≤ D) (e : EndsAt (d + D) a r (suc j) (suc t)) where
+  ends-idle : r + a < d → EndsAt (d + D) a (r + a) (suc j) t
   ends-idle low =
       record {
         enough = by (decLe (suc j) t);
@@ -55,7 +52,7 @@ module _ (d D a r j t : ℕ) (each : j * a ≤ D) (e : Ends (d + D) a r (suc j) 
       by (no f) = let same : j ≡ t = omega (arith, e .enough) in absurd (omega (arith, e .reached, ap (λ (n : ℕ). n * a) same))
 
   module _ (rest : ℕ) (fed : d + rest ≡ r + a) where
-    ends-cycle : Ends D a rest j t
+    ends-cycle : EndsAt D a rest j t
     ends-cycle = record {
       enough = omega (arith, e .enough);
       reached = omega (arith, e .reached);
@@ -135,7 +132,7 @@ module _ {q0 : ℕ} {at : Point} {r : ℕ} {w : Work} (i : SoundIn q0 at r w) (n
     unfolding stripOf
     only-cycle none at-once =
         let c = cycleOf at w in
-        let gone = nothing (c .work) none in
+        let gone = nothing-is (c .work) none in
         let paid = cycle-pays i ∙ ap (λ (v : Work). dueOf q0 at w + chargesLeft (c .at) v * q0) gone in
         rw (← cycle-tick q0 at r w {rest = now} {c = c} fed refl, none)
         (record {
@@ -150,12 +147,12 @@ module _ {q0 : ℕ} {at : Point} {r : ℕ} {w : Work} (i : SoundIn q0 at r w) (n
 
 -- the charges left, parted: those of the next cycle and of the cycles after it
 parted : {q0 : ℕ} {at : Point} {r : ℕ} {w : Work} (i : SoundIn q0 at r w) {t : ℕ} → (let c = cycleOf at w in
-    Ends (chargesLeft at w * q0) (addedOf w) r (cyclesLeft at w) t
-    → Ends (dueOf q0 at w + chargesLeft (c .at) (c .work) * q0) (addedOf w) r (suc (cyclesLeft (c .at) (c .work))) t)
+    EndsAt (chargesLeft at w * q0) (addedOf w) r (cyclesLeft at w) t
+    → EndsAt (dueOf q0 at w + chargesLeft (c .at) (c .work) * q0) (addedOf w) r (suc (cyclesLeft (c .at) (c .work))) t)
 parted i e = rw (cycle-pays i, cycle-counts i) at e
 
 pub strip-ends : {q0 : ℕ} (n t : ℕ) {at : Point} {r : ℕ} {w : Work} → SoundIn q0 at r w
-    → Ends (chargesLeft at w * q0) (addedOf w) r (cyclesLeft at w) t → t ≤ n → Ended q0 at r w t (stripOf q0 n at r w)
+    → EndsAt (chargesLeft at w * q0) (addedOf w) r (cyclesLeft at w) t → t ≤ n → Ended q0 at r w t (stripOf q0 n at r w)
 strip-ends n zero i e h = absurd (omega (arith, e .enough, in-work i .some))
 strip-ends zero (suc t) i e h = absurd (omega arith)
 strip-ends {q0} (suc n) (suc t) {at} {r} {w} i e h =
@@ -163,7 +160,7 @@ strip-ends {q0} (suc n) (suc t) {at} {r} {w} i e h =
     (λ at r w i e. strip-ends n t {at = at} {r = r} {w = w} i e (le-of-suc-le-suc h))
   where
     by : (due : Bool) → leb (dueOf q0 at w) (r + addedOf w) ≡ due → (last : Bool) → isNothing (cycleOf at w .work) ≡ last
-        → ((at : Point) (r : ℕ) (w : Work) → SoundIn q0 at r w → Ends (chargesLeft at w * q0) (addedOf w) r (cyclesLeft at w) t
+        → ((at : Point) (r : ℕ) (w : Work) → SoundIn q0 at r w → EndsAt (chargesLeft at w * q0) (addedOf w) r (cyclesLeft at w) t
         → Ended q0 at r w t (stripOf q0 n at r w))
         → Ended q0 at r w (suc t) (stripOf q0 (suc n) at r w)
     by false late last is rest =
@@ -184,7 +181,7 @@ strip-ends {q0} (suc n) (suc t) {at} {r} {w} i e h =
         let c = cycleOf at w in
         let now = r + addedOf w - dueOf q0 at w in
         let fed : dueOf q0 at w + now ≡ r + addedOf w = omega arith in
-        let gone : cyclesLeft (c .at) (c .work) ≡ 0 = ap (cyclesLeft (c .at)) (nothing (c .work) none) in
+        let gone : cyclesLeft (c .at) (c .work) ≡ 0 = ap (cyclesLeft (c .at)) (nothing-is (c .work) none) in
         only-cycle i n t now fed none (ends-now _ _ _ _ _ _ (each-pays i) (parted i e) now fed gone (none-pays i gone))
 
 -- ---- before the end, by the divider's count
@@ -243,7 +240,7 @@ strip-short {q0} (suc t) g {at} {r} {w} i p h =
     by true due true none more =
         let d = cycleOf at w in
         let over = leb-true (dueOf q0 at w) (r + addedOf w) due in
-        let left = cycle-counts i ∙ ap (λ (v : Work). suc (cyclesLeft (d .at) v)) (nothing (d .work) none) in
+        let left = cycle-counts i ∙ ap (λ (v : Work). suc (cyclesLeft (d .at) v)) (nothing-is (d .work) none) in
         absurd (some-cycle over (g .cycles) (omega (arith, h, left)) (p .adds-up) (p .below))
       where
         -- the due is reached, so there is a cycle
@@ -258,7 +255,7 @@ module _ {q0 : ℕ} {at : Point} {r : ℕ} {w : Work} (i : SoundIn q0 at r w) wh
   abbrev last : ℕ
   last = lastTick (chargesLeft at w * q0) (addedOf w) r (cyclesLeft at w)
 
-  pub end-tick : Ends (chargesLeft at w * q0) (addedOf w) r (cyclesLeft at w) last
+  pub end-tick : EndsAt (chargesLeft at w * q0) (addedOf w) r (cyclesLeft at w) last
   end-tick = last-tick (chargesLeft at w * q0) (addedOf w) r (cyclesLeft at w) (added-some i)
 
   -- ticks before the last

@@ -8,14 +8,14 @@ use native.Mathlib.Omega.{arith}
 use lib.ListN.{length, drop, length-drop}
 use Rattle.words.specs.computed.Scan.{firstLine}
 use Rattle.words.specs.laws.FirstLine.{first-short}
-use Rattle.bench.specs.Bench.{soundOf}
+use Rattle.bench.specs.computed.Bench.{soundOf}
 use Rattle.reader.specs.declared.«text_line».ReadLine.{ReadLine}
-use Rattle.reader.specs.TextLine.{readLineOf}
-use Rattle.listing.specs.laws.Keeps.{loaded-sound}
+use Rattle.reader.specs.computed.TextLine.{readLineOf}
+use Rattle.tally.specs.laws.Keeps.{loaded-sound}
 use Rattle.job.specs.Text.{linesOf}
 use Rattle.job.specs.laws.Text.{slice-rest}
 use Rattle.seek.specs.declared.Search.{Search}
-use Rattle.seek.specs.Seek.{seekOf}
+use Rattle.seek.specs.computed.Seek.{seekOf}
 use Rattle.seek.specs.laws.Search.{toFind}
 use Rattle.seek.specs.laws.Seek.{Seeking, seek-long, seek-short, start-counted, seeking-start, counted}
 use Rattle.seek.specs.laws.Seek.{seeking-end, seeking-found, seeking-on}

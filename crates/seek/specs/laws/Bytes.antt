@@ -7,16 +7,16 @@ use lib.ListN.{length, take}
 use lib.Seq.{take-length}
 use Rattle.bench.specs.declared.Bench.{Bench}
 use Rattle.bench.specs.declared.Ran.{Ran}
-use Rattle.bench.specs.Run.{Run, runOf}
+use Rattle.bench.specs.computed.Run.{Run, runOf}
 use Rattle.bench.specs.laws.Run.{ticks-are}
-use Rattle.finish.specs.Finish.{finishOf}
+use Rattle.finish.specs.computed.Finish.{finishOf}
 use Rattle.finish.specs.laws.Record.{AtWork, ticks-most}
 use Rattle.finish.specs.laws.Run.{finish-is-run}
-use Rattle.ahead.specs.Ahead.{tickingOf}
+use Rattle.ahead.specs.computed.Ahead.{tickingOf}
 use Rattle.ahead.specs.laws.Sums.{Leads, ticking-leads}
 use Rattle.ahead.specs.laws.Ticks.{leftBy, ticksOf, ticking-works, ticking-bytes}
-use Rattle.job.specs.Calls.{enough}
-use Rattle.tape.specs.laws.Pieces.{runs}
+use Rattle.job.specs.computed.Check.{enough}
+use Rattle.stream.specs.laws.Pieces.{runs}
 
 module _ (m : Bench) (a : AtWork m) where
   abbrev run : Run

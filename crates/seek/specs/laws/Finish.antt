@@ -6,43 +6,43 @@ use lib.Dec.{ltb}
 use Rattle.work.specs.declared.Work.{Work}
 use Rattle.work.specs.declared.rest.Left.{Left}
 use Rattle.work.specs.Work.{isNothing}
-use Rattle.work.specs.Rest.{Countable, leftOf}
+use Rattle.work.specs.computed.Rest.{Countable, leftOf}
 use Rattle.run.specs.laws.Skip.{skip-counts}
-use Rattle.ahead.specs.Ahead.{tickingOf}
+use Rattle.ahead.specs.computed.Ahead.{tickingOf}
 use Rattle.ahead.specs.laws.Ticks.{ticking-sound}
 use Rattle.bench.specs.declared.Bench.{Bench}
 use Rattle.bench.specs.declared.Ran.{Ran}
-use Rattle.bench.specs.Bench.{soundOf}
-use Rattle.bench.specs.Run.{runOf}
+use Rattle.bench.specs.computed.Bench.{soundOf}
+use Rattle.bench.specs.computed.Run.{runOf}
 use Rattle.bench.specs.laws.Sound.{sound, running}
 use Rattle.bench.specs.laws.Run.{ticks-are}
 use Rattle.finish.specs.declared.Finished.{Finished}
-use Rattle.finish.specs.Finish.{worksOf, finishOf}
+use Rattle.finish.specs.computed.Finish.{worksOf, finishOf}
 use Rattle.finish.specs.laws.Record.{works, ticks-most}
 use Rattle.finish.specs.laws.Run.{finish-is-run}
 use Rattle.reader.specs.declared.Reader.{Reader}
-use Rattle.job.specs.Calls.{enough}
-use Rattle.tape.specs.laws.Pieces.{still}
+use Rattle.job.specs.computed.Check.{enough}
+use Rattle.stream.specs.laws.Pieces.{still}
 use Rattle.seek.specs.declared.Found.{Found}
 use Rattle.seek.specs.declared.Search.{Search}
-use Rattle.seek.specs.Seek.{answer}
+use Rattle.seek.specs.computed.Seek.{answer}
 use Rattle.seek.specs.laws.Search.{blockWith, blockOf}
 
-pub record Ends (m : Bench) : Type 0 where
+pub record EndsBlock (m : Bench) : Type 0 where
   pub ticks : runOf m enough enough .ran .ticks ≡ finishOf m .ticks
   pub bench : runOf m enough enough .ran .bench ≡ finishOf m .bench
 
 -- held or idle neither does a tick
-resting : (m : Bench) → worksOf m ≡ false → Ends m
+resting : (m : Bench) → worksOf m ≡ false → EndsBlock m
 unfolding finishOf
 resting m rests =
     let s = still m rests enough enough in
     record { ticks = ticks-are m enough enough ∙ rw (s .0, rests); bench = rw (s .1, rests) }
 
-pub run-ends : (m : Bench) → Ends m
+pub run-ends : (m : Bench) → EndsBlock m
 run-ends m = by (worksOf m) refl
   where
-    by : (b : Bool) → worksOf m ≡ b → Ends m
+    by : (b : Bool) → worksOf m ≡ b → EndsBlock m
     by true e =
         let is = finish-is-run m (works e) enough enough (ticks-most m) (ticks-most m) in
         record { ticks = ap (λ (r : Ran). r .ticks) is; bench = ap (λ (r : Ran). r .bench) is }

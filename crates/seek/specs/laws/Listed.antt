@@ -9,26 +9,28 @@ use lib.IntN.{pos}
 use lib.ListN.{length, drop, take}
 use Rattle.block.specs.declared.Block.{Block}
 use Rattle.settings.specs.declared.Settings.{Settings}
-use Rattle.settings.specs.Settings.{settingsNo}
+use Rattle.settings.specs.computed.Settings.{settingsNo}
 use Rattle.bench.specs.declared.Bench.{Bench}
 use Rattle.bench.specs.declared.Ran.{Ran}
 use Rattle.bench.specs.Bench.{movedOf, freshOf}
-use Rattle.bench.specs.Calls.{makeOf, loadOf}
-use Rattle.bench.specs.Run.{runOf}
+use Rattle.bench.specs.computed.Calls.{makeOf, loadOf}
+use Rattle.bench.specs.computed.Run.{runOf}
 use Rattle.finish.specs.laws.Record.{AtRest}
-use Rattle.ahead.specs.Ahead.{tickingOf}
+use Rattle.ahead.specs.computed.Ahead.{tickingOf}
 use Rattle.reader.specs.declared.Reader.{Reader}
 use Rattle.reader.specs.declared.«text_line».ReadLine.{ReadLine}
-use Rattle.reader.specs.Reader.{longestText, unknown}
+use Rattle.reader.specs.computed.Reader.{longestText}
+use Rattle.reader.specs.Reader.{unknown}
 use Rattle.job.specs.Text.{linesOf}
-use Rattle.job.specs.Job.{Made, End, Asks, onward, jobFrom, jobOf}
-use Rattle.job.specs.Calls.{enough}
+use Rattle.job.specs.Job.{Made, End}
+use Rattle.job.specs.computed.Job.{Asks, readOn, jobFrom, jobOf}
+use Rattle.job.specs.computed.Check.{enough}
 use Rattle.job.specs.laws.Ended.{Accepted, endedOf, ended-rests, ended-run}
 use Rattle.job.specs.laws.Listing.{fresh-rests}
 use Rattle.job.specs.laws.Asks.{Read-as, line-asks}
 use Rattle.seek.specs.declared.Found.{Found}
 use Rattle.seek.specs.declared.Sought.{Sought}
-use Rattle.seek.specs.Seek.{answer, afterBlock, afterLine, seekFrom, seekOf}
+use Rattle.seek.specs.computed.Seek.{answer, afterBlock, afterLine, seekFrom, seekOf}
 
 -- the text lines of the blocks, in their order
 abbrev pub textLines : List Made → List ℕ
@@ -90,7 +92,7 @@ by-line : (blocks lines n : ℕ) (m : Bench) (k : Reader) (ls : List (List ℕ))
     → {a : Asks} {r : ReadLine} → Read-as m k a r
     → Listed
     (afterLine blocks (lines + 1) n (r .bench) (r .answer) (λ blocks′ n′ m′. seekFrom blocks′ (lines + 1) n′ m′ (r .reader) ls))
-    blocks (onward (lines + 1) (m .at) a (λ at k′. jobFrom (m .settings) (lines + 1 + 1) at k′ ls) .blocks)
+    blocks (readOn (lines + 1) (m .at) a (λ at k′. jobFrom (m .settings) (lines + 1 + 1) at k′ ls) .blocks)
 unfolding movedOf
 by-line blocks lines n m k ls i rest (Read-as.nothing known) = rest blocks (lines + 1) n m known i
 by-line blocks lines n m k ls i rest (Read-as.makes known b ok) =

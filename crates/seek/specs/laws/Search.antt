@@ -7,20 +7,21 @@ use native.Mathlib.Omega.{arith}
 use lib.Dec.{ltb}
 use Rattle.settings.specs.declared.Settings.{Settings}
 use Rattle.bench.specs.declared.Bench.{Bench}
-use Rattle.bench.specs.Bench.{soundOf}
-use Rattle.bench.specs.Calls.{makeOf}
-use Rattle.bench.specs.Run.{runOf}
-use Rattle.ahead.specs.Ahead.{tickingOf}
+use Rattle.bench.specs.computed.Bench.{soundOf}
+use Rattle.bench.specs.computed.Calls.{makeOf}
+use Rattle.bench.specs.computed.Run.{runOf}
+use Rattle.ahead.specs.computed.Ahead.{tickingOf}
 use Rattle.reader.specs.declared.Reader.{Reader}
 use Rattle.reader.specs.declared.«text_line».Read.{Read}
 use Rattle.reader.specs.declared.«text_line».ReadLine.{ReadLine}
-use Rattle.reader.specs.Reader.{longestText, unknown}
-use Rattle.reader.specs.TextLine.{readLineOf}
-use Rattle.job.specs.Calls.{enough}
+use Rattle.reader.specs.computed.Reader.{longestText}
+use Rattle.reader.specs.Reader.{unknown}
+use Rattle.reader.specs.computed.TextLine.{readLineOf}
+use Rattle.job.specs.computed.Check.{enough}
 use Rattle.seek.specs.declared.Found.{Found}
 use Rattle.seek.specs.declared.Sought.{Sought}
 use Rattle.seek.specs.declared.Search.{Search}
-use Rattle.seek.specs.Seek.{answer, afterBlock, afterLine, seekFrom}
+use Rattle.seek.specs.computed.Seek.{answer, afterBlock, afterLine, seekFrom}
 
 -- ---- what the code's functions compute
 
@@ -32,8 +33,8 @@ Counted s = (s .sought .block ≤ s .sought .line) × (s .sought .line ≤ longe
 abbrev pub Tested : ReadLine → Type 0
 Tested r = (bits : ℕ) → r .answer ≡ Read.Loaded bits → soundOf (r .bench) ≡ true
 
-unfoldable pub startOf : Settings → (n : ℕ) → Search
-startOf s n = record { decided = false; reader = unknown; sought = answer Found.Over 0 0 n (makeOf s .bench) }
+unfoldable pub searchFrom : Settings → (n : ℕ) → Search
+searchFrom s n = record { decided = false; reader = unknown; sought = answer Found.Over 0 0 n (makeOf s .bench) }
 
 abbrev pub passedOf : Search → Reader → Bench → Search
 passedOf s k m =
@@ -65,8 +66,8 @@ lineWith s k m Read.Nothing = passedOf s k m
 lineWith s k m (Read.Loaded bits) = blockOf s k m
 lineWith s k m (Read.Refused number) = refusedOf s m number
 
-abbrev pub lineOf : Search → ReadLine → Search
-lineOf s r = lineWith s (r .reader) (r .bench) (r .answer)
+abbrev pub searchAfter : Search → ReadLine → Search
+searchAfter s r = lineWith s (r .reader) (r .bench) (r .answer)
 
 -- ---- what is sought is found
 
@@ -98,7 +99,7 @@ block-found s k m ls = by (ltb (s .sought .ticks) (runOf m enough enough .ran .t
 
 -- a line takes the first of the lines that are left
 pub line-found : (s : Search) (l : List ℕ) (ls : List (List ℕ)) {r : ReadLine} → r ≡ readLineOf (s .reader) (s .sought .bench) l
-    → toFind s (l ∷ ls) ≡ outcome (lineOf s r) ls
+    → toFind s (l ∷ ls) ≡ outcome (searchAfter s r) ls
 unfolding seekFrom
 line-found s l ls {r} read = rw (← read) (by (r .answer))
   where
@@ -116,7 +117,7 @@ pub record OneLineMore (s t : Search) : Type 0 where
   pub lines : t .sought .line ≡ s .sought .line + 1
   pub going : t .decided ≡ false → (t .sought .found ≡ Found.Over) × (t .sought .left ≡ 0)
 
-pub one-line-more : (s : Search) (r : ReadLine) → OneLineMore s (lineOf s r)
+pub one-line-more : (s : Search) (r : ReadLine) → OneLineMore s (searchAfter s r)
 unfolding blockOf
 one-line-more s r = by (r .answer)
   where

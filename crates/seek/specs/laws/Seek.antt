@@ -9,29 +9,29 @@ use lib.Seq.{drop-drop}
 use borrow.Author.Tests.{le-leb, lt-leb}
 use Rattle.words.specs.computed.Scan.{firstLine}
 use Rattle.settings.specs.declared.Settings.{Settings}
-use Rattle.reader.specs.Reader.{longestText}
+use Rattle.reader.specs.computed.Reader.{longestText}
 use Rattle.reader.specs.declared.«text_line».ReadLine.{ReadLine}
-use Rattle.reader.specs.TextLine.{readLineOf}
+use Rattle.reader.specs.computed.TextLine.{readLineOf}
 use Rattle.job.specs.Text.{linesOf}
 use Rattle.job.specs.laws.Text.{lines-next}
 use Rattle.seek.specs.declared.Found.{Found}
 use Rattle.seek.specs.declared.Sought.{Sought}
 use Rattle.seek.specs.declared.Search.{Search}
-use Rattle.seek.specs.Seek.{seekFrom, seekOf}
-use Rattle.seek.specs.laws.Search.{startOf, refusedOf, lineOf, toFind, outcome, Counted, line-found, one-line-more}
+use Rattle.seek.specs.computed.Seek.{seekFrom, seekOf}
+use Rattle.seek.specs.laws.Search.{searchFrom, refusedOf, searchAfter, toFind, outcome, Counted, line-found, one-line-more}
 
 module _ (c : Settings) (n : ℕ) where
-  pub start-counted : {s : Search} → s ≡ startOf c n → Counted s
-  unfolding startOf
+  pub start-counted : {s : Search} → s ≡ searchFrom c n → Counted s
+  unfolding searchFrom
   start-counted is = rw is (omega arith, omega arith)
 
   pub seek-long : (text : List ℕ) → longestText < length text
-      → refusedOf (startOf c n) (startOf c n .sought .bench) 30 .sought ≡ seekOf c text n
-  unfolding seekOf startOf
+      → refusedOf (searchFrom c n) (searchFrom c n .sought .bench) 30 .sought ≡ seekOf c text n
+  unfolding seekOf searchFrom
   seek-long text long = rw (lt-leb (length text) longestText long)
 
-  pub seek-short : (text : List ℕ) → length text ≤ longestText → toFind (startOf c n) (linesOf text) ≡ seekOf c text n
-  unfolding seekOf startOf
+  pub seek-short : (text : List ℕ) → length text ≤ longestText → toFind (searchFrom c n) (linesOf text) ≡ seekOf c text n
+  unfolding seekOf searchFrom
   seek-short text short = rw (le-leb (length text) longestText short)
 
 -- the lines before `at` are read, and what is left of the text holds the answer
@@ -43,9 +43,9 @@ pub record Seeking (text : List ℕ) (answer : Sought) (s : Search) (at : ℕ) :
   pub lines : s .sought .line ≤ at
   pub short : length text ≤ longestText
 
-pub seeking-start : (c : Settings) (n : ℕ) (text : List ℕ) {s : Search} → s ≡ startOf c n → length text ≤ longestText
+pub seeking-start : (c : Settings) (n : ℕ) (text : List ℕ) {s : Search} → s ≡ searchFrom c n → length text ≤ longestText
     → Seeking text (toFind s (linesOf text)) s 0
-unfolding startOf
+unfolding searchFrom
 seeking-start c n text is short =
     rw is (record { rest = refl; going = refl; none = refl; blocks = omega arith; lines = omega arith; short = short })
 
@@ -63,16 +63,16 @@ module _ {text : List ℕ} {answer : Sought} {s : Search} {at : ℕ} (g : Seekin
     counted = (g .blocks, omega (arith, g .lines, g .short))
 
     module _ {r : ReadLine} (read : r ≡ readLineOf (s .reader) (s .sought .bench) (firstLine (drop at text))) where
-      cut : outcome (lineOf s r) (linesOf (drop (suc (length (firstLine (drop at text)))) (drop at text))) ≡ answer
+      cut : outcome (searchAfter s r) (linesOf (drop (suc (length (firstLine (drop at text)))) (drop at text))) ≡ answer
       cut =
           let some : 1 ≤ length (drop at text) = rw (length-drop at text) (omega arith) in
           sym (line-found s (firstLine (drop at text)) _ read) ∙ ap (toFind s) (sym (lines-next (drop at text) some)) ∙ g .rest
 
-      pub seeking-found : lineOf s r .decided ≡ true → lineOf s r .sought ≡ answer
+      pub seeking-found : searchAfter s r .decided ≡ true → searchAfter s r .sought ≡ answer
       seeking-found decided = rw decided at cut
 
       module _ {bytes : ℕ} (first : bytes ≡ length (firstLine (drop at text))) where
-        pub seeking-on : lineOf s r .decided ≡ false → Seeking text answer (lineOf s r) (at + bytes + 1)
+        pub seeking-on : searchAfter s r .decided ≡ false → Seeking text answer (searchAfter s r) (at + bytes + 1)
         seeking-on on =
             let o = one-line-more s r in
             let same : at + suc (length (firstLine (drop at text))) ≡ at + bytes + 1 = omega (arith, first) in

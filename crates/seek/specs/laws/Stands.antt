@@ -14,36 +14,38 @@ use Rattle.plane.specs.declared.point.Point.{Point}
 use Rattle.plane.specs.Byte.{codeX, codeY}
 use Rattle.block.specs.declared.Block.{Block}
 use Rattle.settings.specs.declared.Settings.{Settings}
-use Rattle.settings.specs.Settings.{capacityOf, settingsNo}
+use Rattle.settings.specs.Settings.{capacityOf}
+use Rattle.settings.specs.computed.Settings.{settingsNo}
 use Rattle.bench.specs.declared.Bench.{Bench}
 use Rattle.bench.specs.declared.Answered.{Answered}
 use Rattle.bench.specs.declared.Ran.{Ran}
 use Rattle.bench.specs.Bench.{movedOf, freshOf}
-use Rattle.bench.specs.Calls.{makeOf, loadOf}
-use Rattle.bench.specs.Run.{Run, runOf}
+use Rattle.bench.specs.computed.Calls.{makeOf, loadOf}
+use Rattle.bench.specs.computed.Run.{Run, runOf}
 use Rattle.bench.specs.laws.Run.{ticks-are}
 use Rattle.book.specs.Sums.{pulsesIn}
 use Rattle.finish.specs.laws.Record.{AtRest, AtWork}
 use Rattle.finish.specs.laws.Loaded.{loaded-at-work}
-use Rattle.ahead.specs.Ahead.{tickingOf}
+use Rattle.ahead.specs.computed.Ahead.{tickingOf}
 use Rattle.ahead.specs.laws.Sums.{Leads, leads-none, leads-both}
 use Rattle.reader.specs.declared.Reader.{Reader}
 use Rattle.reader.specs.declared.«text_line».ReadLine.{ReadLine}
-use Rattle.reader.specs.Reader.{longestText, unknown}
+use Rattle.reader.specs.computed.Reader.{longestText}
+use Rattle.reader.specs.Reader.{unknown}
 use Rattle.job.specs.Text.{linesOf}
-use Rattle.job.specs.Job.{Asks, jobOf}
+use Rattle.job.specs.computed.Job.{Asks, jobOf}
 use Rattle.job.specs.Listing.{allTicks}
-use Rattle.job.specs.Calls.{enough}
-use Rattle.job.specs.Check.{unless}
+use Rattle.job.specs.computed.Check.{enough}
+use Rattle.job.specs.computed.Check.{unless}
 use Rattle.job.specs.laws.Ended.{Accepted, ended-rests, ended-run}
 use Rattle.job.specs.laws.Listing.{fresh-rests}
 use Rattle.job.specs.laws.Asks.{Read-as, line-asks, load-accepted}
-use Rattle.tape.specs.Tape.{runThen, isRefused, bytesFrom, tickBytesOf}
-use Rattle.tape.specs.laws.Pieces.{still-idle, nothing-left}
-use Rattle.tape.specs.laws.Told.{bytes-told}
+use Rattle.stream.specs.computed.Stream.{runThen, isRefused, bytesFrom, tickBytesOf}
+use Rattle.stream.specs.laws.Pieces.{still-idle, nothing-left}
+use Rattle.stream.specs.laws.Told.{bytes-told}
 use Rattle.seek.specs.declared.Found.{Found}
 use Rattle.seek.specs.declared.Sought.{Sought}
-use Rattle.seek.specs.Seek.{answer, afterBlock, afterLine, seekFrom, seekOf}
+use Rattle.seek.specs.computed.Seek.{answer, afterBlock, afterLine, seekFrom, seekOf}
 use Rattle.seek.specs.laws.Bytes.{first-lead, all-lead}
 
 -- after n of so many ticks: fewer than all, or all, and so many more

@@ -2,7 +2,7 @@
 use borrow.Author.Needs.{needs}
 use mathlib.Core.Path.{_≡_, sym, _∙_}
 use borrow.Author.Tests.{not-true, not-false}
-use Rattle.settings.specs.Settings.{axisRight}
+use Rattle.settings.specs.computed.Settings.{axisRight}
 use mir.Syntax.{w64}
 use mir.Val.{SFits}
 use mir.Facts.{toZ-ofZ}
@@ -12,7 +12,11 @@ use Rattle.settings.proofs.axis_right.Statement.{statement}
 use Rattle.settings.proofs.axis_right.Tie as tie
 
 -- what the first call says, over the field itself
-lower-is : (c : tie.After-within) → c .within .result ≡ withinOf (record { lower = negsuc 999999; upper = pos 0 }) (c .before .before .args .axis .lower)
+lower-is : (c : tie.After-within) → c .within .result ≡ withinOf (record {
+  lower = negsuc 999999;
+  upper =
+      pos 0;
+}) (c .before .before .args .axis .lower)
 lower-is c = let lower : SFits w64 (c .before .before .args .axis .lower) = search needs in simp toZ-ofZ at (c .within .ensures)
 
 within-requires : tie.Need-within-requires

@@ -3,7 +3,7 @@ use borrow.Author.Needs.{needs}
 use mathlib.Core.Path.{_≡_, sym, _∙_}
 use mathlib.Core.Bool.{true}
 use borrow.Author.Tests.{not-true, not-false}
-use Rattle.settings.specs.Settings.{inRange, settingsNo}
+use Rattle.settings.specs.computed.Settings.{inRange, settingsNo}
 use Rattle.settings.proofs.settings_no.Statement.{statement}
 use Rattle.settings.proofs.settings_no.Tie as tie
 
@@ -34,12 +34,22 @@ travel-right-requires c κs = search needs
 returns-3 : tie.Need-returns-3
 unfolding settingsNo
 returns-3 c =
-    simp (scale (c .before .before .before .before .before), clock (c .before .before .before), sym (c .before .travel-right .ensures) ∙ not-true _ (c .if3 .taken))
+    simp (
+      scale (c .before .before .before .before .before),
+      clock (c .before .before .before),
+      sym (c .before .travel-right .ensures)
+          ∙ not-true _ (c .if3 .taken),
+    )
 
 returns-4 : tie.Need-returns-4
 unfolding settingsNo
 returns-4 c =
-    simp (scale (c .before .before .before .before .before), clock (c .before .before .before), sym (c .before .travel-right .ensures) ∙ not-false _ (c .if3 .left))
+    simp (
+      scale (c .before .before .before .before .before),
+      clock (c .before .before .before),
+      sym (c .before .travel-right .ensures)
+          ∙ not-false _ (c .if3 .left),
+    )
 
 pub settings-no-spec : {M : Type 1} → statement M
 settings-no-spec =

@@ -2,7 +2,7 @@
 use borrow.Author.Needs.{needs}
 use mathlib.Core.Path.{sym, _∙_}
 use borrow.Author.Tests.{not-true, not-false}
-use Rattle.settings.specs.Settings.{travelRight}
+use Rattle.settings.specs.computed.Settings.{travelRight}
 use Rattle.settings.proofs.travel_right.Statement.{statement}
 use Rattle.settings.proofs.travel_right.Tie as tie
 

@@ -10,22 +10,23 @@ use Rattle.whole.specs.laws.Test.{both}
 use Rattle.plane.specs.declared.travel.Range.{Range}
 use Rattle.plane.specs.Travel.{withinOf}
 use Rattle.plane.specs.computed.Travel.{Wide}
-use Rattle.plane.specs.laws.Travel.{Within, Inside, within, axis-near}
+use Rattle.plane.specs.laws.Travel.{InRange, Bounded, within, axis-near}
 use Rattle.whole.specs.laws.Ask.{answered}
 use Rattle.settings.specs.declared.Settings.{Settings}
-use Rattle.settings.specs.Settings.{inRange, axisRight, travelRight, settingsNo, standardSettings}
+use Rattle.settings.specs.computed.Settings.{inRange, axisRight, travelRight, settingsNo}
+use Rattle.settings.specs.Settings.{standardSettings}
 
 pub record Right (s : Settings) : Type 0 where
   pub scale-most : s .scale ≤ 1000
   pub clock-some : 1000 ≤ s .clock
   pub clock-most : s .clock ≤ 20000
   pub wide : Wide (s .travel)
-  pub origin : Inside (s .travel) (record { x = pos 0; y = pos 0 })
+  pub origin : Bounded (s .travel) (record { x = pos 0; y = pos 0 })
 
 record AxisRight (r : Range) : Type 0 where
   lower : natAbs (r .lower) ≤ 1000000
   upper : natAbs (r .upper) ≤ 1000000
-  zero : Within r (pos 0)
+  zero : InRange r (pos 0)
 
 axis-right : {r : Range} → axisRight r ≡ true → AxisRight r
 unfolding axisRight

@@ -5,9 +5,9 @@ use mathlib.Core.Bool.{true}
 use borrow.Author.Tests.{not-true, not-false}
 use Rattle.settings.specs.laws.Right.{settings-right}
 use Rattle.bench.specs.laws.Sound.{sound as bench-sound}
-use Rattle.machine.specs.Machine.{soundOf}
+use Rattle.machine.specs.computed.Machine.{soundOf}
 use Rattle.machine.specs.laws.Right.{Sound, sound}
-use Rattle.textline.specs.TextLine.{readLineOf}
+use Rattle.textline.specs.computed.TextLine.{readLineOf}
 use Rattle.textline.proofs.read_line.Statement.{statement}
 use Rattle.textline.proofs.read_line.Tie as tie
 

@@ -12,14 +12,15 @@ use Rattle.words.specs.laws.Meaning.{meaning-means}
 use Rattle.words.specs.laws.Reading.{means-unique}
 use Rattle.bench.specs.declared.Answer.{Answer}
 use Rattle.machine.specs.declared.Machine.{Machine}
-use Rattle.machine.specs.Machine.{soundOf, startOf}
-use Rattle.machine.specs.Calls.{loadOf}
+use Rattle.machine.specs.computed.Machine.{soundOf}
+use Rattle.machine.specs.Machine.{startOf}
+use Rattle.machine.specs.computed.Calls.{loadOf}
 use Rattle.reader.specs.declared.Reader.{Reader}
 use Rattle.reader.specs.declared.asked.ToLoad.{ToLoad}
 use Rattle.reader.specs.declared.asked.Asked.{Asked}
 use Rattle.reader.specs.declared.«text_line».Read.{Read}
-use Rattle.reader.specs.Asked.{askedOf}
-use Rattle.textline.specs.TextLine.{reads, loaded, takes, takenOf, readLineOf}
+use Rattle.reader.specs.computed.Asked.{askedOf}
+use Rattle.textline.specs.computed.TextLine.{reads, loaded, takes, takenOf, readLineOf}
 
 -- `readLineOf` for whoever holds `Means` against the paper: any answer that the grammar allows gives it, and there is only one
 pub read-means : (k : Reader) (m : Machine) (bytes : List ℕ) (l : Line) → Means bytes l

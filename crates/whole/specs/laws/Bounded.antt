@@ -1,4 +1,5 @@
--- Signed code over variables that are bounded by numerals: by one computed test (`tt`) each operation fits an i64, and the code computes what is meant.
+-- Signed code over variables that are bounded by numerals: by one computed test (`tt`) each operation fits an i64, and the code computes
+-- what is meant.
 use mathlib.Core.Path.{_≡_}
 use mathlib.Core.Bool.{Bool, _&&_}
 use Prim.Native.Nat.{ℕ, _+_, _*_, _≤_, _^_}
@@ -68,20 +69,19 @@ apart own left right t =
 pub exact : (e : Code) → T (small e) → runs e ≡ means e
 exact (at z m h) t = toZ-ofZ (under (at z m h) t)
 exact (lit n) t = toZ-ofZ (under (lit n) t)
-exact (e ⊞ f) t = let p = apart (ltb (bound e + bound f) (2 ^ 63)) (small e) (small f) t in rw (exact e (p .1), exact f (p .2)) (toZ-ofZ (under (e ⊞ f) (p .0)))
-exact (e ⊟ f) t = let p = apart (ltb (bound e + bound f) (2 ^ 63)) (small e) (small f) t in rw (exact e (p .1), exact f (p .2)) (toZ-ofZ (under (e ⊟ f) (p .0)))
-exact (e ⊠ f) t = let p = apart (ltb (bound e * bound f) (2 ^ 63)) (small e) (small f) t in rw (exact e (p .1), exact f (p .2)) (toZ-ofZ (under (e ⊠ f) (p .0)))
+exact (e ⊞ f) t = let p = apart (ltb (bound e + bound f) (2 ^ 63)) (small e) (small f) t in
+    rw (exact e (p .1), exact f (p .2)) (toZ-ofZ (under (e ⊞ f) (p .0)))
+exact (e ⊟ f) t = let p = apart (ltb (bound e + bound f) (2 ^ 63)) (small e) (small f) t in
+    rw (exact e (p .1), exact f (p .2)) (toZ-ofZ (under (e ⊟ f) (p .0)))
+exact (e ⊠ f) t = let p = apart (ltb (bound e * bound f) (2 ^ 63)) (small e) (small f) t in
+    rw (exact e (p .1), exact f (p .2)) (toZ-ofZ (under (e ⊠ f) (p .0)))
 
 -- each operation of the code fits
 module _ (e f : Code) where
   pub adds : T (small (e ⊞ f)) → SFits w64 (runs e +ℤ runs f)
-  adds t = let p = apart (ltb (bound e + bound f) (2 ^ 63)) (small e) (small f) t in rw (exact e (p .1), exact f (p .2)) (under (e ⊞ f) (p .0))
+  adds t = let p = apart (ltb (bound e + bound f) (2 ^ 63)) (small e) (small f) t in
+      rw (exact e (p .1), exact f (p .2)) (under (e ⊞ f) (p .0))
 
   pub subs : T (small (e ⊟ f)) → SFits w64 (runs e -ℤ runs f)
-  subs t = let p = apart (ltb (bound e + bound f) (2 ^ 63)) (small e) (small f) t in rw (exact e (p .1), exact f (p .2)) (under (e ⊟ f) (p .0))
-
-  pub muls : T (small (e ⊠ f)) → SFits w64 (runs e *ℤ runs f)
-  muls t = let p = apart (ltb (bound e * bound f) (2 ^ 63)) (small e) (small f) t in rw (exact e (p .1), exact f (p .2)) (under (e ⊠ f) (p .0))
-
-pub runs-bounded : (e : Code) → T (small e) → natAbs (runs e) ≤ bound e
-runs-bounded e t = rw (exact e t) (bounded e)
+  subs t = let p = apart (ltb (bound e + bound f) (2 ^ 63)) (small e) (small f) t in
+      rw (exact e (p .1), exact f (p .2)) (under (e ⊟ f) (p .0))

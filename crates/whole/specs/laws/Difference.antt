@@ -59,7 +59,8 @@ multiplied {x = pos a} {y = negsuc b} {p = p} {n = n} {q = q} {m = m} h k =
     negative (a * suc b) _ _ (omega (arith, product a (suc b) p n m q (omega arith) (omega arith)))
 multiplied {x = negsuc a} {y = pos b} {p = p} {n = n} {q = q} {m = m} h k =
     negative (suc a * b) _ _ (omega (arith, product (suc a) b n p q m (omega arith) (omega arith)))
-multiplied {x = negsuc a} {y = negsuc b} {p = p} {n = n} {q = q} {m = m} h k = omega (arith, product (suc a) (suc b) n p m q (omega arith) (omega arith))
+multiplied {x = negsuc a} {y = negsuc b} {p = p} {n = n} {q = q} {m = m} h k =
+    omega (arith, product (suc a) (suc b) n p m q (omega arith) (omega arith))
 
 -- ---- from differences to equations, and back
 
@@ -68,9 +69,6 @@ equal {x = pos a} {y = pos b} h k e = ap pos (omega arith)
 equal {x = pos a} {y = negsuc b} h k e = absurd (omega arith)
 equal {x = negsuc a} {y = pos b} h k e = absurd (omega arith)
 equal {x = negsuc a} {y = negsuc b} h k e = ap negsuc (omega arith)
-
-pub crossed : {x y : ℤ} {p n q m : ℕ} → Difference x p n → Difference y q m → x ≡ y → p + m ≡ q + n
-crossed h k e = omega (arith, ap up e, ap down e)
 
 pub size : {z : ℤ} {p n : ℕ} → Difference z p n → natAbs z ≤ p + n
 size {z = pos a} h = omega arith
@@ -126,3 +124,11 @@ split (e ⊗ f) = multiplied (split e) (split f)
 -- `ring e f (omega arith)`
 pub ring : (e f : Expression) → plus e + minus f ≡ plus f + minus e → value e ≡ value f
 ring e f h = equal (split e) (split f) h
+
+-- ---- from x to y and on, from x by m and back
+
+pub there : (x y : ℤ) → x +ℤ (y -ℤ x) ≡ y
+there x y = ring (var x ⊕ (var y ⊖ var x)) (var y) (omega arith)
+
+pub gone : (x m : ℤ) → (x +ℤ m) -ℤ x ≡ m
+gone x m = ring (var x ⊕ var m ⊖ var x) (var m) (omega arith)

@@ -16,11 +16,15 @@ pub unique : {test : ℕ → Bool} {r s : ℕ} → Least test r → Least test s
 unique {r = r} {s = s} p q = le-antisymm (p .least s (q .passes)) (q .least r (p .passes))
 
 -- the tries suffice where the last number tried passes
-pub first-least : (test : ℕ → Bool) (tries k : ℕ) → T (test (k + tries)) → ((j : ℕ) → T (test j) → k ≤ j) → Least test (firstFrom test tries k)
+pub first-least : (test : ℕ → Bool) (tries k : ℕ) → T (test (k + tries)) → ((j : ℕ) → T (test j) → k ≤ j)
+    → Least test (firstFrom test tries k)
 unfolding firstFrom
 first-least test zero k h below = record { passes = subst (λ (n : ℕ). T (test n)) (add-zero k) h; least = below }
-first-least test (suc tries) k h below = by (test k) refl (λ above. first-least test tries (suc k) (subst (λ (n : ℕ). T (test n)) (omega arith) h) above)
+first-least test (suc tries) k h below =
+    by (test k) refl (λ above. first-least test tries (suc k) (subst (λ (n : ℕ). T (test n)) (omega arith) h) above)
   where
-    by : (b : Bool) → test k ≡ b → (((j : ℕ) → T (test j) → suc k ≤ j) → Least test (firstFrom test tries (suc k))) → Least test (cond b k (firstFrom test tries (suc k)))
+    by : (b : Bool) → test k ≡ b → (((j : ℕ) → T (test j) → suc k ≤ j) → Least test (firstFrom test tries (suc k)))
+        → Least test (cond b k (firstFrom test tries (suc k)))
     by true e later = record { passes = subst T (sym e) tt; least = below }
-    by false e later = later (λ j t. ⊎-elim (λ (q : k ≡ j). absurd (subst T e (subst (λ (n : ℕ). T (test n)) (sym q) t))) (λ (l : k < j). l) (eq-or-lt-of-le (below j t)))
+    by false e later = later (λ j t. ⊎-elim (λ (q : k ≡ j). absurd (subst T e (subst (λ (n : ℕ). T (test n)) (sym q) t)))
+        (λ (l : k < j). l) (eq-or-lt-of-le (below j t)))

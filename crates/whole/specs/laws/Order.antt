@@ -9,7 +9,7 @@ use lib.Signed.{ltZ, leZ, nonNeg, _≤ℤ_}
 use mir.Syntax.{w64}
 use mir.Val.{SFits, Fits, toZ, ofZ}
 use mir.Facts.{toZ-ofZ}
-use borrow.Author.Tests.{ltb-true, ltb-false, leb-true, leb-false, lt-ltb, le-ltb, le-leb, lt-leb}
+use borrow.Author.Tests.{ltb-true, ltb-false, leb-true, leb-false, lt-ltb, le-ltb, le-leb}
 use Rattle.whole.specs.laws.Difference.{up, down, Difference, parts, negated, added, equal, size}
 
 -- x is at most y, and x is below y, for `omega`
@@ -65,12 +65,6 @@ pub ≼-leZ : (x y : ℤ) → x ≼ y → leZ x y ≡ true
 ≼-leZ (pos a) (negsuc b) h = absurd (omega arith)
 ≼-leZ (negsuc a) (pos b) h = refl
 ≼-leZ (negsuc a) (negsuc b) h = le-leb b a (omega arith)
-
-pub ≺-leZ : (x y : ℤ) → y ≺ x → leZ x y ≡ false
-≺-leZ (pos a) (pos b) h = lt-leb a b (omega arith)
-≺-leZ (pos a) (negsuc b) h = refl
-≺-leZ (negsuc a) (pos b) h = absurd (omega arith)
-≺-leZ (negsuc a) (negsuc b) h = lt-leb b a (omega arith)
 
 pub ≺-ltZ : (x y : ℤ) → x ≺ y → ltZ x y ≡ true
 ≺-ltZ (pos a) (pos b) h = lt-ltb a b (omega arith)
@@ -128,11 +122,6 @@ abs-mul (negsuc a) (negsuc b) = refl
 -- no way between two numbers: they are the same
 pub no-way : (x y : ℤ) → natAbs (y -ℤ x) ≡ 0 → x ≡ y
 no-way x y h = equal (parts x) (parts y) (omega (arith, abs-is (y -ℤ x), added (parts y) (negated (parts x))))
-
--- a square is that of the magnitude
-pub square-is : (z : ℤ) → z *ℤ z ≡ pos (natAbs z * natAbs z)
-square-is (pos a) = refl
-square-is (negsuc a) = refl
 
 -- ---- the range of an i64
 

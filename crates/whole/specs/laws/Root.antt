@@ -35,7 +35,11 @@ least-root s =
 
 pub least-root-is : {s q : ℕ} → LeastRoot s q → q ≡ leastRoot s
 least-root-is {s} {q} r =
-    let l : Least (λ q. leb s (q * q)) q = record { passes = le→leb s (q * q) (r .above); least = λ k t. r .least k (leb→le s (k * k) t) } in
+    let l : Least (λ q. leb s (q * q)) q = record {
+      passes = le→leb s (q * q) (r .above);
+      least =
+          λ k t. r .least k (leb→le s (k * k) t);
+    } in
     unique l (first-least-root s)
 
 -- by two products: how code tests a root that it is handed
@@ -70,7 +74,11 @@ module _ (s q : ℕ) (some : 0 < q) where
       to : leb s (q * q) ≡ true → eqb q (leastRoot s) ≡ true
       to e =
           eq-eqb q (leastRoot s)
-          (least-root-is (record { above = leb-true s (q * q) e; least = λ k h. omega (arith, square-lt (q - 1) k (lt-of-lt-of-le low h)) }))
+          (least-root-is (record {
+            above = leb-true s (q * q) e;
+            least =
+                λ k h. omega (arith, square-lt (q - 1) k (lt-of-lt-of-le low h));
+          }))
 
       from : eqb q (leastRoot s) ≡ true → leb s (q * q) ≡ true
       from e = le-leb s (q * q) (rw (← eqb-true q (leastRoot s) e) at (least-root s .above))
@@ -103,7 +111,8 @@ nearest-root n some = by (nearestRoot n) (first-nearest-root n)
 
 pub nearest-root-is : {n r : ℕ} → NearestRoot n r → r ≡ nearestRoot n
 nearest-root-is {n} {r} p =
-    let l : Least (λ r. leb n (r * r + r)) r = record { passes = le→leb n (r * r + r) (p .above); least = λ k t. beyond k (leb→le n (k * k + k) t) } in
+    let l : Least (λ r. leb n (r * r + r)) r =
+    record { passes = le→leb n (r * r + r) (p .above); least = λ k t. beyond k (leb→le n (k * k + k) t) } in
     unique l (first-nearest-root n)
   where
     beyond : (k : ℕ) → n ≤ k * k + k → r ≤ k

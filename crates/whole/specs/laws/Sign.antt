@@ -8,7 +8,8 @@ use lib.Dec.{eqb}
 use borrow.Author.Tests.{eq-eqb, eqb-false}
 use mir.Syntax.{w64}
 use mir.Val.{SFits}
-use Rattle.whole.specs.Sign.{signed, partOf, joinOf, differenceOf, offsetOf}
+use Rattle.whole.specs.Sign.{signed}
+use Rattle.whole.specs.computed.Sign.{partOf, joinOf, differenceOf, offsetOf}
 use Rattle.whole.specs.laws.Difference.{up, down, Difference, parts, natural, negated, added, size-up}
 use Rattle.whole.specs.Equal.{equalZ}
 use Rattle.whole.specs.laws.Test.{refuted, equal-true}
@@ -49,11 +50,13 @@ signed-same false false (suc m) h = eq-eqb (suc m) (suc m) refl
 
 -- ---- a difference of naturals, by its sign
 
-pub part-negative : {z : ℤ} {p n : ℕ} → Difference z p n → p < n → (m : ℕ) → m + p ≡ n → record { negative = true; magnitude = m } ≡ partOf z
+pub part-negative : {z : ℤ} {p n : ℕ} → Difference z p n → p < n → (m : ℕ) → m + p ≡ n
+    → record { negative = true; magnitude = m } ≡ partOf z
 part-negative {z = pos a} h l m e = absurd (omega arith)
 part-negative {z = negsuc a} h l m e = ap (λ (t : ℕ). record { negative = true; magnitude = t }) (omega arith)
 
-pub part-positive : {z : ℤ} {p n : ℕ} → Difference z p n → n ≤ p → (m : ℕ) → m + n ≡ p → record { negative = false; magnitude = m } ≡ partOf z
+pub part-positive : {z : ℤ} {p n : ℕ} → Difference z p n → n ≤ p → (m : ℕ) → m + n ≡ p
+    → record { negative = false; magnitude = m } ≡ partOf z
 part-positive {z = pos a} h l m e = ap (λ (t : ℕ). record { negative = false; magnitude = t }) (omega arith)
 part-positive {z = negsuc a} h l m e = absurd (omega arith)
 
@@ -86,12 +89,14 @@ unfolding offsetOf
 offset-sum x f = omega (arith, size-up (added (parts x) (natural (2 ^ 63))) (omega (arith, range x f)))
 
 module _ (from to : ℤ) (from-fits : SFits w64 from) (to-fits : SFits w64 to) where
-  pub difference-down : offsetOf to < offsetOf from → record { negative = true; magnitude = offsetOf from - offsetOf to } ≡ differenceOf from to
+  pub difference-down : offsetOf to < offsetOf from
+      → record { negative = true; magnitude = offsetOf from - offsetOf to } ≡ differenceOf from to
   difference-down l =
       part-negative (added (parts to) (negated (parts from))) (omega (arith, offset-sum from from-fits, offset-sum to to-fits)) _
       (omega (arith, offset-sum from from-fits, offset-sum to to-fits))
 
-  pub difference-up : offsetOf from ≤ offsetOf to → record { negative = false; magnitude = offsetOf to - offsetOf from } ≡ differenceOf from to
+  pub difference-up : offsetOf from ≤ offsetOf to
+      → record { negative = false; magnitude = offsetOf to - offsetOf from } ≡ differenceOf from to
   difference-up l =
       part-positive (added (parts to) (negated (parts from))) (omega (arith, offset-sum from from-fits, offset-sum to to-fits)) _
       (omega (arith, offset-sum from from-fits, offset-sum to to-fits))

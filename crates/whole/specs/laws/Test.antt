@@ -2,14 +2,14 @@
 use mathlib.Core.Path.{_≡_, refl, sym, ap, subst}
 use mathlib.Core.Bool.{Bool, true, false, _&&_}
 use lib.Dec.{T, eqb}
-use lib.IntN.{ℤ, pos, negsuc, natAbs, _+ℤ_, _-ℤ_, +ℤ-invr}
+use lib.IntN.{ℤ, pos, negsuc, _+ℤ_, _-ℤ_}
 use native.Mathlib.Omega.{arith}
 use borrow.Author.Tests.{eqb-true, eq-eqb}
 use Rattle.whole.specs.Equal.{equalZ}
 use Rattle.whole.specs.laws.Difference.{ring, var, _⊕_, _⊖_}
 use mir.Syntax.{w64}
 use mir.Val.{SFits, ofZ}
-use Rattle.whole.specs.laws.Order.{no-way, bits-equal}
+use Rattle.whole.specs.laws.Order.{bits-equal}
 
 pub both : {a b : Bool} → (a && b) ≡ true → (a ≡ true) × (b ≡ true)
 both {a = true} {b = true} e = (refl, refl)
@@ -50,16 +50,6 @@ equal-moved v s m = same-test to from
 
     from : equalZ v (s +ℤ m) ≡ true → equalZ (v -ℤ s) m ≡ true
     from e = rw (equal-true v (s +ℤ m) e, ring (var s ⊕ var m ⊖ var s) (var m) (omega arith)) (equal-same m)
-
--- by the way between the two
-pub equal-way : (x y : ℤ) → eqb (natAbs (y -ℤ x)) 0 ≡ equalZ x y
-equal-way x y = same-test to from
-  where
-    to : eqb (natAbs (y -ℤ x)) 0 ≡ true → equalZ x y ≡ true
-    to e = rw (no-way x y (eqb-true _ 0 e)) (equal-same y)
-
-    from : equalZ x y ≡ true → eqb (natAbs (y -ℤ x)) 0 ≡ true
-    from e = rw (equal-true x y e) (eq-eqb _ 0 (ap natAbs (+ℤ-invr y)))
 
 -- `==` on signed numbers compares their bits
 pub equal-bits : {x y : ℤ} → SFits w64 x → SFits w64 y → eqb (ofZ w64 x) (ofZ w64 y) ≡ equalZ x y

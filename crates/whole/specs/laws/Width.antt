@@ -20,7 +20,8 @@ below-power (suc n) = omega (arith, below-power n, pow-suc 2 n)
 
 first-width : (n : ℕ) → Least (λ w. ltb n (2 ^ w)) (widthOf n)
 unfolding widthOf
-first-width n = first-least (λ w. ltb n (2 ^ w)) n 0 (lt→ltb n _ (omega (arith, below-power n, ap (λ (t : ℕ). 2 ^ t) (zero-add n)))) (λ j t. omega arith)
+first-width n = first-least (λ w. ltb n (2 ^ w)) n 0 (lt→ltb n _ (omega (arith, below-power n, ap (λ (t : ℕ). 2 ^ t) (zero-add n))))
+    (λ j t. omega arith)
 
 -- a width that holds n, and of which half the numbers are too few
 pub width-is : {n w : ℕ} → n < 2 ^ w → 2 ^ w ≤ 2 * n + 1 → w ≡ widthOf n

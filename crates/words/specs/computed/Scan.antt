@@ -21,9 +21,9 @@ use Rattle.words.specs.Meaning.{answerOf, notWords}
 -- ---- digits
 
 -- after its last byte a line has a blank more
-abbrev pub firstOf : List ℕ → ℕ
-firstOf [] = 32
-firstOf (b ∷ s) = b
+abbrev pub firstByte : List ℕ → ℕ
+firstByte [] = 32
+firstByte (b ∷ s) = b
 
 abbrev pub isDigit : ℕ → Bool
 isDigit b = cond (ltb b 48) false (leb b 57)
@@ -61,7 +61,7 @@ pointedOf w d = amount (leb 1 (d .count)) (d .value * 10 ^ (3 - d .count)) (w .c
 abbrev pub amountAfter : (fine : Bool) → Digits → (rest : List ℕ) → Amount
 amountAfter false w s = amount true (w .value) (w .count)
 amountAfter true w s =
-    cond (eqb (firstOf s) 46) (pointedOf w (digitsOf 3 (w .value) (drop 1 s))) (amount true (w .value * 1000) (w .count))
+    cond (eqb (firstByte s) 46) (pointedOf w (digitsOf 3 (w .value) (drop 1 s))) (amount true (w .value * 1000) (w .count))
 
 abbrev pub amountWith : (fine : Bool) → Digits → List ℕ → Amount
 amountWith fine w s = cond (ltb (w .count) 1) (amount false 0 0) (amountAfter fine w (drop (w .count) s))
@@ -69,44 +69,44 @@ amountWith fine w s = cond (ltb (w .count) 1) (amount false 0 0) (amountAfter fi
 abbrev pub amountOf : (fine : Bool) → List ℕ → Amount
 amountOf fine s = amountWith fine (digitsOf 7 0 s) s
 
-abbrev pub signed : Sign → Amount → Number
-signed g m = record { right = m .right; negative = g .negative; magnitude = m .value; bytes = g .bytes + m .bytes }
+abbrev pub withSign : Sign → Amount → Number
+withSign g m = record { right = m .right; negative = g .negative; magnitude = m .value; bytes = g .bytes + m .bytes }
 
 abbrev pub numberAfter : (fine : Bool) → Sign → List ℕ → Number
-numberAfter fine g s = signed g (amountOf fine (drop (g .bytes) s))
+numberAfter fine g s = withSign g (amountOf fine (drop (g .bytes) s))
 
 abbrev pub numberOf : Letter → List ℕ → Number
-numberOf l s = numberAfter (takesPoint l) (signOf (takesSign l) (firstOf s)) s
+numberOf l s = numberAfter (takesPoint l) (signOf (takesSign l) (firstByte s)) s
 
 -- ---- a line
 
 -- what a byte leads to where an item may begin: the next item after so many bytes more, with these words found; or this is no line of words
-pub data Next : Type 0 where
-  on : (skip : ℕ) → Words → Next
-  stop : Next
+pub data NextItem : Type 0 where
+  on : (skip : ℕ) → Words → NextItem
+  stop : NextItem
 
-abbrev pub numberNext : Words → Letter → Number → Next
+abbrev pub numberNext : Words → Letter → Number → NextItem
 numberNext ws l n = cond (n .right) (on (n .bytes) (putOf ws l (oneWord (n .negative) (n .magnitude)))) stop
 
-abbrev pub letterNext : Words → Named → List ℕ → Next
+abbrev pub letterNext : Words → Named → List ℕ → NextItem
 letterNext ws (Is l) s = numberNext ws l (numberOf l s)
 letterNext ws Other s = stop
 
-abbrev pub nextOf : Words → ℕ → List ℕ → Next
-nextOf ws b s = cond (eqb b 32) (on 0 ws) (letterNext ws (letterOf b) s)
+abbrev pub nextItem : Words → ℕ → List ℕ → NextItem
+nextItem ws b s = cond (eqb b 32) (on 0 ws) (letterNext ws (letterOf b) s)
 
-abbrev pub follow : Next → (ℕ → Words → Line) → Line
+abbrev pub follow : NextItem → (ℕ → Words → Line) → Line
 follow (on k ws) scan = scan k ws
 follow stop scan = notWords
 
 -- the answer from an item's begin on, after bytes that are skipped since a word has them
 abbrev pub scanOf : (skip : ℕ) → Words → List ℕ → Line
 scanOf k ws [] = answerOf true ws
-scanOf zero ws (b ∷ s) = follow (nextOf ws b s) (λ k w. scanOf k w s)
+scanOf zero ws (b ∷ s) = follow (nextItem ws b s) (λ k w. scanOf k w s)
 scanOf (suc k) ws (b ∷ s) = scanOf k ws s
 
-unfoldable pub lineOf : List ℕ → Line
-lineOf bytes = scanOf 0 noWords bytes
+unfoldable pub scanLine : List ℕ → Line
+scanLine bytes = scanOf 0 noWords bytes
 
 -- ---- the first line of a text, at its LF or at the text's end: crate `job` proves that it is the first of the lines
 

@@ -15,7 +15,7 @@ use Rattle.letters.specs.Letter.{takesPoint, unitOf}
 use Rattle.words.specs.declared.digits.Digits.{Digits}
 use Rattle.words.specs.Grammar.{digitsText, AllDigits, PointRight}
 use Rattle.words.specs.Meaning.{number, magnitudeOf}
-use Rattle.words.specs.computed.Scan.{firstOf, isDigit, digits, pushOf, moreDigits, digitsOf}
+use Rattle.words.specs.computed.Scan.{firstByte, isDigit, digits, pushOf, moreDigits, digitsOf}
 
 -- ---- a byte that is a digit
 
@@ -32,7 +32,7 @@ digit-is d h = rw (le-ltb (48 + d) 48 (omega arith), le-leb (48 + d) 57 (omega a
 -- ---- one more, and the last
 
 module _ (most : ℕ) (d : Digits) where
-  pub digits-stop : (s : List ℕ) → isDigit (firstOf s) ≡ false → moreDigits most d s ≡ d
+  pub digits-stop : (s : List ℕ) → isDigit (firstByte s) ≡ false → moreDigits most d s ≡ d
   digits-stop [] h = refl
   digits-stop (b ∷ s) h = rw h
 
@@ -40,8 +40,8 @@ module _ (most : ℕ) (d : Digits) where
   digits-full [] h = refl
   digits-full (b ∷ s) h = rw (le-ltb (d .count) most h, and-false)
 
-  pub digits-more : (s : List ℕ) → isDigit (firstOf s) ≡ true → d .count < most
-      → moreDigits most (pushOf d (firstOf s)) (drop 1 s) ≡ moreDigits most d s
+  pub digits-more : (s : List ℕ) → isDigit (firstByte s) ≡ true → d .count < most
+      → moreDigits most (pushOf d (firstByte s)) (drop 1 s) ≡ moreDigits most d s
   digits-more [] e h = absurd (false≢true e)
   digits-more (b ∷ s) e h = rw (e, lt-ltb (d .count) most h)
 
@@ -50,7 +50,7 @@ module _ (most : ℕ) (d : Digits) where
 digits-same : {v v′ k k′ : ℕ} → v ≡ v′ → k ≡ k′ → digits v k ≡ digits v′ k′
 digits-same p q = cc
 
-read-more : (most : ℕ) (d : Digits) (ds s : List ℕ) → AllDigits ds → d .count + length ds ≤ most → isDigit (firstOf s) ≡ false
+read-more : (most : ℕ) (d : Digits) (ds s : List ℕ) → AllDigits ds → d .count + length ds ≤ most → isDigit (firstByte s) ≡ false
     → moreDigits most d (digitsText ds ++ s) ≡ digits (d .value * 10 ^ length ds + number ds) (d .count + length ds)
 read-more most d [] s a few end = digits-stop most d s end ∙ digits-same (omega arith) (omega arith)
 read-more most d (n ∷ ds) s a few end =
@@ -58,7 +58,7 @@ read-more most d (n ∷ ds) s a few end =
     (read-more most (pushOf d (48 + n)) ds s (a .1) (omega arith) end
     ∙ digits-same (rw (pow-suc, add-sub-cancel-left 48 n) (omega arith)) (omega arith))
 
-pub digits-read : (most v : ℕ) (ds s : List ℕ) → AllDigits ds → length ds ≤ most → isDigit (firstOf s) ≡ false
+pub digits-read : (most v : ℕ) (ds s : List ℕ) → AllDigits ds → length ds ≤ most → isDigit (firstByte s) ≡ false
     → digitsOf most v (digitsText ds ++ s) ≡ digits (v * 10 ^ length ds + number ds) (length ds)
 digits-read most v ds s a few end = read-more most (digits v 0) ds s a (omega arith) end ∙ digits-same refl (omega arith)
 

@@ -8,7 +8,7 @@ use Rattle.letters.specs.declared.letter.Letter.the-variants.{N, G, F, X, Y, I,
 use Rattle.letters.specs.declared.word.Word.{Word}
 use Rattle.letters.specs.Word.{missingWord, oneWord, wordsBy}
 use Rattle.words.specs.Meaning.{answerOf}
-use Rattle.words.specs.computed.Scan.{lineOf}
+use Rattle.words.specs.computed.Scan.{scanLine}
 
 pub record Example : Type 0 where
   pub text : List ℕ
@@ -40,10 +40,10 @@ examples =
 
 abbrev agree : List Example → Bool
 agree [] = true
-agree (e ∷ es) = Bool·beq (lineOf (e .text) .formed) (e .formed) && agree es
+agree (e ∷ es) = Bool·beq (scanLine (e .text) .formed) (e .formed) && agree es
 
 pub examples-agree : agree examples ≡ true
-unfolding lineOf
+unfolding scanLine
 examples-agree = refl
 
 -- N20 G01 X20 Y40 F100
@@ -59,6 +59,6 @@ firstWords Y = oneWord false 40_000
 firstWords I = missingWord
 firstWords J = missingWord
 
-pub first-line : lineOf firstLine ≡ answerOf true (wordsBy firstWords)
-unfolding lineOf
+pub first-line : scanLine firstLine ≡ answerOf true (wordsBy firstWords)
+unfolding scanLine
 first-line = refl

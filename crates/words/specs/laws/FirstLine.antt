@@ -15,8 +15,9 @@ use Rattle.words.specs.declared.digits.Digits.{Digits}
 use Rattle.words.specs.declared.number.Sign.{Sign}
 use Rattle.words.specs.declared.number.Amount.{Amount}
 use Rattle.words.specs.computed.Scan.{untilLf, firstLine}
-use Rattle.words.specs.computed.Scan.{firstOf, isDigit, digits, pushOf, moreDigits, digitsOf}
-use Rattle.words.specs.computed.Scan.{sign, signOf, amount, pointedOf, amountAfter, amountWith, amountOf, signed, numberAfter, numberOf}
+use Rattle.words.specs.computed.Scan.{firstByte, isDigit, digits, pushOf, moreDigits, digitsOf}
+use Rattle.words.specs.computed.Scan.{sign, signOf, amount, pointedOf, amountAfter, amountWith, amountOf, withSign, numberAfter}
+use Rattle.words.specs.computed.Scan.{numberOf}
 
 -- ---- its bytes
 
@@ -117,12 +118,12 @@ amount-first fine s =
     ap (λ (d : Digits). amountWith fine d s) (digits-first 7 (digits 0 0) s)
     ∙ ap (λ (a : Amount). cond (ltb (w .count) 1) (amount false 0 0) a) rest
 
-sign-first : (takes : Bool) (s : List ℕ) → signOf takes (firstOf s) ≡ signOf takes (firstOf (firstLine s))
+sign-first : (takes : Bool) (s : List ℕ) → signOf takes (firstByte s) ≡ signOf takes (firstByte (firstLine s))
 unfolding firstLine
 sign-first takes [] = refl
 sign-first takes (b ∷ s) = by (eqb b 10) refl takes
   where
-    by : (lf : Bool) → eqb b 10 ≡ lf → (takes : Bool) → signOf takes b ≡ signOf takes (firstOf (untilLf lf b (firstLine s)))
+    by : (lf : Bool) → eqb b 10 ≡ lf → (takes : Bool) → signOf takes b ≡ signOf takes (firstByte (untilLf lf b (firstLine s)))
     by true e true = rw (eqb-true b 10 e)
     by true e false = refl
     by false e takes = refl
@@ -150,7 +151,7 @@ amount-short fine s = by (ltb (w .count) 1) (digits-short 7 (digits 0 0) s) (aft
     by true few h = omega arith
     by false few h = omega (arith, h, few, length-drop (w .count) s)
 
-pub sign-short : (takes : Bool) (s : List ℕ) → signOf takes (firstOf s) .bytes ≤ length s
+pub sign-short : (takes : Bool) (s : List ℕ) → signOf takes (firstByte s) .bytes ≤ length s
 sign-short false s = omega arith
 sign-short true [] = omega arith
 sign-short true (b ∷ s) = by (eqb b 45) (eqb b 43)
@@ -162,14 +163,14 @@ sign-short true (b ∷ s) = by (eqb b 45) (eqb b 43)
 
 pub number-short : (l : Letter) (s : List ℕ) → numberOf l s .bytes ≤ length s
 number-short l s =
-    let g = signOf (takesSign l) (firstOf s) in
+    let g = signOf (takesSign l) (firstByte s) in
     omega (arith, sign-short (takesSign l) s, amount-short (takesPoint l) (drop (g .bytes) s), length-drop (g .bytes) s)
 
 pub number-first : (l : Letter) (s : List ℕ) → numberOf l s ≡ numberOf l (firstLine s)
 number-first l s =
-    let g = signOf (takesSign l) (firstOf (firstLine s)) in
+    let g = signOf (takesSign l) (firstByte (firstLine s)) in
     let from : drop (g .bytes) (firstLine s) ≡ firstLine (drop (g .bytes) s) =
     first-drop (g .bytes) s (sign-short (takesSign l) (firstLine s)) in
     let rest : amountOf (takesPoint l) (drop (g .bytes) s) ≡ amountOf (takesPoint l) (drop (g .bytes) (firstLine s)) =
     amount-first (takesPoint l) (drop (g .bytes) s) ∙ ap (amountOf (takesPoint l)) (sym from) in
-    ap (λ (x : Sign). numberAfter (takesPoint l) x s) (sign-first (takesSign l) s) ∙ ap (signed g) rest
+    ap (λ (x : Sign). numberAfter (takesPoint l) x s) (sign-first (takesSign l) s) ∙ ap (withSign g) rest

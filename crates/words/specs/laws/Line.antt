@@ -20,12 +20,12 @@ use Rattle.letters.specs.laws.Letter.{letter-of, letter-byte}
 use Rattle.words.specs.declared.line.Line.{Line}
 use Rattle.words.specs.Grammar.{Item, blank, word, lineText, RightLine, LineOfWords}
 use Rattle.words.specs.Meaning.{isMinus, magnitudeOf, answerOf, notWords}
-use Rattle.words.specs.computed.Scan.{numberOf, Next, on, nextOf, numberNext, follow, scanOf}
-use Rattle.words.specs.laws.Number.{Ends, numberText, number-read, number-in}
+use Rattle.words.specs.computed.Scan.{numberOf, NextItem, on, nextItem, numberNext, follow, scanOf}
+use Rattle.words.specs.laws.Number.{NumberEnds, numberText, number-read, number-in}
 use Rattle.words.specs.laws.Words.{gather}
 
 -- the answer where the bytes s are left
-abbrev pub goOn : List ℕ → Next → Line
+abbrev pub goOn : List ℕ → NextItem → Line
 goOn s x = follow x (λ k ws. scanOf k ws s)
 
 pub scan-skip : (k : ℕ) (ws : Words) (s : List ℕ) → scanOf k ws s ≡ scanOf 0 ws (drop k s)
@@ -35,7 +35,7 @@ scan-skip (suc k) ws (b ∷ s) = scan-skip k ws s
 
 -- ---- right items are read
 
-letter-ends : (l : Letter) (s : List ℕ) → Ends (letterByte l ∷ s)
+letter-ends : (l : Letter) (s : List ℕ) → NumberEnds (letterByte l ∷ s)
 letter-ends N s = record { digit = refl; point = refl }
 letter-ends G s = record { digit = refl; point = refl }
 letter-ends F s = record { digit = refl; point = refl }
@@ -44,7 +44,7 @@ letter-ends Y s = record { digit = refl; point = refl }
 letter-ends I s = record { digit = refl; point = refl }
 letter-ends J s = record { digit = refl; point = refl }
 
-end-of-lines : (is : List Item) → Ends (lineText is)
+end-of-lines : (is : List Item) → NumberEnds (lineText is)
 end-of-lines [] = record { digit = refl; point = refl }
 end-of-lines (blank ∷ is) = record { digit = refl; point = refl }
 end-of-lines (word l sg w f ∷ is) = letter-ends l _
@@ -65,7 +65,7 @@ items-read (word l sg w f ∷ is) ws r =
     let t = numberText sg w f in
     let after = putOf ws l (oneWord (isMinus sg) (magnitudeOf l w f)) in
     let n = number-read l sg w f (lineText is) (r .0) (end-of-lines is) in
-    let e : nextOf ws (letterByte l) (t ++ lineText is) ≡ on (length t) after = rw (no-blank l, letter-of l) (ap (numberNext ws l) n) in
+    let e : nextItem ws (letterByte l) (t ++ lineText is) ≡ on (length t) after = rw (no-blank l, letter-of l) (ap (numberNext ws l) n) in
     ap (goOn (t ++ lineText is)) e
     ∙ scan-skip (length t) after (t ++ lineText is)
     ∙ rw (drop-append-seam t (lineText is)) (items-read is after (r .1))
@@ -102,11 +102,11 @@ module _ (ws : Words) (b : ℕ) (s : List ℕ) (known : (k : ℕ) (v : Words) �
   word-answered l true e = rw e (with-more (more-word l s e) (known _ _))
   word-answered l false e = inr (rw e)
 
-  named-answered : (n : Named) → letterOf b ≡ n → eqb b 32 ≡ false → Answered (b ∷ s) (goOn s (nextOf ws b s))
+  named-answered : (n : Named) → letterOf b ≡ n → eqb b 32 ≡ false → Answered (b ∷ s) (goOn s (nextItem ws b s))
   named-answered (Is l) e g = rw (g, e) (rw (letter-byte b l e) (word-answered l (numberOf l s .right) refl))
   named-answered Other e g = inr (rw (g, e))
 
-  next-answered : (x : Bool) → eqb b 32 ≡ x → Answered (b ∷ s) (goOn s (nextOf ws b s))
+  next-answered : (x : Bool) → eqb b 32 ≡ x → Answered (b ∷ s) (goOn s (nextItem ws b s))
   next-answered true e = rw e (rw (eqb-true b 32 e) (with-more (more-blank s) (known 0 ws)))
   next-answered false e = named-answered (letterOf b) refl e
 

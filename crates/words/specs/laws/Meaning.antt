@@ -15,8 +15,8 @@ use Rattle.letters.specs.laws.Letter.{letter-of}
 use Rattle.letters.specs.laws.Put.{at-by}
 use Rattle.words.specs.declared.line.Line.{Line}
 use Rattle.words.specs.Grammar.{Item, blank, word, RightLine, LineOfWords}
-use Rattle.words.specs.Meaning.{magnitudeOf, isMinus, Value, missing, one, twice, andThen, says, wordOf, saidBy, notWords, Means}
-use Rattle.words.specs.computed.Scan.{lineOf, firstLine}
+use Rattle.words.specs.Meaning.{magnitudeOf, isMinus, Value, missing, one, twice, andThen, says, wordSaying, notWords, Means}
+use Rattle.words.specs.computed.Scan.{scanLine, firstLine}
 use Rattle.words.specs.computed.Meaning.{meaningBy, meaningOf}
 use Rattle.words.specs.laws.Digits.{magnitude-below}
 use Rattle.words.specs.laws.Reading.{line-means, means-unique, line-or-not}
@@ -37,8 +37,8 @@ meaning-means s = by (line-or-not s)
         }
     by (no none) = record { formed = λ e. absurd (false≢true e); said = λ w. absurd (none w); refused = λ _. refl }
 
-pub scan-means : (s : List ℕ) → lineOf s ≡ meaningOf s
-scan-means s = means-unique s (lineOf s) (meaningOf s) (line-means s) (meaning-means s)
+pub scan-means : (s : List ℕ) → scanLine s ≡ meaningOf s
+scan-means s = means-unique s (scanLine s) (meaningOf s) (line-means s) (meaning-means s)
 
 -- ---- how large the numbers are
 
@@ -57,7 +57,8 @@ then-below b n m missing h = h
 then-below b n m (one k j) h = tt
 then-below b n m twice h = tt
 
-word-below : (found : Bool) (b : ℕ) (n : Bool) (m : ℕ) (v : Value) → (found ≡ true → m < b) → Below b v → Below b (cond found (andThen n m v) v)
+word-below : (found : Bool) (b : ℕ) (n : Bool) (m : ℕ) (v : Value) → (found ≡ true → m < b) → Below b v
+    → Below b (cond found (andThen n m v) v)
 word-below true b n m v h g = then-below b n m v (h refl)
 word-below false b n m v h g = g
 
@@ -74,15 +75,16 @@ some-unit : (takes : Bool) → 0 < 10 ^ 7 * cond takes 1000 1
 some-unit true = omega arith
 some-unit false = omega arith
 
-value-below : (l : Letter) (v : Value) → Below (10 ^ 7 * unitOf l) v → wordOf v .magnitude < 10 ^ 7 * unitOf l
+value-below : (l : Letter) (v : Value) → Below (10 ^ 7 * unitOf l) v → wordSaying v .magnitude < 10 ^ 7 * unitOf l
 value-below l missing h = some-unit (takesPoint l)
 value-below l (one n m) h = h
 value-below l twice h = some-unit (takesPoint l)
 
-means-below : (s : List ℕ) (r : Line) → Means s r → (formed : Bool) → r .formed ≡ formed → (l : Letter) → wordAt (r .words) l .magnitude < 10 ^ 7 * unitOf l
+means-below : (s : List ℕ) (r : Line) → Means s r → (formed : Bool) → r .formed ≡ formed → (l : Letter)
+    → wordAt (r .words) l .magnitude < 10 ^ 7 * unitOf l
 means-below s r m true e l =
     let w = m .formed e in
-    rw (m .said w, at-by (λ k. wordOf (says k (w .items))) l) (value-below l (says l (w .items)) (says-below l (w .items) (w .right)))
+    rw (m .said w, at-by (λ k. wordSaying (says k (w .items))) l) (value-below l (says l (w .items)) (says-below l (w .items) (w .right)))
 means-below s r m false e l = rw (m .refused e, at-by (λ k. missingWord) l) (some-unit (takesPoint l))
 
 -- thousandths are below 10 ^ 10, and the number of a letter without a point below 10 ^ 7

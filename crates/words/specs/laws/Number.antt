@@ -16,8 +16,8 @@ use Rattle.words.specs.declared.number.Number.{Number}
 use Rattle.words.specs.Grammar.{Sign, unsigned, plus, minus, signText, digitsText, decimalsText}
 use Rattle.words.specs.Grammar.{AllDigits, SignRight, PointRight, RightWord}
 use Rattle.words.specs.Meaning.{number, magnitudeOf, isMinus}
-use Rattle.words.specs.computed.Scan.{firstOf, isDigit, digits, digitsOf, sign, signOf}
-use Rattle.words.specs.computed.Scan.{amount, pointedOf, amountAfter, amountWith, amountOf, signed, numberAfter, numberOf}
+use Rattle.words.specs.computed.Scan.{firstByte, isDigit, digits, digitsOf, sign, signOf}
+use Rattle.words.specs.computed.Scan.{amount, pointedOf, amountAfter, amountWith, amountOf, withSign, numberAfter, numberOf}
 use Rattle.words.specs.laws.Digits.{digits-in, digits-read, in-thousandths}
 
 -- ---- what is written is read
@@ -27,9 +27,9 @@ abbrev pub numberText : Sign → (whole decimals : List ℕ) → List ℕ
 numberText sg w f = signText sg ++ (digitsText w ++ decimalsText f)
 
 -- what follows a number is no part of it
-pub record Ends (s : List ℕ) : Type 0 where
-  pub digit : isDigit (firstOf s) ≡ false
-  pub point : eqb (firstOf s) 46 ≡ false
+pub record NumberEnds (s : List ℕ) : Type 0 where
+  pub digit : isDigit (firstByte s) ≡ false
+  pub point : eqb (firstByte s) 46 ≡ false
 
 digits-length : (ds : List ℕ) → length (digitsText ds) ≡ length ds
 digits-length [] = refl
@@ -42,23 +42,23 @@ amount-same p q = cc
 abbrev inUnits : (fine : Bool) → ℕ → (decimals : List ℕ) → ℕ
 inUnits fine n f = n * cond fine 1000 1 + number f * 10 ^ (3 - length f)
 
-pointed-read : (n k : ℕ) (f s : List ℕ) → 1 ≤ length f → AllDigits f → length f ≤ 3 → Ends s
+pointed-read : (n k : ℕ) (f s : List ℕ) → 1 ≤ length f → AllDigits f → length f ≤ 3 → NumberEnds s
     → pointedOf (digits n k) (digitsOf 3 n (digitsText f ++ s)) ≡ amount true (inUnits true n f) (k + (1 + length f))
 pointed-read n k f s some a few end =
     rw (digits-read 3 n f s a few (end .digit), le-leb 1 (length f) some) (amount-same (in-thousandths n f few) (omega arith))
 
-after-read : (fine : Bool) (n k : ℕ) (f s : List ℕ) → AllDigits f → length f ≤ 3 → PointRight fine f → Ends s
+after-read : (fine : Bool) (n k : ℕ) (f s : List ℕ) → AllDigits f → length f ≤ 3 → PointRight fine f → NumberEnds s
     → amountAfter fine (digits n k) (decimalsText f ++ s) ≡ amount true (inUnits fine n f) (k + length (decimalsText f))
 after-read false n k f s a few p end = rw p (amount-same (omega arith) (omega arith))
 after-read true n k [] s a few p end = rw (end .point) (amount-same (omega arith) (omega arith))
 after-read true n k (d ∷ f) s a few p end =
     pointed-read n k (d ∷ f) s (omega arith) a few end ∙ amount-same refl (rw (digits-length f) (omega arith))
 
-no-digit : (f s : List ℕ) → Ends s → isDigit (firstOf (decimalsText f ++ s)) ≡ false
+no-digit : (f s : List ℕ) → NumberEnds s → isDigit (firstByte (decimalsText f ++ s)) ≡ false
 no-digit [] s end = end .digit
 no-digit (d ∷ f) s end = refl
 
-amount-read : (l : Letter) (sg : Sign) (w f s : List ℕ) → RightWord l sg w f → Ends s
+amount-read : (l : Letter) (sg : Sign) (w f s : List ℕ) → RightWord l sg w f → NumberEnds s
     → amountOf (takesPoint l) (digitsText w ++ (decimalsText f ++ s))
     ≡ amount true (magnitudeOf l w f) (length (digitsText w ++ decimalsText f))
 amount-read l sg w f s r end =
@@ -80,7 +80,7 @@ no-sign true d = rw (ne-eqb (48 + d) 45 (λ e. omega arith), ne-eqb (48 + d) 43 
 no-sign false d = refl
 
 sign-read : (takes : Bool) (sg : Sign) (w s : List ℕ) → SignRight takes sg → 1 ≤ length w
-    → signOf takes (firstOf (signText sg ++ (digitsText w ++ s))) ≡ sign (isMinus sg) (length (signText sg))
+    → signOf takes (firstByte (signText sg ++ (digitsText w ++ s))) ≡ sign (isMinus sg) (length (signText sg))
 sign-read takes sg [] s r some = absurd (omega arith)
 sign-read takes unsigned (d ∷ w) s r some = no-sign takes d
 sign-read takes plus (d ∷ w) s r some = rw (has-sign takes plus r (λ e. let y : _≡_ {A = ℕ} 0 1 = cc e in omega arith))
@@ -90,7 +90,7 @@ sign-read takes minus (d ∷ w) s r some = rw (has-sign takes minus r (λ e. let
 abbrev pub rightNumber : Letter → Sign → (whole decimals : List ℕ) → Number
 rightNumber l sg w f = record { right = true; negative = isMinus sg; magnitude = magnitudeOf l w f; bytes = length (numberText sg w f) }
 
-pub number-read : (l : Letter) (sg : Sign) (w f s : List ℕ) → RightWord l sg w f → Ends s
+pub number-read : (l : Letter) (sg : Sign) (w f s : List ℕ) → RightWord l sg w f → NumberEnds s
     → numberOf l (numberText sg w f ++ s) ≡ rightNumber l sg w f
 number-read l sg w f s r end =
     let t = digitsText w ++ (decimalsText f ++ s) in
@@ -98,14 +98,14 @@ number-read l sg w f s r end =
     simp append-assoc
     (ap (λ (g : SignRead). numberAfter (takesPoint l) g (signText sg ++ t)) e
     ∙ rw (drop-append-seam (signText sg) t, length-append (signText sg) (digitsText w ++ decimalsText f))
-    (ap (signed (sign (isMinus sg) (length (signText sg)))) (amount-read l sg w f s r end)))
+    (ap (withSign (sign (isMinus sg) (length (signText sg)))) (amount-read l sg w f s r end)))
 
 -- ---- what is read is written
 
 record SignIn (takes : Bool) (s : List ℕ) : Type 0 where
   sg : Sign
   right : SignRight takes sg
-  text : signText sg ++ drop (signOf takes (firstOf s) .bytes) s ≡ s
+  text : signText sg ++ drop (signOf takes (firstByte s) .bytes) s ≡ s
 
 sign-in : (takes : Bool) (s : List ℕ) → SignIn takes s
 sign-in false s = record { sg = unsigned; right = refl; text = refl }
@@ -203,7 +203,7 @@ pub record NumberIn (l : Letter) (s : List ℕ) : Type 0 where
 
 pub number-in : (l : Letter) (s : List ℕ) → numberOf l s .right ≡ true → NumberIn l s
 number-in l s h =
-    let g = signOf (takesSign l) (firstOf s) in
+    let g = signOf (takesSign l) (firstByte s) in
     let a = sign-in (takesSign l) s in
     let t = drop (g .bytes) s in
     let r = amount-in (takesPoint l) t h in

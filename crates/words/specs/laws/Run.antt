@@ -22,9 +22,9 @@ use Rattle.words.specs.declared.number.Sign.{Sign}
 use Rattle.words.specs.declared.number.Amount.{Amount}
 use Rattle.words.specs.declared.number.Number.{Number}
 use Rattle.words.specs.Meaning.{answerOf, notWords}
-use Rattle.words.specs.computed.Scan.{firstOf, isDigit, digits, pushOf, moreDigits, digitsOf, Sized}
-use Rattle.words.specs.computed.Scan.{sign, signOf, amount, pointedOf, amountAfter, amountOf, signed, numberOf}
-use Rattle.words.specs.computed.Scan.{numberNext, letterNext, nextOf, scanOf, lineOf}
+use Rattle.words.specs.computed.Scan.{firstByte, isDigit, digits, pushOf, moreDigits, digitsOf, Sized}
+use Rattle.words.specs.computed.Scan.{sign, signOf, amount, pointedOf, amountAfter, amountOf, withSign, numberOf}
+use Rattle.words.specs.computed.Scan.{numberNext, letterNext, nextItem, scanOf, scanLine}
 use Rattle.words.specs.laws.Digits.{digit-byte, digits-stop, digits-full, digits-more}
 use Rattle.words.specs.laws.Line.{goOn, scan-skip}
 
@@ -41,16 +41,16 @@ counted-start s from most value h =
     record { read = rw e; sized = record { within = omega arith; few = omega arith; low = omega arith } }
 
 -- a digit is no blank after the end
-some-left : (s : List ℕ) → isDigit (firstOf s) ≡ true → 1 ≤ length s
+some-left : (s : List ℕ) → isDigit (firstByte s) ≡ true → 1 ≤ length s
 some-left [] e = absurd (false≢true e)
 some-left (b ∷ s) e = omega arith
 
 module _ {s : List ℕ} {from most value : ℕ} {d : Digits} (r : Counted s from most value d) where
-  pub counted-next : (b : ℕ) → b ≡ firstOf (drop (from + d .count) s) → isDigit b ≡ true → d .count < most
+  pub counted-next : (b : ℕ) → b ≡ firstByte (drop (from + d .count) s) → isDigit b ≡ true → d .count < most
       → Counted s from most value (pushOf d b)
   counted-next b e g h =
       let t = drop (from + d .count) s in
-      let x : isDigit (firstOf t) ≡ true = rw (← e) g in
+      let x : isDigit (firstByte t) ≡ true = rw (← e) g in
       let q : from + d .count + 1 ≡ from + (d .count + 1) = omega arith in
       let y : drop 1 t ≡ drop (from + (d .count + 1)) s = drop-drop 1 (from + d .count) s ∙ ap (λ (n : ℕ). drop n s) q in
       let k : 1 ≤ length t = some-left t x in
@@ -63,7 +63,7 @@ module _ {s : List ℕ} {from most value : ℕ} {d : Digits} (r : Counted s from
         };
       }
 
-  pub counted-stop : (b : ℕ) → b ≡ firstOf (drop (from + d .count) s) → isDigit b ≡ false → d ≡ digitsOf most value (drop from s)
+  pub counted-stop : (b : ℕ) → b ≡ firstByte (drop (from + d .count) s) → isDigit b ≡ false → d ≡ digitsOf most value (drop from s)
   counted-stop b e g = sym (digits-stop most d (drop (from + d .count) s) (rw (← e) g)) ∙ r .read
 
   pub counted-full : most ≤ d .count → d ≡ digitsOf most value (drop from s)
@@ -91,11 +91,11 @@ whole-below {s} {from} {d} z = let p : 10 ^ d .count ≤ 10 ^ 7 = pow-le-pow-rig
 -- ---- a number
 
 -- a byte that is no blank is not past the end
-left : (s : List ℕ) → (firstOf s ≡ 32 → ⊥) → 1 ≤ length s
+left : (s : List ℕ) → (firstByte s ≡ 32 → ⊥) → 1 ≤ length s
 left [] h = absurd (h refl)
 left (b ∷ s) h = omega arith
 
-pub byte-left : (s : List ℕ) (i b : ℕ) → b ≡ firstOf (drop i s) → (b ≡ 32 → ⊥) → i + 1 ≤ length s
+pub byte-left : (s : List ℕ) (i b : ℕ) → b ≡ firstByte (drop i s) → (b ≡ 32 → ⊥) → i + 1 ≤ length s
 byte-left s i b e h = omega (arith, length-drop i s, left (drop i s) (λ q. h (e ∙ q)))
 
 module _ (s : List ℕ) (from : ℕ) (w : Digits) (e : w ≡ digitsOf 7 0 (drop from s)) where
@@ -109,7 +109,7 @@ module _ (s : List ℕ) (from : ℕ) (w : Digits) (e : w ≡ digitsOf 7 0 (drop 
     pub amount-plain : amount true (w .value) (w .count) ≡ amountOf false (drop from s)
     amount-plain = after false
 
-    module _ (b : ℕ) (g : b ≡ firstOf (drop (from + w .count) s)) where
+    module _ (b : ℕ) (g : b ≡ firstByte (drop (from + w .count) s)) where
       pub amount-whole : (b ≡ 46 → ⊥) → amount true (w .value * 1000) (w .count) ≡ amountOf true (drop from s)
       amount-whole h = rw (← after true, ← g, ne-eqb b 46 h)
 
@@ -132,8 +132,8 @@ sign-read b = by (eqb b 45) refl (eqb b 43) refl
     by false e true g = refl
     by false e false g = refl
 
-pub number-is : (s : List ℕ) (from : ℕ) (l : Letter) (g : Sign) (m : Amount) → g ≡ signOf (takesSign l) (firstOf (drop from s))
-    → m ≡ amountOf (takesPoint l) (drop (from + g .bytes) s) → signed g m ≡ numberOf l (drop from s)
+pub number-is : (s : List ℕ) (from : ℕ) (l : Letter) (g : Sign) (m : Amount) → g ≡ signOf (takesSign l) (firstByte (drop from s))
+    → m ≡ amountOf (takesPoint l) (drop (from + g .bytes) s) → withSign g m ≡ numberOf l (drop from s)
 number-is s from l g m h q = rw (← h, drop-drop (g .bytes) from s, ← q)
 
 -- ---- a line
@@ -141,18 +141,18 @@ number-is s from l g m h q = rw (← h, drop-drop (g .bytes) from s, ← q)
 -- the words so far, and what the scan finds from the byte i on, are its answer
 pub record Scanned (s : List ℕ) (ws : Words) (i : ℕ) : Type 0 where
   pub within : i ≤ length s
-  pub line : scanOf 0 ws (drop i s) ≡ lineOf s
+  pub line : scanOf 0 ws (drop i s) ≡ scanLine s
 
 pub scanned-start : (s : List ℕ) → Scanned s noWords 0
-unfolding lineOf
+unfolding scanLine
 scanned-start s = record { within = omega arith; line = refl }
 
-pub scanned-end : {s : List ℕ} {ws : Words} {i : ℕ} → Scanned s ws i → length s ≤ i → answerOf true ws ≡ lineOf s
+pub scanned-end : {s : List ℕ} {ws : Words} {i : ℕ} → Scanned s ws i → length s ≤ i → answerOf true ws ≡ scanLine s
 scanned-end {s} r h = rw (drop-of-length-le s h) at (r .line)
 
 -- one byte more
 module _ {s : List ℕ} {ws : Words} {i : ℕ} (r : Scanned s ws i) (h : i < length s) where
-  next : goOn (drop (i + 1) s) (nextOf ws (getD s i 0) (drop (i + 1) s)) ≡ lineOf s
+  next : goOn (drop (i + 1) s) (nextItem ws (getD s i 0) (drop (i + 1) s)) ≡ scanLine s
   next =
       let e : drop i s ≡ getD s i 0 ∷ drop (i + 1) s = rw add-one (drop-cons s i 0 h) in
       rw e at (r .line)
@@ -161,18 +161,18 @@ module _ {s : List ℕ} {ws : Words} {i : ℕ} (r : Scanned s ws i) (h : i < len
   scanned-blank e = record { within = omega arith; line = rw (eq-eqb (getD s i 0) 32 e) at next }
 
   module _ (g : getD s i 0 ≡ 32 → ⊥) where
-    named : (n : Named) → letterOf (getD s i 0) ≡ n → goOn (drop (i + 1) s) (letterNext ws n (drop (i + 1) s)) ≡ lineOf s
+    named : (n : Named) → letterOf (getD s i 0) ≡ n → goOn (drop (i + 1) s) (letterNext ws n (drop (i + 1) s)) ≡ scanLine s
     named n e = rw (ne-eqb (getD s i 0) 32 g, e) at next
 
-    pub scanned-other : letterOf (getD s i 0) ≡ Other → notWords ≡ lineOf s
+    pub scanned-other : letterOf (getD s i 0) ≡ Other → notWords ≡ scanLine s
     scanned-other e = named Other e
 
     -- a letter, and its number
     module _ (l : Letter) (e : letterOf (getD s i 0) ≡ Is l) (n : Number) (q : n ≡ numberOf l (drop (i + 1) s)) where
-      numbered : goOn (drop (i + 1) s) (numberNext ws l n) ≡ lineOf s
+      numbered : goOn (drop (i + 1) s) (numberNext ws l n) ≡ scanLine s
       numbered = ap (λ (x : Number). goOn (drop (i + 1) s) (numberNext ws l x)) q ∙ named (Is l) e
 
-      pub scanned-wrong : n .right ≡ false → notWords ≡ lineOf s
+      pub scanned-wrong : n .right ≡ false → notWords ≡ scanLine s
       scanned-wrong p = rw p at numbered
 
       pub scanned-word : n .right ≡ true → i + 1 + n .bytes ≤ length s

@@ -19,7 +19,7 @@ use Rattle.letters.specs.laws.Put.{Gathered}
 use Rattle.letters.specs.Word.{oneWord}
 use Rattle.words.specs.declared.number.Number.{Number}
 use Rattle.words.specs.Meaning.{answerOf, notWords}
-use Rattle.words.specs.computed.Scan.{numberOf, on, numberNext, letterNext, nextOf, scanOf, lineOf, untilLf, firstLine}
+use Rattle.words.specs.computed.Scan.{numberOf, on, numberNext, letterNext, nextItem, scanOf, scanLine, untilLf, firstLine}
 use Rattle.words.specs.laws.Line.{goOn}
 use Rattle.words.specs.laws.Run.{Scanned, scanned-end, scanned-blank, scanned-other, scanned-wrong, scanned-word}
 use Rattle.words.specs.laws.FirstLine.{first-drop, first-more, end-later, number-first, number-short}
@@ -37,7 +37,7 @@ line-left s i h =
 
 module _ (s : List ℕ) {ws : Words} {i : ℕ} (r : Scanned (firstLine s) ws i) where
   -- at an LF, or at the text's end
-  pub line-over : length (firstLine (drop i s)) ≡ 0 → (answerOf true ws ≡ lineOf (firstLine s)) × (i ≡ length (firstLine s))
+  pub line-over : length (firstLine (drop i s)) ≡ 0 → (answerOf true ws ≡ scanLine (firstLine s)) × (i ≡ length (firstLine s))
   line-over e =
       let whole : i ≡ length (firstLine s) = omega (arith, e, line-left s i (r .within)) in
       (scanned-end r (omega (arith, whole)), whole)
@@ -60,14 +60,14 @@ module _ (s : List ℕ) {ws : Words} {i : ℕ} (r : Scanned (firstLine s) ws i) 
       letter : getD (firstLine s) i 0 ≡ 32 → ⊥
       letter e = g (sym byte ∙ e)
 
-      pub line-other : letterOf (getD s i 0) ≡ Other → notWords ≡ lineOf (firstLine s)
+      pub line-other : letterOf (getD s i 0) ≡ Other → notWords ≡ scanLine (firstLine s)
       line-other e = scanned-other r inside letter (ap letterOf byte ∙ e)
 
       module _ (l : Letter) (e : letterOf (getD s i 0) ≡ Is l) (n : Number) (q : n ≡ numberOf l (drop (i + 1) s)) where
         number : n ≡ numberOf l (drop (i + 1) (firstLine s))
         number = q ∙ number-first l (drop (i + 1) s) ∙ ap (numberOf l) (sym (first-drop (i + 1) s (omega (arith, inside))))
 
-        pub line-wrong : n .right ≡ false → notWords ≡ lineOf (firstLine s)
+        pub line-wrong : n .right ≡ false → notWords ≡ scanLine (firstLine s)
         line-wrong p = scanned-wrong r inside letter l (ap letterOf byte ∙ e) n number p
 
         within : i + 1 + n .bytes ≤ length (firstLine s)
@@ -106,7 +106,7 @@ module _ (ws : Words) (b : ℕ) (s : List ℕ) (further : (k : ℕ) (v : Words) 
   blank-broken true = further 0 ws (omega arith)
   blank-broken false = named-broken (letterOf b) refl
 
-  next-broken : goOn s (nextOf ws b s) ≡ notWords
+  next-broken : goOn s (nextItem ws b s) ≡ notWords
   next-broken = blank-broken (eqb b 32)
 
 -- a scan that comes to an LF: no word begins with it, and none goes on over it
@@ -117,7 +117,7 @@ broken zero ws (b ∷ s) few more = by (eqb b 10) refl more (λ k v. broken k v 
   where
     by : (lf : Bool) → eqb b 10 ≡ lf → length (untilLf lf b (firstLine s)) < suc (length s)
         → ((k : ℕ) (v : Words) → k ≤ length (firstLine s) → length (firstLine s) < length s → scanOf k v s ≡ notWords)
-        → goOn s (nextOf ws b s) ≡ notWords
+        → goOn s (nextItem ws b s) ≡ notWords
     by true e less further = rw (eqb-true b 10 e)
     by false e less further = next-broken ws b s (λ k v few. further k v few (omega arith))
 broken (suc k) ws (b ∷ s) few more = by (eqb b 10) few more (broken k ws s)
@@ -127,6 +127,6 @@ broken (suc k) ws (b ∷ s) few more = by (eqb b 10) few more (broken k ws s)
     by true few less further = absurd (omega arith)
     by false few less further = further (omega arith) (omega arith)
 
-pub line-broken : (s : List ℕ) → length (firstLine s) < length s → notWords ≡ lineOf s
-unfolding lineOf
+pub line-broken : (s : List ℕ) → length (firstLine s) < length s → notWords ≡ scanLine s
+unfolding scanLine
 line-broken s more = sym (broken 0 noWords s (omega arith) more)

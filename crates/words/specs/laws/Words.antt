@@ -9,7 +9,7 @@ use Rattle.letters.specs.declared.word.Words.{Words}
 use Rattle.words.specs.Grammar.{Item, blank, word}
 use Rattle.letters.specs.Letter.{same}
 use Rattle.letters.specs.Word.{missingWord, oneWord, twiceWord, wordAt, wordsBy}
-use Rattle.words.specs.Meaning.{isMinus, magnitudeOf, Value, missing, one, twice, andThen, says, wordOf}
+use Rattle.words.specs.Meaning.{isMinus, magnitudeOf, Value, missing, one, twice, andThen, says, wordSaying}
 use Rattle.letters.specs.laws.Scan.{noWords, moreOf, putOf}
 use Rattle.letters.specs.laws.Put.{at-by, words-same}
 
@@ -36,7 +36,8 @@ join-then w n m missing = refl
 join-then w n m (one k j) = join-more (w .stands) n k m j
 join-then w n m twice = refl
 
-join-put : (found : Bool) (w : Word) (n : Bool) (m : ℕ) (v : Value) → join (cond found (moreOf w (oneWord n m)) w) v ≡ join w (cond found (andThen n m v) v)
+join-put : (found : Bool) (w : Word) (n : Bool) (m : ℕ) (v : Value)
+    → join (cond found (moreOf w (oneWord n m)) w) v ≡ join w (cond found (andThen n m v) v)
 join-put true w n m v = join-then w n m v
 join-put false w n m v = refl
 
@@ -45,15 +46,16 @@ gather-says [] ws l = refl
 gather-says (blank ∷ is) ws l = gather-says is ws l
 gather-says (word k s w f ∷ is) ws l =
     gather-says is (putOf ws k (oneWord (isMinus s) (magnitudeOf k w f))) l
-    ∙ ap (λ (x : Word). join x (says l is)) (at-by (λ i. cond (same i k) (moreOf (wordAt ws i) (oneWord (isMinus s) (magnitudeOf k w f))) (wordAt ws i)) l)
+    ∙ ap (λ (x : Word). join x (says l is)) (at-by
+    (λ i. cond (same i k) (moreOf (wordAt ws i) (oneWord (isMinus s) (magnitudeOf k w f))) (wordAt ws i)) l)
     ∙ join-put (same l k) (wordAt ws l) (isMinus s) (magnitudeOf k w f) (says l is)
 
-join-missing : (v : Value) → join missingWord v ≡ wordOf v
+join-missing : (v : Value) → join missingWord v ≡ wordSaying v
 join-missing missing = refl
 join-missing (one n m) = refl
 join-missing twice = refl
 
-pub gathered : (is : List Item) → gather noWords is ≡ wordsBy (λ l. wordOf (says l is))
+pub gathered : (is : List Item) → gather noWords is ≡ wordsBy (λ l. wordSaying (says l is))
 gathered is =
-    words-same (wordAt (gather noWords is)) (λ l. wordOf (says l is))
+    words-same (wordAt (gather noWords is)) (λ l. wordSaying (says l is))
     (λ l. gather-says is noWords l ∙ ap (λ (x : Word). join x (says l is)) (at-by (λ k. missingWord) l) ∙ join-missing (says l is))

@@ -12,20 +12,24 @@ is-same-requires : tie.Need-is-same-requires
 is-same-requires c κs = search needs
 
 cycle-byte-requires : tie.Need-cycle-byte-requires
-cycle-byte-requires c κs = let s = c .before .before .before .before .before in arc-codes (s .before .args .at) (s .before .args .a) (s .step .ensures)
+cycle-byte-requires c κs = let s = c .before .before .before .before .before in
+    arc-codes (s .before .args .at) (s .before .args .a) (s .step .ensures)
 
 returns : tie.Need-returns
 returns c =
     let s = c .before .before .before .before .before .before in
-    arc-cycle (s .before .args .at) (s .before .args .a) (s .step .ensures) (sym (c .before .before .is-same .ensures) ∙ c .before .if1 .taken) (c .cycle-byte .ensures)
+    arc-cycle (s .before .args .at) (s .before .args .a) (s .step .ensures)
+    (sym (c .before .before .is-same .ensures) ∙ c .before .if1 .taken) (c .cycle-byte .ensures)
 
 cycle-byte-requires-2 : tie.Need-cycle-byte-requires-2
-cycle-byte-requires-2 c κs = let s = c .before .before .before .before .before in arc-codes (s .before .args .at) (s .before .args .a) (s .step .ensures)
+cycle-byte-requires-2 c κs = let s = c .before .before .before .before .before in
+    arc-codes (s .before .args .at) (s .before .args .a) (s .step .ensures)
 
 returns-2 : tie.Need-returns-2
 returns-2 c =
     let s = c .before .before .before .before .before .before in
-    arc-cycle (s .before .args .at) (s .before .args .a) (s .step .ensures) (sym (c .before .before .is-same .ensures) ∙ c .before .if1 .left) (c .cycle-byte2 .ensures)
+    arc-cycle (s .before .args .at) (s .before .args .a) (s .step .ensures)
+    (sym (c .before .before .is-same .ensures) ∙ c .before .if1 .left) (c .cycle-byte2 .ensures)
 
 pub arc-cycle-spec : {M : Type 1} → statement M
 arc-cycle-spec =

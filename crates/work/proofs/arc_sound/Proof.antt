@@ -22,7 +22,8 @@ returns-3 c =
     let e2 = c .before in
     let e1 = e2 .before .before in
     c .is-at .ensures
-    ∙ same-test (λ t. arc-sound (record { feed = record { some = e1 .if1 .left; most = e2 .if2 .left }; arc = arc-at t })) (λ t. arc-test (arc-work t .arc))
+    ∙ same-test (λ t. arc-sound (record { feed = record { some = e1 .if1 .left; most = e2 .if2 .left }; arc = arc-at t }))
+    (λ t. arc-test (arc-work t .arc))
 
 pub arc-sound-spec : {M : Type 1} → statement M
 arc-sound-spec = tie.close (tie.spec returns returns-2 is-at-requires returns-3)

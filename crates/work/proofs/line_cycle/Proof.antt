@@ -12,13 +12,15 @@ cycle-byte-requires : tie.Need-cycle-byte-requires
 cycle-byte-requires c κs = let s = c .before .before .before .before .before .before in line-codes (s .before .args .l) (s .step .ensures)
 
 returns : tie.Need-returns
-returns c = let s = c .before .before .before .before .before .before .before in line-cycle (s .before .args .l) (s .step .ensures) (eq-eqb _ _ (c .before .if1 .taken)) (c .cycle-byte .ensures)
+returns c = let s = c .before .before .before .before .before .before .before in
+    line-cycle (s .before .args .l) (s .step .ensures) (eq-eqb _ _ (c .before .if1 .taken)) (c .cycle-byte .ensures)
 
 cycle-byte-requires-2 : tie.Need-cycle-byte-requires-2
 cycle-byte-requires-2 c κs = let s = c .before .before .before .before .before .before in line-codes (s .before .args .l) (s .step .ensures)
 
 returns-2 : tie.Need-returns-2
-returns-2 c = let s = c .before .before .before .before .before .before .before in line-cycle (s .before .args .l) (s .step .ensures) (ne-eqb _ _ (c .before .if1 .left)) (c .cycle-byte2 .ensures)
+returns-2 c = let s = c .before .before .before .before .before .before .before in
+    line-cycle (s .before .args .l) (s .step .ensures) (ne-eqb _ _ (c .before .if1 .left)) (c .cycle-byte2 .ensures)
 
 pub line-cycle-spec : {M : Type 1} → statement M
 line-cycle-spec =

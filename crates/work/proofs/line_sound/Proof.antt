@@ -15,13 +15,15 @@ inside-requires : tie.Need-inside-requires
 inside-requires c κs = search needs
 
 returns : tie.Need-returns
-returns c = sym (refuted _ (λ e. true≢false (sym (inside-test (line-work e .start)) ∙ sym (c .before .inside .ensures) ∙ not-true _ (c .if1 .taken))))
+returns c = sym (refuted _ (λ e. true≢false
+    (sym (inside-test (line-work e .start)) ∙ sym (c .before .inside .ensures) ∙ not-true _ (c .if1 .taken))))
 
 inside-requires-2 : tie.Need-inside-requires-2
 inside-requires-2 c κs = search needs
 
 returns-2 : tie.Need-returns-2
-returns-2 c = sym (refuted _ (λ e. true≢false (sym (inside-test (line-work e .end)) ∙ sym (c .before .inside2 .ensures) ∙ not-true _ (c .if2 .taken))))
+returns-2 c = sym (refuted _ (λ e. true≢false
+    (sym (inside-test (line-work e .end)) ∙ sym (c .before .inside2 .ensures) ∙ not-true _ (c .if2 .taken))))
 
 returns-3 : tie.Need-returns-3
 returns-3 c = sym (refuted _ (λ e. let f = line-work e .feed in omega (arith, f .some)))

@@ -1,7 +1,7 @@
 -- `work_cycle` is right because a line and an arc each have their own cycle, and nothing has none.
 use borrow.Author.Needs.{needs}
 use mathlib.Core.Path.{_∙_}
-use Rattle.work.specs.Work.{cycleOf}
+use Rattle.work.specs.computed.Work.{cycleOf}
 use Rattle.work.proofs.work_cycle.Statement.{statement}
 use Rattle.work.proofs.work_cycle.Tie as tie
 

@@ -1,7 +1,7 @@
 -- `work_sound` is right because each case asks its own test.
 use borrow.Author.Needs.{needs}
 use mathlib.Core.Path.{_∙_}
-use Rattle.work.specs.Work.{workSound}
+use Rattle.work.specs.computed.Work.{workSound}
 use Rattle.work.proofs.work_sound.Statement.{statement}
 use Rattle.work.proofs.work_sound.Tie as tie
 

@@ -10,7 +10,8 @@ use Rattle.circle.specs.Charge.{straight, diagonal}
 use Rattle.arc.specs.laws.Charge.{arc-charge-range}
 use Rattle.divider.specs.Divider.{fedOf}
 use Rattle.work.specs.declared.Work.{Work}
-use Rattle.work.specs.Work.{chargeOf, dueOf, addedOf}
+use Rattle.work.specs.computed.Work.{chargeOf, dueOf}
+use Rattle.work.specs.Work.{addedOf}
 
 pub charge-range : (at : Point) (w : Work) → (straight ≤ chargeOf at w) × (chargeOf at w ≤ diagonal)
 charge-range at Work.Nothing = omega arith

@@ -10,26 +10,27 @@ use Rattle.plane.specs.declared.travel.Travel.{Travel}
 use Rattle.plane.specs.Point.{equalPoint}
 use Rattle.plane.specs.computed.Travel.{Wide}
 use Rattle.plane.specs.laws.Point.{equal-itself}
-use Rattle.plane.specs.laws.Travel.{Inside}
+use Rattle.plane.specs.laws.Travel.{Bounded}
 use Rattle.line.specs.declared.line.Line.{Line}
-use Rattle.line.specs.Line.{steppedOf}
+use Rattle.line.specs.computed.Line.{steppedOf}
 use Rattle.line.specs.laws.Points.{point-inside}
 use Rattle.line.specs.laws.Work.{some-cycle, line-test}
 use Rattle.circle.specs.Charge.{diagonal}
 use Rattle.arc.specs.declared.arc.Arc.{Arc}
-use Rattle.arc.specs.Arc.{arcAfter, arcStepped}
+use Rattle.arc.specs.computed.Arc.{arcAfter, arcStepped}
 use Rattle.arc.specs.laws.Work.{next-inside, on-arc, keeps}
 use Rattle.divider.specs.Divider.{fedOf}
 use Rattle.divider.specs.laws.Ticks.{tick, stays-below}
 use Rattle.work.specs.declared.Work.{Work}
-use Rattle.work.specs.Work.{isNothing, workSound, following, lineCycle, arcCycle, cycleOf, feedOf, dueOf, addedOf, advanceBy, advanceOf}
-use Rattle.work.specs.computed.Work.{Ready}
+use Rattle.work.specs.Work.{isNothing, following, feedOf, addedOf}
+use Rattle.work.specs.computed.Work.{workSound, lineCycle, arcCycle, cycleOf, dueOf, advanceBy, advanceOf}
+use Rattle.work.specs.computed.Asked.{Ready}
 use Rattle.work.specs.laws.Charge.{due-range}
 use Rattle.work.specs.laws.Sound.{LineWork, line-work, line-sound, ArcWork, arc-work, arc-sound}
 
 -- what is in work, sound at a point and a remainder
 pub record SoundAt (q0 : ℕ) (t : Travel) (at : Point) (r : ℕ) (w : Work) : Type 0 where
-  pub inside : Inside t at
+  pub inside : Bounded t at
   pub below : r < diagonal * q0
   pub sound : workSound q0 t at w ≡ true
 
@@ -45,7 +46,8 @@ module _ (q0 : ℕ) (t : Travel) where
   unfolding workSound
   ready Work.Nothing busy wide small s = absurd (subst T busy tt)
   ready (Work.Line l) busy wide small s = let i = line-work (s .sound) in (line-test (i .line), omega (arith, s .below, i .feed .most))
-  ready (Work.Arc a) busy wide small s = let i = arc-work (s .sound) in (on-arc (i .arc) wide (s .inside), omega (arith, s .below, i .feed .most))
+  ready (Work.Arc a) busy wide small s = let i = arc-work (s .sound) in
+      (on-arc (i .arc) wide (s .inside), omega (arith, s .below, i .feed .most))
 
   -- ---- a cycle that does not end its block leaves a line or an arc in work
 
@@ -70,14 +72,18 @@ module _ (q0 : ℕ) (t : Travel) where
       → workSound q0 t (arcAfter a at 1) (following ended (Work.Arc a)) ≡ true
   unfolding workSound
   arc-kept w true e = refl
-  arc-kept {a = a} w false e = arc-sound (record { feed = w .feed; arc = keeps (w .arc) (λ q. subst T (sym (equal-itself (a .end)) ∙ (rw q at e)) tt) })
+  arc-kept {a = a} w false e = arc-sound (record {
+    feed = w .feed;
+    arc =
+        keeps (w .arc) (λ q. subst T (sym (equal-itself (a .end)) ∙ (rw q at e)) tt);
+  })
 
   -- where a cycle leads
   pub record Kept (at : Point) (w : Work) : Type 0 where
-    pub inside : Inside t at
+    pub inside : Bounded t at
     pub sound : workSound q0 t at w ≡ true
 
-  pub cycle-keeps : {at : Point} (w : Work) → Inside t at → workSound q0 t at w ≡ true → Kept (cycleOf at w .at) (cycleOf at w .work)
+  pub cycle-keeps : {at : Point} (w : Work) → Bounded t at → workSound q0 t at w ≡ true → Kept (cycleOf at w .at) (cycleOf at w .work)
   unfolding workSound cycleOf lineCycle arcCycle arcStepped steppedOf
   cycle-keeps Work.Nothing i e = record { inside = i; sound = refl }
   cycle-keeps (Work.Line l) i e =
@@ -93,7 +99,8 @@ module _ (q0 : ℕ) (t : Travel) where
 
   -- ---- a working tick
 
-  pub keeps-sound : {at : Point} {r : ℕ} (w : Work) → SoundAt q0 t at r w → SoundAt q0 t (advanceOf q0 at r w .at) (advanceOf q0 at r w .remainder) (advanceOf q0 at r w .work)
+  pub keeps-sound : {at : Point} {r : ℕ} (w : Work) → SoundAt q0 t at r w
+      → SoundAt q0 t (advanceOf q0 at r w .at) (advanceOf q0 at r w .remainder) (advanceOf q0 at r w .work)
   unfolding advanceOf
   keeps-sound {at} {r} w s =
       let f = fedOf (dueOf q0 at w) (addedOf w) r in

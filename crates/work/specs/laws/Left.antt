@@ -9,9 +9,9 @@ use borrow.Author.Tests.{leb-true}
 use Rattle.whole.specs.laws.Test.{both}
 use Rattle.plane.specs.declared.point.Point.{Point}
 use Rattle.plane.specs.declared.travel.Travel.{Travel}
-use Rattle.plane.specs.laws.Travel.{Inside}
+use Rattle.plane.specs.laws.Travel.{Bounded}
 use Rattle.circle.specs.laws.Circle.{on-circle-to}
-use Rattle.line.specs.Line.{incrementX, incrementY, cyclesOf}
+use Rattle.line.specs.Line.{incrementX, incrementY, lineCycles}
 use Rattle.line.specs.laws.Cycles.{cycles-bound}
 use Rattle.arc.specs.Centre.{seenFrom}
 use Rattle.arc.specs.laws.Work.{end-inside as arc-end-inside}
@@ -19,12 +19,15 @@ use Rattle.arc.specs.laws.Step.{cycles-bounds}
 use Rattle.block.specs.declared.Block.{Block}
 use Rattle.block.specs.declared.Path.{Path}
 use Rattle.block.specs.Block.{arcOf, cyclesAlong, blockCycles}
-use Rattle.block.specs.Chain.{rootAlong, rootOf, Accepted}
+use Rattle.block.specs.Chain.{rootAlong, rootOf}
+use Rattle.block.specs.computed.Chain.{Accepted}
 use Rattle.block.specs.laws.Accepted.{path-ready, Ready}
 use Rattle.work.specs.declared.Work.{Work}
-use Rattle.work.specs.Work.{isNothing, workSound, cyclesLeft, endOf, workAlong, begunOf}
-use Rattle.work.specs.computed.Work.{Loadable}
-use Rattle.work.specs.Rest.{Countable, rootIn, Rooted}
+use Rattle.work.specs.Work.{isNothing, cyclesLeft, endOf, workAlong, begunOf}
+use Rattle.work.specs.computed.Work.{workSound}
+use Rattle.work.specs.computed.Asked.{Loadable}
+use Rattle.work.specs.computed.Rest.{Countable, Rooted}
+use Rattle.work.specs.Work.{rootIn}
 use Rattle.work.specs.laws.Sound.{line-work, arc-work}
 
 pub nothing-is : (w : Work) → isNothing w ≡ true → w ≡ Work.Nothing
@@ -39,7 +42,7 @@ rooted at (Work.Line l) c = tt
 rooted at (Work.Arc a) c = on-circle-to (a .square) (seenFrom (a .centre) at) (c .on) .bound
 
 module _ (q0 : ℕ) (t : Travel) (at : Point) where
-  pub end-inside : (w : Work) → Inside t at → workSound q0 t at w ≡ true → Inside t (endOf at w)
+  pub end-inside : (w : Work) → Bounded t at → workSound q0 t at w ≡ true → Bounded t (endOf at w)
   unfolding workSound
   end-inside Work.Nothing here e = here
   end-inside (Work.Line l) here e = line-work e .end
@@ -56,7 +59,7 @@ module _ (q0 : ℕ) (t : Travel) (at : Point) where
 -- ---- a block newly in work
 
 along-left : (start : Point) (b : Block) (p : Path) → cyclesLeft start (workAlong start b p) ≡ cyclesAlong start b p
-along-left start b Path.Line = by (cyclesOf start (b .end))
+along-left start b Path.Line = by (lineCycles start (b .end))
   where
     by : (n : ℕ) → n - 0 ≡ n
     by n = omega arith

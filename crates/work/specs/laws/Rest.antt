@@ -8,23 +8,25 @@ use Rattle.plane.specs.declared.point.Point.{Point}
 use Rattle.plane.specs.declared.travel.Travel.{Travel}
 use Rattle.plane.specs.Point.{equalPoint}
 use Rattle.plane.specs.computed.Travel.{Wide}
-use Rattle.plane.specs.laws.Travel.{Inside}
+use Rattle.plane.specs.laws.Travel.{Bounded}
 use Rattle.line.specs.declared.line.Line.{Line}
-use Rattle.line.specs.Line.{pointOf, steppedOf}
+use Rattle.line.specs.Line.{linePoint}
+use Rattle.line.specs.computed.Line.{steppedOf}
 use Rattle.line.specs.laws.Cycles.{cycles-bound}
 use Rattle.circle.specs.declared.plane.Offset.{Offset}
 use Rattle.circle.specs.computed.Charge.{stepCharge}
 use Rattle.charges.specs.computed.Sum.{chargesIn}
 use Rattle.arc.specs.declared.arc.Arc.{Arc}
-use Rattle.arc.specs.Arc.{arcAfter, arcStepped}
-use Rattle.arc.specs.Charge.{arcCharge, arcChargesIn}
+use Rattle.arc.specs.computed.Arc.{arcAfter, arcStepped}
+use Rattle.arc.specs.computed.Charge.{arcCharge, arcChargesIn}
 use Rattle.arc.specs.laws.Step.{seen-after, after-none, after-next}
 use Rattle.arc.specs.laws.Work.{on-arc}
 use Rattle.divider.specs.laws.Ticks.{total}
 use Rattle.divider.specs.laws.Closed.{total-same}
 use Rattle.work.specs.declared.Work.{Work}
-use Rattle.work.specs.Work.{isNothing, workSound, following, lineCycle, arcCycle, cycleOf, chargesFor, dueOf}
-use Rattle.work.specs.Rest.{Countable}
+use Rattle.work.specs.Work.{isNothing, following, chargesFor}
+use Rattle.work.specs.computed.Work.{workSound, lineCycle, arcCycle, cycleOf, dueOf}
+use Rattle.work.specs.computed.Rest.{Countable}
 use Rattle.work.specs.laws.Sound.{line-work, arc-work}
 
 -- ---- c cycles on, before the end
@@ -39,7 +41,7 @@ pub record Reached : Type 0 where
 
 unfoldable pub reachedOf : (at : Point) → Work → (c : ℕ) → Reached
 reachedOf at Work.Nothing c = record { at = at; work = Work.Nothing }
-reachedOf at (Work.Line l) c = record { at = pointOf (l .start) (l .end) (l .done + c); work = Work.Line (lineOn l c) }
+reachedOf at (Work.Line l) c = record { at = linePoint (l .start) (l .end) (l .done + c); work = Work.Line (lineOn l c) }
 reachedOf at (Work.Arc a) c = record { at = arcAfter a at c; work = Work.Arc a }
 
 -- the due of the cycle that comes then
@@ -57,7 +59,7 @@ module _ (q0 : ℕ) (t : Travel) (at : Point) where
   reached-none (Work.Arc a) e = rw (after-none a at)
 
   -- what the code asks
-  pub countable : (w : Work) → Wide t → Inside t at → workSound q0 t at w ≡ true → Countable at w
+  pub countable : (w : Work) → Wide t → Bounded t at → workSound q0 t at w ≡ true → Countable at w
   unfolding workSound
   countable Work.Nothing wide here e = tt
   countable (Work.Line l) wide here e =

@@ -6,14 +6,14 @@ use borrow.Author.Tests.{leb-true, le-leb}
 use Rattle.whole.specs.laws.Test.{both, joined}
 use Rattle.plane.specs.declared.point.Point.{Point}
 use Rattle.plane.specs.declared.travel.Travel.{Travel}
-use Rattle.plane.specs.laws.Travel.{Inside, inside, inside-test}
+use Rattle.plane.specs.laws.Travel.{Bounded, inside, inside-test}
 use Rattle.line.specs.declared.line.Line.{Line}
 use Rattle.line.specs.Line.{differ}
 use Rattle.line.specs.laws.Cycles.{apart-differ, cycles-apart}
 use Rattle.line.specs.laws.Work.{LineAt, line-at, line-test, some-cycle}
 use Rattle.arc.specs.declared.arc.Arc.{Arc}
 use Rattle.arc.specs.laws.Work.{ArcAt, arc-at, arc-test}
-use Rattle.work.specs.Work.{lineSound, arcSound}
+use Rattle.work.specs.computed.Work.{lineSound, arcSound}
 
 -- a feed that the divider takes
 pub record Feed (q0 f : ℕ) : Type 0 where
@@ -21,8 +21,8 @@ pub record Feed (q0 f : ℕ) : Type 0 where
   pub most : f ≤ q0
 
 pub record LineWork (q0 : ℕ) (t : Travel) (at : Point) (l : Line) : Type 0 where
-  pub start : Inside t (l .start)
-  pub end : Inside t (l .end)
+  pub start : Bounded t (l .start)
+  pub end : Bounded t (l .end)
   pub feed : Feed q0 (l .feed)
   pub line : LineAt l at
 

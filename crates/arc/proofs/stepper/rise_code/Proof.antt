@@ -7,7 +7,7 @@ use Prim.Native.Nat.{ℕ}
 use native.Mathlib.Omega.{arith}
 use Rattle.circle.specs.declared.plane.Turn.{Turn}
 use Rattle.circle.specs.declared.step.Move.the-variants.{Rise}
-use Rattle.arc.specs.Stepper.{moveCode}
+use Rattle.arc.specs.computed.Stepper.{moveCode}
 use Rattle.arc.specs.laws.Stepper.{rise-left, rise-right}
 
 -- the code in a quadrant that a test has told

@@ -5,7 +5,7 @@ use mathlib.Core.Path.{ap, _∙_}
 use Prim.Native.Nat.{ℕ}
 use Rattle.circle.specs.declared.step.Move.the-variants.{Rise}
 use Rattle.circle.specs.laws.Stepper.{entered-bounds}
-use Rattle.arc.specs.Stepper.{moveCode}
+use Rattle.arc.specs.computed.Stepper.{moveCode}
 use Rattle.arc.specs.laws.Stepper.{next-below, fall-rise}
 
 rise-code-requires : tie.Need-rise-code-requires

@@ -3,7 +3,7 @@ use borrow.Author.Needs.{needs}
 use Rattle.arc.proofs.stepper.up.Statement.{statement}
 use Rattle.arc.proofs.stepper.up.Tie as tie
 use Rattle.plane.specs.Pulse.{changeOf}
-use Rattle.arc.specs.Stepper.{wayCode}
+use Rattle.arc.specs.computed.Stepper.{wayCode}
 
 enum-told : tie.Need-enum-told
 enum-told c = search needs

@@ -5,7 +5,7 @@ use Rattle.block.specs.Questions.{loadNo}
 use Rattle.work.specs.Work.{isNothing}
 use Rattle.settings.specs.Settings.{capacityOf}
 use Rattle.settings.specs.laws.Right.{settings-right}
-use Rattle.bench.specs.Calls.{loadOf}
+use Rattle.bench.specs.computed.Calls.{loadOf}
 use Rattle.bench.specs.laws.Sound.{sound, loadable}
 use Rattle.bench.specs.laws.Calls.{load-refused}
 use Rattle.bench.proofs.Bench.load_sound.Statement.{statement}
@@ -14,7 +14,8 @@ use Rattle.bench.proofs.Bench.load_sound.Tie as tie
 number-is :
     (c : tie.After-load-no)
     → let s = c .before .before .before .before .before .before .args in
-    c .load-no .result ≡ loadNo (capacityOf (s .self .settings)) (s .self .settings .travel) (isNothing (s .self .work)) (s .self .at) (s .b)
+    c .load-no .result ≡ loadNo (capacityOf (s .self .settings)) (s .self .settings .travel) (isNothing (s .self .work)) (s .self .at)
+    (s .b)
 number-is c = rw (c .before .is-nothing .ensures, c .before .before .capacity .ensures) at (c .load-no .ensures)
 
 capacity-requires : tie.Need-capacity-requires
@@ -24,11 +25,13 @@ is-nothing-requires : tie.Need-is-nothing-requires
 is-nothing-requires c κs = search needs
 
 load-no-requires : tie.Need-load-no-requires
-load-no-requires c κs = let s = sound (c .before .before .before .before .before .pre) in (settings-right _ (s .settings) .wide, s .in-travel)
+load-no-requires c κs = let s = sound (c .before .before .before .before .before .pre) in
+    (settings-right _ (s .settings) .wide, s .in-travel)
 
 returns : tie.Need-returns
 unfolding loadOf
-returns c = load-refused _ (c .before .before .before .before .before .before .before .args .b) _ (c .if1 .taken) ∙ simp (number-is (c .before), c .before .before .before .before .before .before .before .pre)
+returns c = load-refused _ (c .before .before .before .before .before .before .before .args .b) _ (c .if1 .taken)
+    ∙ simp (number-is (c .before), c .before .before .before .before .before .before .before .pre)
 
 begin-requires : tie.Need-begin-requires
 begin-requires c κs =
@@ -42,7 +45,12 @@ returns-2 : tie.Need-returns-2
 unfolding loadOf
 returns-2 c =
     let e = c .before .before in
-    simp (c .moved .ensures, c .before .begin .ensures, e .before .before .before .before .before .before .before .pre, sym (number-is (e .before)) ∙ e .if1 .left)
+    simp (
+      c .moved .ensures,
+      c .before .begin .ensures,
+      e .before .before .before .before .before .before .before .pre,
+      sym (number-is (e .before)) ∙ e .if1 .left,
+    )
 
 pub load-sound-spec : {M : Type 1} → statement M
 load-sound-spec =

@@ -14,7 +14,8 @@ fresh-requires : tie.Need-fresh-requires
 fresh-requires c κs = search needs
 
 returns : tie.Need-returns
-returns c = rw (c .fresh .ensures, c .before .standard .ensures) (make-refused _ (c .before .before .before .settings-no .ensures) (c .before .before .if1 .taken))
+returns c = rw (c .fresh .ensures, c .before .standard .ensures)
+    (make-refused _ (c .before .before .before .settings-no .ensures) (c .before .before .if1 .taken))
 
 fresh-requires-2 : tie.Need-fresh-requires-2
 fresh-requires-2 c κs = search needs

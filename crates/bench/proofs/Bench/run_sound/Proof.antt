@@ -25,7 +25,8 @@ capacity-requires : tie.Need-capacity-requires
 capacity-requires c κs = sound (c .before .before .before .before .before .before .pre) .settings
 
 run-work-requires : tie.Need-run-work-requires
-run-work-requires c κs = rw (c .before .capacity .ensures) (running (sound (c .before .before .before .before .before .before .before .before .pre)) (busy (c .before .before .before)))
+run-work-requires c κs = rw (c .before .capacity .ensures) (running
+    (sound (c .before .before .before .before .before .before .before .before .pre)) (busy (c .before .before .before)))
 
 report-of-requires : tie.Need-report-of-requires
 report-of-requires c κs = search needs

@@ -1,5 +1,4 @@
 -- `arc_no` is right because it asks 15 and then 16.
-use borrow.Author.Needs.{needs}
 use mathlib.Core.Path.{_≡_, sym, _∙_}
 use mathlib.Core.Bool.{true}
 use native.Mathlib.Omega.{arith}
@@ -8,7 +7,6 @@ use Rattle.plane.specs.Point.{Near}
 use Rattle.plane.specs.laws.Travel.{inside, travel-near}
 use Rattle.circle.specs.Circle.{onCircle}
 use Rattle.arc.specs.Centre.{seenFrom}
-use Rattle.arc.specs.Arc.{OnArc}
 use Rattle.block.proofs.questions.arc_no.Statement.{statement}
 use Rattle.block.proofs.questions.arc_no.Tie as tie
 
@@ -19,7 +17,8 @@ ends-on-circle-requires : tie.Need-ends-on-circle-requires
 ends-on-circle-requires c κs = let n = end-near c in (c .pre .centre, record { x = omega (arith, n .x); y = omega (arith, n .y) })
 
 -- question 15, answered by yes
-ends-on : (c : tie.Else1) → onCircle (c .before .before .args .a .square) (seenFrom (c .before .before .args .a .centre) (c .before .before .args .a .end)) ≡ true
+ends-on : (c : tie.Else1) → onCircle (c .before .before .args .a .square) (seenFrom (c .before .before .args .a .centre)
+    (c .before .before .args .a .end)) ≡ true
 ends-on c = sym (c .before .ends-on-circle .ensures) ∙ not-false _ (c .if1 .left)
 
 returns : tie.Need-returns
@@ -28,7 +27,14 @@ returns c = simp (sym (c .before .ends-on-circle .ensures) ∙ not-true _ (c .if
 stays-requires : tie.Need-stays-requires
 stays-requires c κs =
     let s = c .before .before in (
-      record { centre = s .pre .centre; here = travel-near (s .pre .wide) (inside (s .pre .start-in)); there = end-near s; on = s .pre .on; end-on = ends-on c },
+      record {
+        centre = s .pre .centre;
+        here = travel-near (s .pre .wide) (inside (s .pre .start-in));
+        there = end-near s;
+        on =
+            s .pre .on;
+        end-on = ends-on c;
+      },
       s .pre .wide,
       s .pre .start-in,
     )

@@ -15,7 +15,9 @@ room c = not-false (c .before .args .room) (c .if1 .left)
 feed : (c : tie.Else2) → feedRight (c .before .before .before .args .capacity) (c .before .before .before .args .b .feed) ≡ true
 feed c = sym (c .before .feed-right .ensures) ∙ not-false _ (c .if2 .left)
 
-end-in : (c : tie.Else3) → insideOf (c .before .before .before .before .before .before .args .travel) (c .before .before .before .before .before .before .args .b .end) ≡ true
+end-in : (c : tie.Else3)
+    → insideOf (c .before .before .before .before .before .before .args .travel)
+    (c .before .before .before .before .before .before .args .b .end) ≡ true
 end-in c = sym (c .before .inside .ensures) ∙ not-false _ (c .if3 .left)
 
 returns : tie.Need-returns
@@ -34,14 +36,23 @@ inside-requires c κs = search needs
 
 returns-3 : tie.Need-returns-3
 unfolding loadNo
-returns-3 c = simp (room (c .before .before .before .before .before), feed (c .before .before .before), sym (c .before .inside .ensures) ∙ not-true _ (c .if3 .taken))
+returns-3 c = simp (
+  room (c .before .before .before .before .before),
+  feed (c .before .before .before),
+  sym (c .before .inside .ensures)
+      ∙ not-true _ (c .if3 .taken),
+)
 
 path-no-requires : tie.Need-path-no-requires
 path-no-requires c κs = let s = c .before .before .before .before .before .before in (s .pre .0, s .pre .1, end-in c)
 
 returns-4 : tie.Need-returns-4
 unfolding loadNo
-returns-4 c = c .path-no .ensures ∙ simp (room (c .before .before .before .before .before .before), feed (c .before .before .before .before), end-in (c .before))
+returns-4 c = c .path-no .ensures ∙ simp (
+  room (c .before .before .before .before .before .before),
+  feed (c .before .before .before .before),
+  end-in (c .before),
+)
 
 pub load-no-spec : {M : Type 1} → statement M
 load-no-spec =

@@ -1,11 +1,9 @@
 -- `path_no` is right because a line is asked 13, and an arc 14 to 16.
 use borrow.Author.Needs.{needs}
-use mathlib.Core.Path.{_≡_, sym, ap, _∙_}
-use mathlib.Core.Bool.{Bool, true, not}
+use mathlib.Core.Path.{sym, _∙_}
 use borrow.Author.Tests.{not-true, not-false}
 use Rattle.plane.specs.laws.Travel.{inside, travel-near}
 use Rattle.line.specs.Line.{differ}
-use Rattle.block.specs.Questions.{offsetRight}
 use Rattle.block.specs.laws.Begin.{begins}
 use Rattle.block.proofs.questions.path_no.Statement.{statement}
 use Rattle.block.proofs.questions.path_no.Tie as tie
@@ -37,7 +35,8 @@ arc-of-requires c κs =
 arc-no-requires : tie.Need-arc-no-requires
 arc-no-requires c κs =
     let s = c .before .before .before .before .before .before .before in
-    rw (c .arc-of .ensures) (begins (s .args .start) (s .args .b) _ _ (s .pre .0) (s .pre .1) (s .pre .2) (arc-of-requires (c .before) κs .1))
+    rw (c .arc-of .ensures) (begins (s .args .start) (s .args .b) _ _ (s .pre .0) (s .pre .1) (s .pre .2)
+    (arc-of-requires (c .before) κs .1))
 
 returns-3 : tie.Need-returns-3
 unfolding differ
@@ -46,7 +45,11 @@ returns-3 c = simp (c .before .before .enum-told .given .1, sym (c .before .is-s
 returns-4 : tie.Need-returns-4
 returns-4 c =
     c .arc-no .ensures
-    ∙ simp (c .before .before .before .before .before .path .given .1, c .before .arc-of .ensures, sym (c .before .before .before .offset-right .ensures) ∙ not-false _ (c .before .before .if2 .left))
+    ∙ simp (
+      c .before .before .before .before .before .path .given .1,
+      c .before .arc-of .ensures,
+      sym (c .before .before .before .offset-right .ensures) ∙ not-false _ (c .before .before .if2 .left),
+    )
 
 pub path-no-spec : {M : Type 1} → statement M
 path-no-spec =

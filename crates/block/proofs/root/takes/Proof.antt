@@ -8,7 +8,7 @@ use lib.IntN.{natAbs}
 use borrow.Author.Tests.{leb-true}
 use Rattle.whole.specs.laws.Squares.{square-le}
 use Rattle.whole.specs.laws.Test.{both}
-use Rattle.line.specs.Line.{incrementX, incrementY, cyclesOf}
+use Rattle.line.specs.Line.{incrementX, incrementY, lineCycles}
 use Rattle.block.proofs.root.takes.Statement.{statement}
 use Rattle.block.proofs.root.takes.Tie as tie
 
@@ -37,7 +37,7 @@ is-least-root-requires : tie.Need-is-least-root-requires
 is-least-root-requires c κs = omega (arith, small (c .before .before .before .before))
 
 returns : tie.Need-returns
-unfolding cyclesOf
+unfolding lineCycles
 returns c = c .is-least-root .ensures ∙ rw (c .before .before .before .before .before .between .ensures)
 
 pub takes-spec : {M : Type 1} → statement M

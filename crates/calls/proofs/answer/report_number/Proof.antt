@@ -1,7 +1,7 @@
 -- `report_number` is right because each report has its own number.
 use borrow.Author.Needs.{needs}
 use mathlib.Core.Path.{_∙_}
-use Rattle.layout.specs.laws.Number.{refusal-fits, through}
+use Rattle.encoding.specs.laws.Number.{refusal-fits, through}
 use Rattle.calls.proofs.answer.report_number.Statement.{statement}
 use Rattle.calls.proofs.answer.report_number.Tie as tie
 

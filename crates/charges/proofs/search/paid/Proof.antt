@@ -5,15 +5,15 @@ use Rattle.circle.specs.computed.Step.{seen}
 use Rattle.charges.specs.declared.jump.Start.{Start}
 use Rattle.charges.specs.Paid.{mostPaid}
 use Rattle.charges.specs.computed.Sum.{chargesIn}
-use Rattle.charges.specs.computed.Jump.{startOf, chargesOn, arrivedOf}
+use Rattle.charges.specs.computed.Jump.{jumpStart, chargesOn, arrivedOf}
 use Rattle.charges.specs.laws.Jump.{SmallPlace, started, reached-small}
 use Rattle.charges.specs.laws.Paid.{paid-is}
 use Rattle.charges.proofs.search.paid.Statement.{statement}
 use Rattle.charges.proofs.search.paid.Tie as tie
 
 found : (c : tie.After-search) → (let s = c .before .before .args in
-    c .search .result ≡ arrivedOf (startOf (s .n) (s .turn) (s .p)) (mostPaid (chargesIn (s .n) (s .turn) (s .p)) (s .sum) (s .most)))
-unfolding startOf
+    c .search .result ≡ arrivedOf (jumpStart (s .n) (s .turn) (s .p)) (mostPaid (chargesIn (s .n) (s .turn) (s .p)) (s .sum) (s .most)))
+unfolding jumpStart
 found c =
     let s = c .before .before .args in
     c .search .ensures ∙ ap (λ (x : Start). arrivedOf x (mostPaid (chargesOn x) (s .sum) (s .most))) (c .before .enter .ensures)
@@ -25,7 +25,7 @@ enter-requires : tie.Need-enter-requires
 enter-requires c κs = c .pre .0
 
 search-requires : tie.Need-search-requires
-unfolding startOf
+unfolding jumpStart
 search-requires c κs =
     let s = c .before in
     rw (c .enter .ensures) (started (s .args .n) (s .args .turn) (s .args .p) (s .pre .0), s .pre .1)

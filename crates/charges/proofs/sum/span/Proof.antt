@@ -4,7 +4,7 @@ use Prim.Native.Nat.{ℕ, _*_}
 use native.Mathlib.Omega.{arith}
 use Rattle.whole.specs.Root.{nearestRoot}
 use Rattle.circle.specs.computed.Step.{seenPlace}
-use Rattle.circle.specs.computed.Count.{quarterOf}
+use Rattle.circle.specs.Circle.{quarterOf}
 use Rattle.circle.specs.laws.Circle.{on-circle-to, radius-bound}
 use Rattle.circle.specs.laws.Count.{quarter-bound, rank-bound}
 use Rattle.charges.specs.computed.Sum.{spanTo, roundChargesOf}

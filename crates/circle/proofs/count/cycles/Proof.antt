@@ -2,7 +2,7 @@
 use borrow.Author.Needs.{needs}
 use mathlib.Core.Path.{_∙_}
 use native.Mathlib.Omega.{arith}
-use Rattle.circle.specs.computed.Count.{placesTo, cyclesOf}
+use Rattle.circle.specs.computed.Count.{placesTo, circleCycles}
 use Rattle.circle.specs.laws.Count.{quarter-bound, rank-bound}
 use Rattle.circle.proofs.count.cycles.Statement.{statement}
 use Rattle.circle.proofs.count.cycles.Tie as tie
@@ -26,7 +26,7 @@ way-on-requires c κs =
     (omega (arith, quarter-bound n (s .args .p) (s .pre .0)))
 
 returns : tie.Need-returns
-unfolding cyclesOf placesTo
+unfolding circleCycles placesTo
 returns c =
     let s = c .before .before .before in
     c .way-on .ensures ∙ rw (c .before .before .seen-rank .ensures, c .before .seen-rank2 .ensures, s .pre .2)

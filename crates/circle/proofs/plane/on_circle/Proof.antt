@@ -7,7 +7,7 @@ use mir.Syntax.{w64}
 use mir.Val.{SFits}
 use mir.Facts.{toZ-ofZ}
 use borrow.Author.Tests.{le-leb, lt-leb}
-use Rattle.whole.specs.Sign.{partOf}
+use Rattle.whole.specs.computed.Sign.{partOf}
 use Rattle.circle.specs.Circle.{largestN, onCircle}
 use Rattle.circle.specs.laws.Circle.{not-on-circle}
 use borrow.Author.Needs.{needs}

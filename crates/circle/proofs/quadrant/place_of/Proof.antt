@@ -8,7 +8,8 @@ use lib.IntN.{ℤ, pos, negsuc, natAbs}
 use mir.Syntax.{w64}
 use mir.Val.{SFits}
 use mir.Facts.{toZ-ofZ}
-use Rattle.whole.specs.Sign.{isNegative, partOf}
+use Rattle.whole.specs.Sign.{isNegative}
+use Rattle.whole.specs.computed.Sign.{partOf}
 use Rattle.circle.specs.computed.Step.{place, placeOf}
 use borrow.Author.Needs.{needs}
 use Rattle.circle.proofs.quadrant.place_of.Statement.{statement}

@@ -2,7 +2,7 @@
 use mathlib.Core.Path.{_≡_, ap, _∙_}
 use Rattle.circle.specs.declared.step.Cycled.{Cycled}
 use Rattle.circle.specs.computed.Step.{stepOf}
-use Rattle.circle.specs.computed.Stepper.{Entered, advanceOf, leaveOf}
+use Rattle.circle.specs.computed.Stepper.{Entered, advancedBy, leaveOf}
 use Rattle.circle.specs.laws.Stepper.{enter-entered, advance-entered, advance-enter, leave-enter, step-on}
 use borrow.Author.Needs.{needs}
 use Rattle.circle.proofs.step.step.Statement.{statement}
@@ -17,7 +17,7 @@ enter-requires c κs = search needs
 cycle-requires : tie.Need-cycle-requires
 cycle-requires c κs = entered c
 
-advanced : (c : tie.After-cycle) → c .cycle .result .stepper ≡ advanceOf (c .before .enter .result)
+advanced : (c : tie.After-cycle) → c .cycle .result .stepper ≡ advancedBy (c .before .enter .result)
 advanced c = ap (λ (x : Cycled). x .stepper) (c .cycle .ensures)
 
 leave-requires : tie.Need-leave-requires
@@ -30,7 +30,7 @@ returns c =
     let n = s .args .n in
     let t = s .args .turn in
     let p = s .args .p in
-    c .leave .ensures ∙ ap leaveOf (advanced k ∙ ap advanceOf (k .before .enter .ensures) ∙ advance-enter n t p (s .pre))
+    c .leave .ensures ∙ ap leaveOf (advanced k ∙ ap advancedBy (k .before .enter .ensures) ∙ advance-enter n t p (s .pre))
     ∙ leave-enter n t (stepOf n t p) (step-on n t p (s .pre))
 
 pub step-spec : {M : Type 1} → statement M

@@ -1,19 +1,14 @@
 -- Invariant of `fill`: what the buffer has got and what is still to come are what was to come at first. Each step leaves fewer.
-use Rattle.row.specs.Buffer.{lineRoom}
+use Rattle.row.specs.computed.Buffer.{lineRoom}
 use Rattle.job.proofs.Check.fill.Statement.{statement}
 use Rattle.job.proofs.Check.fill.Tie as tie
-use Rattle.job.proofs.Check.fill.Reads as reads
-use Rattle.job.proofs.Check.fill.Lts as lts
-use Rattle.job.proofs.Check.is_over.Reads as is-over-reads
-use Rattle.job.proofs.Check.settled.Reads as settled-reads
-use Rattle.job.proofs.Check.step.Reads as step-reads
 use mathlib.Core.Path.{sym, _∙_}
 use mathlib.Core.Bool.{true≢false}
 use native.Mathlib.Omega.{arith}
 use Prim.Native.Nat.{_+_}
 use lib.ListN.{length}
 use borrow.Author.Tests.{leb-false}
-use Rattle.job.specs.Check.{stepsLeft}
+use Rattle.job.specs.computed.Check.{stepsLeft}
 use Rattle.job.specs.laws.Fill.{Filling, filling-start, filling-done, filling-on}
 
 abbrev Inv-loop : tie.InvT-loop
@@ -35,10 +30,15 @@ same-length : tie.Need-same-length Inv-loop μ-loop
 same-length c = c .before .before .before .before .loop .inv .long
 
 returns : tie.Need-returns Inv-loop μ-loop
-returns c = filling-done (c .before .before .before .before .loop .inv) (λ room going. absurd (true≢false (sym (c .if2 .taken) ∙ c .before .is-over .ensures ∙ going)))
+returns c = filling-done (c .before .before .before .before .loop .inv)
+    (λ room going. absurd (true≢false (sym (c .if2 .taken) ∙ c .before .is-over .ensures ∙ going)))
 
 step-requires : tie.Need-step-requires Inv-loop μ-loop
-step-requires c κs = (sym (c .before .before .is-over .ensures) ∙ c .before .if2 .left, sym (c .before .before .before .before .has-room .ensures) ∙ c .before .before .before .if1 .taken)
+step-requires c κs = (
+  sym (c .before .before .is-over .ensures)
+      ∙ c .before .if2 .left,
+  sym (c .before .before .before .before .has-room .ensures) ∙ c .before .before .before .if1 .taken,
+)
 
 settled-requires : tie.Need-settled-requires Inv-loop μ-loop
 settled-requires c κs = tt
@@ -50,7 +50,8 @@ loop-again : tie.Need-loop-again Inv-loop μ-loop
 loop-again c =
     let s = c .before .before .before .before in
     let room = s .before .before .before .before in
-    rw (c .settled .ensures) (filling-on (room .before .before .loop .inv) (sym (room .before .has-room .ensures) ∙ room .if1 .taken) (s .step .ensures))
+    rw (c .settled .ensures) (filling-on (room .before .before .loop .inv) (sym (room .before .has-room .ensures) ∙ room .if1 .taken)
+    (s .step .ensures))
 
 same-length-2 : tie.Need-same-length-2 Inv-loop μ-loop
 same-length-2 c = c .before .before .loop .inv .long
@@ -58,7 +59,8 @@ same-length-2 c = c .before .before .loop .inv .long
 returns-2 : tie.Need-returns-2 Inv-loop μ-loop
 returns-2 c =
     let l = c .before .before .loop in
-    filling-done (l .inv) (λ room going. omega (arith, l .inv .long, leb-false (l .len + lineRoom) (length (l .out)) (sym (c .before .has-room .ensures) ∙ c .if1 .left)))
+    filling-done (l .inv) (λ room going. omega
+    (arith, l .inv .long, leb-false (l .len + lineRoom) (length (l .out)) (sym (c .before .has-room .ensures) ∙ c .if1 .left)))
 
 pub fill-spec : {M : Type 1} → statement M
 fill-spec =

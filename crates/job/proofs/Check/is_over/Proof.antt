@@ -2,8 +2,6 @@
 use borrow.Author.Needs.{needs}
 use Rattle.job.proofs.Check.is_over.Statement.{statement}
 use Rattle.job.proofs.Check.is_over.Tie as tie
-use Rattle.job.proofs.Check.is_over.Reads as reads
-use Rattle.job.proofs.Check.is_over.Lts as lts
 
 enum-told : tie.Need-enum-told
 enum-told c = search needs

@@ -2,19 +2,12 @@
 use borrow.Author.Needs.{needs}
 use Rattle.job.proofs.Check.line.Statement.{statement}
 use Rattle.job.proofs.Check.line.Tie as tie
-use Rattle.job.proofs.Check.line.Reads as reads
-use Rattle.job.proofs.Check.line.Lts as lts
-use Rattle.job.proofs.Check.last.Reads as last-reads
-use Rattle.listing.proofs.Tally.read.Reads as read-reads
-use Rattle.listing.proofs.Tally.total.Reads as total-reads
-use Rattle.listing.proofs.next_place.Reads as next-place-reads
-use Rattle.row.proofs.lines.refused.Reads as refused-reads
 use mathlib.Core.Path.{_≡_, subst}
 use mathlib.Core.List.{List}
 use Prim.Native.Nat.{ℕ, _+_, _≤_}
 use native.Mathlib.Omega.{arith}
 use lib.ListN.{length, drop}
-use Rattle.listing.specs.Tally.{Gives, readOf, bytesRead}
+use Rattle.tally.specs.computed.Tally.{Gives, readOf, bytesRead}
 use Rattle.words.specs.computed.Scan.{firstLine}
 use Rattle.job.specs.laws.Text.{slice-rest}
 use Rattle.job.specs.laws.Step.{step-long, step-total, step-refused, near, step-line}
@@ -50,7 +43,8 @@ returns : tie.Need-returns
 returns c = let s = c .before .before .before .before .before .before .before .before .before .before in
     let w = c .before .before .before .before .refused in
     rw (c .last .ensures, c .before .next-place .ensures)
-    (step-long (s .args .self) (s .args .text .now) (s .args .out .now) (s .args .place) (s .pre .0) (omega arith) (record { room = s .pre .1; buffer = w .ensures .0; place = w .ensures .1 }))
+    (step-long (s .args .self) (s .args .text .now) (s .args .out .now) (s .args .place) (s .pre .0) (omega arith)
+    (record { room = s .pre .1; buffer = w .ensures .0; place = w .ensures .1 }))
 
 total-requires : tie.Need-total-requires
 total-requires c κs = search needs
@@ -68,7 +62,8 @@ returns-2 : tie.Need-returns-2
 returns-2 c = let s = c .before .before .before .before .before .before .before .before .before .before .before in
     let w = c .before .before .before .before .total in
     rw (c .last2 .ensures, c .before .next-place2 .ensures)
-    (step-total (s .args .self) (s .args .text .now) (s .args .out .now) (s .args .place) (s .pre .0) (omega arith) (w .ensures .1 .1) (omega arith)
+    (step-total (s .args .self) (s .args .text .now) (s .args .out .now) (s .args .place) (s .pre .0) (omega arith) (w .ensures .1 .1)
+    (omega arith)
     (record { room = s .pre .1; buffer = w .ensures .0; place = w .ensures .1 .0 }))
 
 sub-read : tie.Need-sub-read

@@ -2,16 +2,13 @@
 use borrow.Author.Needs.{needs}
 use Rattle.job.proofs.Check.start.Statement.{statement}
 use Rattle.job.proofs.Check.start.Tie as tie
-use Rattle.job.proofs.Check.start.Reads as reads
-use Rattle.job.proofs.Check.start.Lts as lts
-use Rattle.listing.proofs.Tally.start.Reads as start-reads
-use Rattle.job.specs.Check.{startOf}
+use Rattle.job.specs.computed.Check.{checkFrom}
 
 start-requires : tie.Need-start-requires
 start-requires c κs = search needs
 
 returns : tie.Need-returns
-unfolding startOf
+unfolding checkFrom
 returns c = rw (c .start .ensures)
 
 pub start-spec : {M : Type 1} → statement M

@@ -2,12 +2,6 @@
 use borrow.Author.Needs.{needs}
 use Rattle.job.proofs.Check.step.Statement.{statement}
 use Rattle.job.proofs.Check.step.Tie as tie
-use Rattle.job.proofs.Check.step.Reads as reads
-use Rattle.job.proofs.Check.step.Lts as lts
-use Rattle.job.proofs.Check.last.Reads as last-reads
-use Rattle.job.proofs.Check.line.Reads as line-reads
-use Rattle.listing.proofs.next_place.Reads as next-place-reads
-use Rattle.row.proofs.lines.header.Reads as header-reads
 use mathlib.Core.Bool.{true≢false}
 use Rattle.job.specs.laws.Step.{step-header}
 
@@ -39,7 +33,9 @@ returns : tie.Need-returns
 returns c = let s = c .before .before .before .before .before .before .before .before .before .before in
     let w = c .before .before .before .before .header in
     rw (c .next-place .ensures)
-    (step-header (s .args .self) (s .args .text .now) (s .args .out .now) (s .args .place) (c .before .before .before .before .before .before .enum-told .given .1) (record { room = s .pre .1; buffer = w .ensures .0; place = w .ensures .1 }))
+    (step-header (s .args .self) (s .args .text .now) (s .args .out .now) (s .args .place)
+    (c .before .before .before .before .before .before .enum-told .given .1)
+    (record { room = s .pre .1; buffer = w .ensures .0; place = w .ensures .1 }))
 
 same-length-2 : tie.Need-same-length-2
 same-length-2 c = search needs

@@ -29,7 +29,8 @@ returns c =
     let k = c .before in
     c .code .ensures
     ∙ ap (λ (t : Clocked). codeOf (t .pulse) (s .args .way .negative)) (k .clock .ensures)
-    ∙ ap (λ (r : ℕ). codeOf (clockOf (s .args .q) (s .args .way .magnitude) r .pulse) (s .args .way .negative)) (k .before .register .ensures)
+    ∙ ap (λ (r : ℕ). codeOf (clockOf (s .args .q) (s .args .way .magnitude) r .pulse) (s .args .way .negative))
+    (k .before .register .ensures)
 
 pub axis-code-spec : {M : Type 1} → statement M
 axis-code-spec = tie.close (tie.spec register-requires clock-requires code-requires returns)

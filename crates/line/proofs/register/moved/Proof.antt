@@ -2,7 +2,7 @@
 use borrow.Author.Needs.{needs}
 use mathlib.Core.Path.{refl}
 use native.Mathlib.Omega.{arith}
-use Rattle.line.specs.Line.{movedBy}
+use Rattle.line.specs.Line.{axisSteps}
 use Rattle.line.specs.laws.Axis.{fits-product}
 use Rattle.line.proofs.register.moved.Statement.{statement}
 use Rattle.line.proofs.register.moved.Tie as tie
@@ -17,7 +17,7 @@ div-result : tie.Need-div-result
 div-result c = search needs
 
 returns : tie.Need-returns
-unfolding movedBy
+unfolding axisSteps
 returns c = refl
 
 pub moved-spec : {M : Type 1} → statement M

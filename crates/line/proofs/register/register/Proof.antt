@@ -8,7 +8,9 @@ use Rattle.line.proofs.register.register.Statement.{statement}
 use Rattle.line.proofs.register.register.Tie as tie
 
 -- the sum with the move that was handed over
-parted : (c : tie.Start) → c .args .moved * c .args .capacity + filled (c .args .capacity) (c .args .increment) (c .args .done) ≡ c .args .capacity / 2 + c .args .increment * c .args .done
+parted : (c : tie.Start)
+    → c .args .moved * c .args .capacity + filled (c .args .capacity) (c .args .increment) (c .args .done)
+    ≡ c .args .capacity / 2 + c .args .increment * c .args .done
 parted c = rw (c .pre .1) (sum (c .args .capacity) (c .args .increment) (c .args .done) (c .pre .0 .some))
 
 mul-result : tie.Need-mul-result

@@ -1,6 +1,6 @@
 -- `hold` is right because it is the record with that mark.
 use borrow.Author.Needs.{needs}
-use Rattle.machine.specs.Calls.{holdOf}
+use Rattle.machine.specs.computed.Calls.{holdOf}
 use Rattle.machine.proofs.Machine.hold.Statement.{statement}
 use Rattle.machine.proofs.Machine.hold.Tie as tie
 

@@ -8,8 +8,8 @@ use borrow.Author.Tests.{not-true, not-false}
 use Rattle.block.specs.Questions.{loadNo}
 use Rattle.settings.specs.Settings.{capacityOf}
 use Rattle.bench.specs.laws.Sound.{sound as bench-parts}
-use Rattle.machine.specs.Machine.{soundOf}
-use Rattle.machine.specs.Calls.{loadOf}
+use Rattle.machine.specs.computed.Machine.{soundOf}
+use Rattle.machine.specs.computed.Calls.{loadOf}
 use Rattle.machine.specs.laws.Right.{Sound, sound}
 use Rattle.machine.specs.laws.Onward.{wide}
 use Rattle.machine.specs.laws.Load.{start-inside}

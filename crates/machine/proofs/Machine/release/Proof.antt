@@ -1,6 +1,6 @@
 -- `release` is right because it is the record with that mark.
 use borrow.Author.Needs.{needs}
-use Rattle.machine.specs.Calls.{releaseOf}
+use Rattle.machine.specs.computed.Calls.{releaseOf}
 use Rattle.machine.proofs.Machine.release.Statement.{statement}
 use Rattle.machine.proofs.Machine.release.Tie as tie
 

@@ -4,7 +4,7 @@ use mathlib.Core.Path.{_≡_, refl, sym, _∙_}
 use mathlib.Core.Bool.{true}
 use borrow.Author.Tests.{not-true, not-false}
 use denote.Ref.{now}
-use Rattle.machine.specs.Machine.{soundOf}
+use Rattle.machine.specs.computed.Machine.{soundOf}
 use Rattle.machine.specs.laws.Right.{sound}
 use Rattle.machine.specs.laws.Onward.{run-onward, run-left}
 use Rattle.machine.specs.laws.Next.{coming, left-less}

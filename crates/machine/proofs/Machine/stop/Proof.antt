@@ -6,7 +6,7 @@ use Rattle.block.specs.Chain.{chainCycles}
 use Rattle.queue.specs.Queue.{emptyQueue}
 use Rattle.bench.specs.Bench.{movedOf}
 use Rattle.machine.specs.Machine.{toDo, machineOf}
-use Rattle.machine.specs.Calls.{stopOf}
+use Rattle.machine.specs.computed.Calls.{stopOf}
 use Rattle.machine.proofs.Machine.stop.Statement.{statement}
 use Rattle.machine.proofs.Machine.stop.Tie as tie
 

@@ -4,8 +4,8 @@ use mathlib.Core.Path.{_≡_, refl, sym, _∙_}
 use mathlib.Core.Bool.{true}
 use Prim.Native.Nat.{_-_}
 use borrow.Author.Tests.{not-true, not-false}
-use Rattle.machine.specs.Machine.{soundOf}
-use Rattle.machine.specs.Calls.{tickOf}
+use Rattle.machine.specs.computed.Machine.{soundOf}
+use Rattle.machine.specs.computed.Calls.{tickOf}
 use Rattle.machine.specs.laws.Right.{sound}
 use Rattle.machine.specs.laws.Onward.{tick-onward, tick-left}
 use Rattle.machine.specs.laws.Next.{coming, left-less}

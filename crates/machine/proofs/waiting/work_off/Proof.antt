@@ -1,7 +1,7 @@
 -- `work_off` is right because each case of what is in work is asked its own root, and has its own count.
 use borrow.Author.Needs.{needs}
 use borrow.Author.Tests.{eqb-true, eq-eqb, ne-eqb, not-true, not-false}
-use mathlib.Core.Path.{_≡_, refl, sym, ap, _∙_}
+use mathlib.Core.Path.{refl, sym, _∙_}
 use native.Mathlib.Omega.{arith}
 use Rattle.work.specs.declared.Work.{Work}
 use Rattle.work.specs.laws.Left.{rooted}

@@ -15,7 +15,8 @@ within-requires-2 : tie.Need-within-requires-2
 within-requires-2 c κs = search needs
 
 -- what the first call says, over the fields themselves
-x-is : (c : tie.After-within) → c .within .result ≡ withinOf (c .before .before .before .before .args .travel .x) (c .before .before .before .before .args .at .x)
+x-is : (c : tie.After-within)
+    → c .within .result ≡ withinOf (c .before .before .before .before .args .travel .x) (c .before .before .before .before .args .at .x)
 x-is c = let at-x : SFits w64 (c .before .before .before .before .args .at .x) = search needs in simp toZ-ofZ at (c .within .ensures)
 
 returns : tie.Need-returns

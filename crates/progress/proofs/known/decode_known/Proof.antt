@@ -6,7 +6,7 @@ use lib.ListN.{getD}
 use mir.Syntax.{w64}
 use mir.Val.{SFits}
 use mir.Facts.{toZ-ofZ}
-use Rattle.progress.specs.Known.{decodeKnown}
+use Rattle.progress.specs.computed.Known.{decodeKnown}
 use Rattle.progress.specs.laws.Right.{known-same}
 use Rattle.progress.proofs.known.decode_known.Statement.{statement}
 use Rattle.progress.proofs.known.decode_known.Tie as tie

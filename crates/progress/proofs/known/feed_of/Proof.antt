@@ -22,13 +22,15 @@ returns-2 : tie.Need-returns-2
 returns-2 c =
     let s = c .before .before .before in
     let f = s .fits .word in
-    rw (lt-ltb _ _ (c .if2 .taken)) at (feed-some (s .args .word) (simp toZ-ofZ at (c .before .before .part .ensures)) (c .before .if1 .left))
+    rw (lt-ltb _ _ (c .if2 .taken)) at (feed-some (s .args .word) (simp toZ-ofZ at (c .before .before .part .ensures))
+    (c .before .if1 .left))
 
 returns-3 : tie.Need-returns-3
 returns-3 c =
     let s = c .before .before .before in
     let f = s .fits .word in
-    rw (le-ltb _ _ (c .if2 .left)) at (feed-some (s .args .word) (simp toZ-ofZ at (c .before .before .part .ensures)) (c .before .if1 .left))
+    rw (le-ltb _ _ (c .if2 .left)) at (feed-some (s .args .word) (simp toZ-ofZ at (c .before .before .part .ensures))
+    (c .before .if1 .left))
 
 pub feed-of-spec : {M : Type 1} → statement M
 feed-of-spec = tie.close (tie.spec part-requires returns cast-t5 returns-2 returns-3)

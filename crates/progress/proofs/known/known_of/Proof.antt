@@ -4,7 +4,7 @@ use mathlib.Core.Path.{_∙_}
 use mir.Syntax.{w64}
 use mir.Val.{SFits}
 use mir.Facts.{toZ-ofZ}
-use Rattle.layout.specs.laws.Number.{through}
+use Rattle.encoding.specs.laws.Number.{through}
 use Rattle.progress.specs.laws.Number.{motion-fits}
 use Rattle.progress.proofs.known.known_of.Statement.{statement}
 use Rattle.progress.proofs.known.known_of.Tie as tie

@@ -6,7 +6,7 @@ use mir.Syntax.{w64}
 use mir.Val.{SFits}
 use mir.Facts.{toZ-ofZ}
 use Rattle.plane.specs.Travel.{withinOf}
-use Rattle.progress.specs.Right.{motions, feeds, knownRight}
+use Rattle.progress.specs.computed.Right.{motions, feeds, knownRight}
 use Rattle.progress.proofs.known.known_right.Statement.{statement}
 use Rattle.progress.proofs.known.known_right.Tie as tie
 
@@ -15,7 +15,8 @@ motion-is : (c : tie.After-within) → c .within .result ≡ withinOf motions (c
 motion-is c = let f : SFits w64 (c .before .before .args .k .motion) = search needs in simp toZ-ofZ at (c .within .ensures)
 
 feed-is : (c : tie.After-within2) → c .within2 .result ≡ withinOf feeds (c .before .before .before .before .before .args .k .feed)
-feed-is c = let f : SFits w64 (c .before .before .before .before .before .args .k .feed) = search needs in simp toZ-ofZ at (c .within2 .ensures)
+feed-is c = let f : SFits w64 (c .before .before .before .before .before .args .k .feed) = search needs in
+    simp toZ-ofZ at (c .within2 .ensures)
 
 within-requires : tie.Need-within-requires
 within-requires c κs = search needs

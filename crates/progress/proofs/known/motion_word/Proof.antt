@@ -1,6 +1,6 @@
 -- `motion_word` is right by the cases; an arc's word is that of its turn.
 use borrow.Author.Needs.{needs}
-use Rattle.layout.specs.laws.Number.{turn-fits, through}
+use Rattle.encoding.specs.laws.Number.{turn-fits, through}
 use Rattle.progress.proofs.known.motion_word.Statement.{statement}
 use Rattle.progress.proofs.known.motion_word.Tie as tie
 
@@ -23,7 +23,8 @@ returns-2 : tie.Need-returns-2
 returns-2 c = cc
 
 returns-3 : tie.Need-returns-3
-returns-3 c = simp (c .before .before .motion .given .1) (through (turn-fits (c .before .before .motion .given .0 .0)) (c .turn-word .ensures))
+returns-3 c = simp (c .before .before .motion .given .1)
+    (through (turn-fits (c .before .before .motion .given .0 .0)) (c .turn-word .ensures))
 
 pub motion-word-spec : {M : Type 1} → statement M
 motion-word-spec =

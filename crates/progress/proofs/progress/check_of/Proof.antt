@@ -16,7 +16,13 @@ count-requires-2 : tie.Need-count-requires-2
 count-requires-2 c κs = search needs
 
 returns : tie.Need-returns
-returns c = search (needs, c .before .before .before .before .before .tally-of .ensures, c .before .before .before .count .ensures, c .before .before .stage-of .ensures, c .count2 .ensures)
+returns c = search (
+  needs,
+  c .before .before .before .before .before .tally-of .ensures,
+  c .before .before .before .count .ensures,
+  c .before .before .stage-of .ensures,
+  c .count2 .ensures,
+)
 
 pub check-of-spec : {M : Type 1} → statement M
 check-of-spec =

@@ -5,8 +5,8 @@ use mathlib.Core.Path.{_≡_, sym, _∙_}
 use mir.Syntax.{w64}
 use mir.Val.{SFits}
 use mir.Facts.{toZ-ofZ}
-use Rattle.layout.specs.Right.{isCount}
-use Rattle.progress.specs.Right.{countsRight}
+use Rattle.encoding.specs.computed.Right.{isCount}
+use Rattle.progress.specs.computed.Right.{countsRight}
 use Rattle.progress.proofs.progress.counts_right.Statement.{statement}
 use Rattle.progress.proofs.progress.counts_right.Tie as tie
 
@@ -15,16 +15,27 @@ at-is : (c : tie.After-is-count) → c .is-count .result ≡ isCount (c .before 
 at-is c = let f : SFits w64 (c .before .before .args .p .at) = search needs in simp toZ-ofZ at (c .is-count .ensures)
 
 lines-is : (c : tie.After-is-count2) → c .is-count2 .result ≡ isCount (c .before .before .before .before .before .args .p .lines)
-lines-is c = let f : SFits w64 (c .before .before .before .before .before .args .p .lines) = search needs in simp toZ-ofZ at (c .is-count2 .ensures)
+lines-is c = let f : SFits w64 (c .before .before .before .before .before .args .p .lines) = search needs in
+    simp toZ-ofZ at (c .is-count2 .ensures)
 
-blocks-is : (c : tie.After-is-count3) → c .is-count3 .result ≡ isCount (c .before .before .before .before .before .before .before .before .args .p .blocks)
-blocks-is c = let f : SFits w64 (c .before .before .before .before .before .before .before .before .args .p .blocks) = search needs in simp toZ-ofZ at (c .is-count3 .ensures)
+blocks-is : (c : tie.After-is-count3)
+    → c .is-count3 .result ≡ isCount (c .before .before .before .before .before .before .before .before .args .p .blocks)
+blocks-is c = let f : SFits w64 (c .before .before .before .before .before .before .before .before .args .p .blocks) = search needs in
+    simp toZ-ofZ at (c .is-count3 .ensures)
 
-cycles-is : (c : tie.After-is-count4) → c .is-count4 .result ≡ isCount (c .before .before .before .before .before .before .before .before .before .before .before .args .p .cycles)
-cycles-is c = let f : SFits w64 (c .before .before .before .before .before .before .before .before .before .before .before .args .p .cycles) = search needs in simp toZ-ofZ at (c .is-count4 .ensures)
+cycles-is : (c : tie.After-is-count4)
+    → c .is-count4 .result
+    ≡ isCount (c .before .before .before .before .before .before .before .before .before .before .before .args .p .cycles)
+cycles-is c = let f : SFits w64
+    (c .before .before .before .before .before .before .before .before .before .before .before .args .p .cycles) = search needs in
+    simp toZ-ofZ at (c .is-count4 .ensures)
 
-ticks-is : (c : tie.After-is-count5) → c .is-count5 .result ≡ isCount (c .before .before .before .before .before .before .before .before .before .before .before .before .before .before .args .p .ticks)
-ticks-is c = let f : SFits w64 (c .before .before .before .before .before .before .before .before .before .before .before .before .before .before .args .p .ticks) = search needs in simp toZ-ofZ at (c .is-count5 .ensures)
+ticks-is : (c : tie.After-is-count5)
+    → c .is-count5 .result
+    ≡ isCount (c .before .before .before .before .before .before .before .before .before .before .before .before .before .before .args .p .ticks)
+ticks-is c = let f : SFits w64
+    (c .before .before .before .before .before .before .before .before .before .before .before .before .before .before .args .p .ticks) =
+    search needs in simp toZ-ofZ at (c .is-count5 .ensures)
 
 is-count-requires : tie.Need-is-count-requires
 is-count-requires c κs = search needs
@@ -50,7 +61,12 @@ unfolding countsRight
 returns-3 c =
     let e2 = c .before .before .before in
     let e1 = e2 .before .before .before in
-    rw (sym (lines-is (e2 .before)) ∙ not-false _ (e2 .if2 .left), sym (at-is (e1 .before)) ∙ not-false _ (e1 .if1 .left), sym (blocks-is (c .before)) ∙ not-true _ (c .if3 .taken))
+    rw (
+      sym (lines-is (e2 .before)) ∙ not-false _ (e2 .if2 .left),
+      sym (at-is (e1 .before))
+          ∙ not-false _ (e1 .if1 .left),
+      sym (blocks-is (c .before)) ∙ not-true _ (c .if3 .taken),
+    )
 
 is-count-requires-4 : tie.Need-is-count-requires-4
 is-count-requires-4 c κs = search needs
@@ -61,7 +77,14 @@ returns-4 c =
     let e3 = c .before .before .before in
     let e2 = e3 .before .before .before in
     let e1 = e2 .before .before .before in
-    rw (sym (blocks-is (e3 .before)) ∙ not-false _ (e3 .if3 .left), sym (lines-is (e2 .before)) ∙ not-false _ (e2 .if2 .left), sym (at-is (e1 .before)) ∙ not-false _ (e1 .if1 .left), sym (cycles-is (c .before)) ∙ not-true _ (c .if4 .taken))
+    rw (
+      sym (blocks-is (e3 .before)) ∙ not-false _ (e3 .if3 .left),
+      sym (lines-is (e2 .before))
+          ∙ not-false _ (e2 .if2 .left),
+      sym (at-is (e1 .before)) ∙ not-false _ (e1 .if1 .left),
+      sym (cycles-is (c .before))
+          ∙ not-true _ (c .if4 .taken),
+    )
 
 is-count-requires-5 : tie.Need-is-count-requires-5
 is-count-requires-5 c κs = search needs
@@ -73,7 +96,15 @@ returns-5 c =
     let e3 = e4 .before .before .before in
     let e2 = e3 .before .before .before in
     let e1 = e2 .before .before .before in
-    ticks-is c ∙ rw (sym (cycles-is (e4 .before)) ∙ not-false _ (e4 .if4 .left), sym (blocks-is (e3 .before)) ∙ not-false _ (e3 .if3 .left), sym (lines-is (e2 .before)) ∙ not-false _ (e2 .if2 .left), sym (at-is (e1 .before)) ∙ not-false _ (e1 .if1 .left))
+    ticks-is c ∙ rw (
+      sym (cycles-is (e4 .before)) ∙ not-false _ (e4 .if4 .left),
+      sym (blocks-is (e3 .before))
+          ∙ not-false _ (e3 .if3 .left),
+      sym (lines-is (e2 .before)) ∙ not-false _ (e2 .if2 .left),
+      sym (at-is (e1 .before))
+          ∙ not-false _ (e1 .if1 .left),
+    )
 
 pub counts-right-spec : {M : Type 1} → statement M
-counts-right-spec = tie.close (tie.spec is-count-requires returns is-count-requires-2 returns-2 is-count-requires-3 returns-3 is-count-requires-4 returns-4 is-count-requires-5 returns-5)
+counts-right-spec = tie.close
+    (tie.spec is-count-requires returns is-count-requires-2 returns-2 is-count-requires-3 returns-3 is-count-requires-4 returns-4 is-count-requires-5 returns-5)

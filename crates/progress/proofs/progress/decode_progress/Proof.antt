@@ -3,8 +3,9 @@ use borrow.Author.Needs.{needs}
 use mathlib.Core.Path.{ap, subst, _∙_}
 use mir.Syntax.{w64}
 use mir.Val.{SFits}
-use Rattle.progress.specs.Progress.{checkIn, decodeProgress}
-use Rattle.progress.specs.Right.{progressRight}
+use Rattle.progress.specs.Progress.{checkIn}
+use Rattle.progress.specs.computed.Progress.{decodeProgress}
+use Rattle.progress.specs.computed.Right.{progressRight}
 use Rattle.progress.specs.laws.Right.{Fits, progress-same}
 use Rattle.progress.proofs.progress.decode_progress.Statement.{statement}
 use Rattle.progress.proofs.progress.decode_progress.Tie as tie
@@ -29,7 +30,8 @@ returns c =
     let k : SFits w64 (i .result .cycles) = search needs in
     let t : SFits w64 (i .result .ticks) = search needs in
     let fits = subst Fits (i .ensures) (record { at = a; lines = l; blocks = b; cycles = k; ticks = t }) in
-    let ok = c .progress-right .ensures ∙ ap progressRight (i .ensures) ∙ progress-same (c .before .before .before .args .m) ws (search needs) fits in
+    let ok = c .progress-right .ensures ∙ ap progressRight (i .ensures)
+    ∙ progress-same (c .before .before .before .args .m) ws (search needs) fits in
     simp (ok, c .before .check-of .ensures, i .ensures)
 
 pub decode-progress-spec : {M : Type 1} → statement M

@@ -1,6 +1,6 @@
 -- `progress_of` is right because each word is that of its number.
 use borrow.Author.Needs.{needs}
-use Rattle.layout.specs.laws.Number.{word-fits, through}
+use Rattle.encoding.specs.laws.Number.{word-fits, through}
 use Rattle.progress.specs.laws.Number.{stage-fits}
 use Rattle.progress.proofs.progress.progress_of.Statement.{statement}
 use Rattle.progress.proofs.progress.progress_of.Tie as tie

@@ -19,7 +19,14 @@ count-requires-4 : tie.Need-count-requires-4
 count-requires-4 c κs = search needs
 
 returns : tie.Need-returns
-returns c = search (needs, c .before .before .before .before .before .before .before .before .reader-of .ensures, c .before .before .before .before .before .before .count .ensures, c .before .before .before .before .count2 .ensures, c .before .before .count3 .ensures, c .count4 .ensures)
+returns c = search (
+  needs,
+  c .before .before .before .before .before .before .before .before .reader-of .ensures,
+  c .before .before .before .before .before .before .count .ensures,
+  c .before .before .before .before .count2 .ensures,
+  c .before .before .count3 .ensures,
+  c .count4 .ensures,
+)
 
 pub tally-of-spec : {M : Type 1} → statement M
 tally-of-spec =

@@ -11,7 +11,7 @@ use borrow.Author.Tests.{not-true, not-false}
 use Rattle.plane.specs.Travel.{insideOf}
 use Rattle.plane.specs.computed.Travel.{Wide}
 use Rattle.block.specs.laws.Accepted.{yes}
-use Rattle.queue.specs.Test.{holds}
+use Rattle.queue.specs.computed.Test.{chainHolds}
 use Rattle.queue.specs.laws.Places.{unmap}
 use Rattle.queue.specs.laws.Test.{too-long, tested, fits-has, wrong-one, fitting, counted, none-left}
 use Rattle.queue.proofs.Queue.is_sound.Statement.{statement}
@@ -20,7 +20,8 @@ use Rattle.queue.proofs.Queue.is_sound.Tie as tie
 abbrev Inv-loop : tie.InvT-loop
 Inv-loop capacity travel cycles self n start₀ left₀ i₀ start left i =
     Wide travel × (insideOf travel start ≡ true) × (n ≡ self .len) × (n ≤ 16) × (length (self .blocks) ≡ 16) × (i ≤ n)
-    × (holds capacity travel start₀ left₀ (take n (self .blocks)) ≡ holds capacity travel start left (drop i (take n (self .blocks))))
+    × (chainHolds capacity travel start₀ left₀ (take n (self .blocks))
+    ≡ chainHolds capacity travel start left (drop i (take n (self .blocks))))
 
 abbrev μ-loop : tie.MeasureT-loop
 μ-loop capacity travel cycles self n start₀ left₀ i₀ start left i = n - i

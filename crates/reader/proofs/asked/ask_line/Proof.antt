@@ -7,7 +7,7 @@ use native.Mathlib.Omega.{arith}
 use lib.ListN.{length}
 use Rattle.words.specs.computed.Meaning.{meaningOf}
 use Rattle.words.specs.laws.Scanning.{first-whole}
-use Rattle.reader.specs.Asked.{askedOf}
+use Rattle.reader.specs.computed.Asked.{askedOf}
 use Rattle.reader.specs.laws.Asked.{asked-broken}
 use Rattle.reader.proofs.asked.ask_line.Statement.{statement}
 use Rattle.reader.proofs.asked.ask_line.Tie as tie

@@ -2,8 +2,9 @@
 use borrow.Author.Needs.{needs}
 use mathlib.Core.Path.{_≡_, sym, _∙_}
 use borrow.Author.Tests.{not-true, not-false}
-use Rattle.reader.specs.Reader.{readerAfter, lineNo}
-use Rattle.reader.specs.Asked.{askedOf}
+use Rattle.reader.specs.Reader.{readerAfter}
+use Rattle.reader.specs.computed.Reader.{lineNo}
+use Rattle.reader.specs.computed.Asked.{askedOf}
 use Rattle.reader.specs.laws.Small.{small-words}
 use Rattle.reader.specs.laws.Asked.{asked-refused}
 use Rattle.reader.proofs.asked.ask_words.Statement.{statement}

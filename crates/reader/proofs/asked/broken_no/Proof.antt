@@ -1,6 +1,6 @@
 -- `broken_no` is right because its test is that of the definition.
 use borrow.Author.Tests.{le-leb, lt-leb}
-use Rattle.reader.specs.Reader.{longestLine}
+use Rattle.reader.specs.computed.Reader.{longestLine}
 use Rattle.reader.proofs.asked.broken_no.Statement.{statement}
 use Rattle.reader.proofs.asked.broken_no.Tie as tie
 

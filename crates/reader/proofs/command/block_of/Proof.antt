@@ -26,8 +26,10 @@ returns c =
     let s = c .before .before .before .before .before .before .before .before in
     let at-x : SFits w64 (s .args .at .x) = search needs in
     let at-y : SFits w64 (s .args .at .y) = search needs in
-    let x : SFits w64 (coordinate (s .args .scale) (s .args .ws .x) (s .args .at .x)) = coordinate-fits _ (s .args .ws .x) _ (s .pre .1 .x) at-x in
-    let y : SFits w64 (coordinate (s .args .scale) (s .args .ws .y) (s .args .at .y)) = coordinate-fits _ (s .args .ws .y) _ (s .pre .1 .y) at-y in
+    let x : SFits w64 (coordinate (s .args .scale) (s .args .ws .x) (s .args .at .x)) =
+    coordinate-fits _ (s .args .ws .x) _ (s .pre .1 .x) at-x in
+    let y : SFits w64 (coordinate (s .args .scale) (s .args .ws .y) (s .args .at .y)) =
+    coordinate-fits _ (s .args .ws .y) _ (s .pre .1 .y) at-y in
     let x-is = simp toZ-ofZ at (c .before .before .before .before .coordinate-of .ensures) in
     let y-is = simp toZ-ofZ at (c .before .before .coordinate-of2 .ensures) in
     rw (c .before .path-of .ensures, c .feed-number .ensures, x-is, y-is, toZ-ofZ x, toZ-ofZ y)

@@ -3,7 +3,7 @@ use borrow.Author.Needs.{needs}
 use mir.Syntax.{w64}
 use mir.Val.{SFits}
 use mir.Facts.{toZ-ofZ}
-use Rattle.reader.specs.Reader.{pulsesOf}
+use Rattle.reader.specs.Reader.{inPulses}
 use Rattle.reader.specs.laws.Small.{pulses-fit}
 use Rattle.reader.proofs.command.coordinate_of.Statement.{statement}
 use Rattle.reader.proofs.command.coordinate_of.Tie as tie
@@ -14,7 +14,7 @@ pulses-requires c κs = search needs
 returns : tie.Need-returns
 returns c =
     let s = c .before .before in
-    let fits : SFits w64 (pulsesOf (s .args .scale) (s .args .w)) = pulses-fit (s .args .scale) (s .args .w) (s .pre) in
+    let fits : SFits w64 (inPulses (s .args .scale) (s .args .w)) = pulses-fit (s .args .scale) (s .args .w) (s .pre) in
     rw (c .pulses .ensures, c .before .if1 .taken) (toZ-ofZ fits)
 
 returns-2 : tie.Need-returns-2

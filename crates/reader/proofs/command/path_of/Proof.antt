@@ -3,7 +3,7 @@ use borrow.Author.Needs.{needs}
 use mir.Syntax.{w64}
 use mir.Val.{SFits}
 use mir.Facts.{toZ-ofZ}
-use Rattle.reader.specs.Reader.{pulsesOf}
+use Rattle.reader.specs.Reader.{inPulses}
 use Rattle.reader.specs.laws.Small.{pulses-fit}
 use Rattle.reader.proofs.command.path_of.Statement.{statement}
 use Rattle.reader.proofs.command.path_of.Tie as tie
@@ -32,8 +32,8 @@ returns-2 c = rw (c .enum-told2 .given .1)
 returns-3 : tie.Need-returns-3
 returns-3 c =
     let s = c .before .before .before .before .before .before .before in
-    let i : SFits w64 (pulsesOf (s .args .scale) (s .args .ws .i)) = pulses-fit (s .args .scale) (s .args .ws .i) (s .pre .i) in
-    let j : SFits w64 (pulsesOf (s .args .scale) (s .args .ws .j)) = pulses-fit (s .args .scale) (s .args .ws .j) (s .pre .j) in
+    let i : SFits w64 (inPulses (s .args .scale) (s .args .ws .i)) = pulses-fit (s .args .scale) (s .args .ws .i) (s .pre .i) in
+    let j : SFits w64 (inPulses (s .args .scale) (s .args .ws .j)) = pulses-fit (s .args .scale) (s .args .ws .j) (s .pre .j) in
     rw (c .before .before .before .before .before .m .given .1, c .before .pulses .ensures, c .pulses2 .ensures, toZ-ofZ i, toZ-ofZ j)
 
 pub path-of-spec : {M : Type 1} → statement M

@@ -15,13 +15,22 @@ motion-known-requires : tie.Need-motion-known-requires
 motion-known-requires c κs = search needs
 
 returns-2 : tie.Need-returns-2
-returns-2 c = rw (sym (c .before .before .before .moves .ensures) ∙ not-false _ (c .before .before .if1 .left), sym (c .before .motion-known .ensures) ∙ not-true _ (c .if2 .taken))
+returns-2 c = rw (
+  sym (c .before .before .before .moves .ensures)
+      ∙ not-false _ (c .before .before .if1 .left),
+  sym (c .before .motion-known .ensures) ∙ not-true _ (c .if2 .taken),
+)
 
 feed-known-requires : tie.Need-feed-known-requires
 feed-known-requires c κs = search needs
 
 returns-3 : tie.Need-returns-3
-returns-3 c = c .feed-known .ensures ∙ rw (sym (c .before .before .before .before .moves .ensures) ∙ not-false _ (c .before .before .before .if1 .left), sym (c .before .before .motion-known .ensures) ∙ not-false _ (c .before .if2 .left))
+returns-3 c = c .feed-known .ensures ∙ rw (
+  sym (c .before .before .before .before .moves .ensures)
+      ∙ not-false _ (c .before .before .before .if1 .left),
+  sym (c .before .before .motion-known .ensures)
+      ∙ not-false _ (c .before .if2 .left),
+)
 
 pub all-known-spec : {M : Type 1} → statement M
 all-known-spec =

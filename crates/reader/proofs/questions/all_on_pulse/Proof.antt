@@ -16,14 +16,25 @@ on-pulse-requires-2 : tie.Need-on-pulse-requires-2
 on-pulse-requires-2 c κs = search needs
 
 returns-2 : tie.Need-returns-2
-returns-2 c = rw (sym (c .before .before .before .on-pulse .ensures) ∙ not-false _ (c .before .before .if1 .left), sym (c .before .on-pulse2 .ensures) ∙ not-true _ (c .if2 .taken))
+returns-2 c = rw (
+  sym (c .before .before .before .on-pulse .ensures)
+      ∙ not-false _ (c .before .before .if1 .left),
+  sym (c .before .on-pulse2 .ensures) ∙ not-true _ (c .if2 .taken),
+)
 
 returns-3 : tie.Need-returns-3
 returns-3 c =
     let i = c .before .before in
     let e2 = i .before .before in
     let e1 = e2 .before .before in
-    rw (sym (e1 .before .on-pulse .ensures) ∙ not-false _ (e1 .if1 .left), sym (e2 .before .on-pulse2 .ensures) ∙ not-false _ (e2 .if2 .left), i .if3 .taken, c .if4 .taken, zero-mul)
+    rw (
+      sym (e1 .before .on-pulse .ensures) ∙ not-false _ (e1 .if1 .left),
+      sym (e2 .before .on-pulse2 .ensures)
+          ∙ not-false _ (e2 .if2 .left),
+      i .if3 .taken,
+      c .if4 .taken,
+      zero-mul,
+    )
 
 on-pulse-requires-3 : tie.Need-on-pulse-requires-3
 on-pulse-requires-3 c κs = search needs
@@ -32,7 +43,12 @@ returns-4 : tie.Need-returns-4
 returns-4 c =
     let e2 = c .before .before .before .before in
     let e1 = e2 .before .before in
-    rw (sym (e1 .before .on-pulse .ensures) ∙ not-false _ (e1 .if1 .left), sym (e2 .before .on-pulse2 .ensures) ∙ not-false _ (e2 .if2 .left), sym (c .before .on-pulse3 .ensures) ∙ not-true _ (c .if5 .taken))
+    rw (
+      sym (e1 .before .on-pulse .ensures) ∙ not-false _ (e1 .if1 .left),
+      sym (e2 .before .on-pulse2 .ensures)
+          ∙ not-false _ (e2 .if2 .left),
+      sym (c .before .on-pulse3 .ensures) ∙ not-true _ (c .if5 .taken),
+    )
 
 on-pulse-requires-4 : tie.Need-on-pulse-requires-4
 on-pulse-requires-4 c κs = search needs
@@ -43,7 +59,12 @@ returns-5 c =
     let e2 = e3 .before .before .before .before in
     let e1 = e2 .before .before in
     c .on-pulse4 .ensures
-    ∙ rw (sym (e1 .before .on-pulse .ensures) ∙ not-false _ (e1 .if1 .left), sym (e2 .before .on-pulse2 .ensures) ∙ not-false _ (e2 .if2 .left), sym (e3 .before .on-pulse3 .ensures) ∙ not-false _ (e3 .if5 .left))
+    ∙ rw (
+      sym (e1 .before .on-pulse .ensures) ∙ not-false _ (e1 .if1 .left),
+      sym (e2 .before .on-pulse2 .ensures)
+          ∙ not-false _ (e2 .if2 .left),
+      sym (e3 .before .on-pulse3 .ensures) ∙ not-false _ (e3 .if5 .left),
+    )
 
 pub all-on-pulse-spec : {M : Type 1} → statement M
 all-on-pulse-spec =

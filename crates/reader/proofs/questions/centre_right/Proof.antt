@@ -15,10 +15,18 @@ is-centred-requires : tie.Need-is-centred-requires
 is-centred-requires c κs = search needs
 
 returns : tie.Need-returns
-returns c = c .is-centred .ensures ∙ rw (sym (c .before .before .before .before .is-arc .ensures) ∙ c .before .before .before .if1 .taken, sym (c .before .before .is-placed .ensures) ∙ c .before .if2 .taken)
+returns c = c .is-centred .ensures ∙ rw (
+  sym (c .before .before .before .before .is-arc .ensures)
+      ∙ c .before .before .before .if1 .taken,
+  sym (c .before .before .is-placed .ensures) ∙ c .before .if2 .taken,
+)
 
 returns-2 : tie.Need-returns-2
-returns-2 c = rw (sym (c .before .before .before .is-arc .ensures) ∙ c .before .before .if1 .taken, sym (c .before .is-placed .ensures) ∙ c .if2 .left)
+returns-2 c = rw (
+  sym (c .before .before .before .is-arc .ensures) ∙ c .before .before .if1 .taken,
+  sym (c .before .is-placed .ensures)
+      ∙ c .if2 .left,
+)
 
 is-centred-requires-2 : tie.Need-is-centred-requires-2
 is-centred-requires-2 c κs = search needs

@@ -4,7 +4,7 @@ use mathlib.Core.Path.{_≡_, sym, _∙_}
 use mathlib.Core.Bool.{true}
 use borrow.Author.Tests.{not-true, not-false, lt-leb, le-leb}
 use lib.Dec.{leb}
-use Rattle.reader.specs.Reader.{longestLine, motionRight, allOnPulse, allKnown, lineNo}
+use Rattle.reader.specs.computed.Reader.{longestLine, motionRight, allOnPulse, allKnown, lineNo}
 use Rattle.reader.proofs.questions.line_no.Statement.{statement}
 use Rattle.reader.proofs.questions.line_no.Tie as tie
 
@@ -21,10 +21,14 @@ once c = not-false (c .before .before .before .before .before .args .l .once) (c
 motion : (c : tie.Else4) → motionRight (c .before .before .before .before .before .before .before .before .before .args .l .words .g) ≡ true
 motion c = sym (c .before .motion-right .ensures) ∙ not-false _ (c .if4 .left)
 
-pulses : (c : tie.Else5) → allOnPulse (c .before .before .before .before .before .before .before .before .before .before .before .args .scale) (c .before .before .before .before .before .before .before .before .before .before .before .args .l .words) ≡ true
+pulses : (c : tie.Else5)
+    → allOnPulse (c .before .before .before .before .before .before .before .before .before .before .before .args .scale)
+    (c .before .before .before .before .before .before .before .before .before .before .before .args .l .words) ≡ true
 pulses c = sym (c .before .all-on-pulse .ensures) ∙ not-false _ (c .if5 .left)
 
-known : (c : tie.Else6) → allKnown (c .before .before .before .before .before .before .before .before .before .before .before .before .before .args .k) (c .before .before .before .before .before .before .before .before .before .before .before .before .before .args .l .words) ≡ true
+known : (c : tie.Else6)
+    → allKnown (c .before .before .before .before .before .before .before .before .before .before .before .before .before .args .k)
+    (c .before .before .before .before .before .before .before .before .before .before .before .before .before .args .l .words) ≡ true
 known c = sym (c .before .all-known .ensures) ∙ not-false _ (c .if6 .left)
 
 returns : tie.Need-returns
@@ -37,7 +41,11 @@ returns-2 c = rw (short (c .before .before), not-true (c .before .before .before
 
 returns-3 : tie.Need-returns-3
 unfolding lineNo
-returns-3 c = rw (short (c .before .before .before .before), formed (c .before .before), not-true (c .before .before .before .before .before .args .l .once) (c .if3 .taken))
+returns-3 c = rw (
+  short (c .before .before .before .before),
+  formed (c .before .before),
+  not-true (c .before .before .before .before .before .args .l .once) (c .if3 .taken),
+)
 
 motion-right-requires : tie.Need-motion-right-requires
 motion-right-requires c κs = search needs
@@ -46,7 +54,13 @@ returns-4 : tie.Need-returns-4
 unfolding lineNo
 returns-4 c =
     let e3 = c .before .before .before .before in
-    rw (short (e3 .before .before .before .before), formed (e3 .before .before), once e3, sym (c .before .motion-right .ensures) ∙ not-true _ (c .if4 .taken))
+    rw (
+      short (e3 .before .before .before .before),
+      formed (e3 .before .before),
+      once e3,
+      sym (c .before .motion-right .ensures)
+          ∙ not-true _ (c .if4 .taken),
+    )
 
 all-on-pulse-requires : tie.Need-all-on-pulse-requires
 all-on-pulse-requires c κs = search needs
@@ -56,7 +70,14 @@ unfolding lineNo
 returns-5 c =
     let e4 = c .before .before in
     let e3 = e4 .before .before .before .before in
-    rw (short (e3 .before .before .before .before), formed (e3 .before .before), once e3, motion e4, sym (c .before .all-on-pulse .ensures) ∙ not-true _ (c .if5 .taken))
+    rw (
+      short (e3 .before .before .before .before),
+      formed (e3 .before .before),
+      once e3,
+      motion e4,
+      sym (c .before .all-on-pulse .ensures)
+          ∙ not-true _ (c .if5 .taken),
+    )
 
 all-known-requires : tie.Need-all-known-requires
 all-known-requires c κs = search needs
@@ -67,7 +88,14 @@ returns-6 c =
     let e5 = c .before .before in
     let e4 = e5 .before .before in
     let e3 = e4 .before .before .before .before in
-    rw (short (e3 .before .before .before .before), formed (e3 .before .before), once e3, motion e4, pulses e5, sym (c .before .all-known .ensures) ∙ not-true _ (c .if6 .taken))
+    rw (
+      short (e3 .before .before .before .before),
+      formed (e3 .before .before),
+      once e3,
+      motion e4,
+      pulses e5,
+      sym (c .before .all-known .ensures) ∙ not-true _ (c .if6 .taken),
+    )
 
 centre-right-requires : tie.Need-centre-right-requires
 centre-right-requires c κs = search needs
@@ -79,7 +107,15 @@ returns-7 c =
     let e5 = e6 .before .before in
     let e4 = e5 .before .before in
     let e3 = e4 .before .before .before .before in
-    rw (short (e3 .before .before .before .before), formed (e3 .before .before), once e3, motion e4, pulses e5, known e6, sym (c .before .centre-right .ensures) ∙ not-true _ (c .if7 .taken))
+    rw (
+      short (e3 .before .before .before .before),
+      formed (e3 .before .before),
+      once e3,
+      motion e4,
+      pulses e5,
+      known e6,
+      sym (c .before .centre-right .ensures) ∙ not-true _ (c .if7 .taken),
+    )
 
 returns-8 : tie.Need-returns-8
 unfolding lineNo
@@ -88,7 +124,15 @@ returns-8 c =
     let e5 = e6 .before .before in
     let e4 = e5 .before .before in
     let e3 = e4 .before .before .before .before in
-    rw (short (e3 .before .before .before .before), formed (e3 .before .before), once e3, motion e4, pulses e5, known e6, sym (c .before .centre-right .ensures) ∙ not-false _ (c .if7 .left))
+    rw (
+      short (e3 .before .before .before .before),
+      formed (e3 .before .before),
+      once e3,
+      motion e4,
+      pulses e5,
+      known e6,
+      sym (c .before .centre-right .ensures) ∙ not-false _ (c .if7 .left),
+    )
 
 pub line-no-spec : {M : Type 1} → statement M
 line-no-spec =

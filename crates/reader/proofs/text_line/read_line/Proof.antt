@@ -4,9 +4,9 @@ use mathlib.Core.Path.{_≡_, sym, _∙_}
 use mathlib.Core.Bool.{true}
 use borrow.Author.Tests.{not-true, not-false}
 use Rattle.settings.specs.laws.Right.{settings-right}
-use Rattle.bench.specs.Bench.{soundOf}
+use Rattle.bench.specs.computed.Bench.{soundOf}
 use Rattle.bench.specs.laws.Sound.{sound}
-use Rattle.reader.specs.TextLine.{readLineOf}
+use Rattle.reader.specs.computed.TextLine.{readLineOf}
 use Rattle.reader.proofs.text_line.read_line.Statement.{statement}
 use Rattle.reader.proofs.text_line.read_line.Tie as tie
 

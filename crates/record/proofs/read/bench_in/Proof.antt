@@ -1,6 +1,6 @@
 -- `bench_in` is right because it reads both parts of the words.
 use borrow.Author.Needs.{needs}
-use Rattle.record.specs.Words.{benchIn}
+use Rattle.record.specs.computed.Words.{benchIn}
 use Rattle.record.proofs.read.bench_in.Statement.{statement}
 use Rattle.record.proofs.read.bench_in.Tie as tie
 
@@ -13,16 +13,16 @@ work-of-requires c κs = search needs
 head-in-requires : tie.Need-head-in-requires
 head-in-requires c κs = search needs
 
-machine-of-requires : tie.Need-machine-of-requires
-machine-of-requires c κs = search needs
+bench-of-requires : tie.Need-bench-of-requires
+bench-of-requires c κs = search needs
 
 returns : tie.Need-returns
 unfolding benchIn
 returns c =
     let w = c .before .before in
-    simp (c .machine-of .ensures, c .before .head-in .ensures, w .work-of .ensures, w .before .work-words-in .ensures)
+    simp (c .bench-of .ensures, c .before .head-in .ensures, w .work-of .ensures, w .before .work-words-in .ensures)
 
 pub bench-in-spec : {M : Type 1} → statement M
 bench-in-spec =
     tie.close
-    (tie.spec work-words-in-requires work-of-requires head-in-requires machine-of-requires returns)
+    (tie.spec work-words-in-requires work-of-requires head-in-requires bench-of-requires returns)

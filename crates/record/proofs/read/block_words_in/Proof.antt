@@ -8,7 +8,7 @@ use denote.Ref.{now}
 use mir.Syntax.{w64}
 use mir.Val.{toZ, ofZ}
 use mir.Facts.{toZ-ofZ}
-use Rattle.layout.specs.Words.{at}
+use Rattle.encoding.specs.Words.{at}
 use Rattle.record.proofs.read.block_words_in.Statement.{statement}
 use Rattle.record.proofs.read.block_words_in.Tie as tie
 

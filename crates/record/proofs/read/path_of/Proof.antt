@@ -5,7 +5,7 @@ use borrow.Author.Tests.{eq-eqb, ne-eqb}
 use mir.Syntax.{w64}
 use mir.Val.{SFits}
 use mir.Facts.{toZ-ofZ}
-use Rattle.layout.specs.Words.{countOf}
+use Rattle.encoding.specs.Words.{countOf}
 use Rattle.record.proofs.read.path_of.Statement.{statement}
 use Rattle.record.proofs.read.path_of.Tie as tie
 

@@ -4,7 +4,7 @@ use mathlib.Core.Path.{ap, _∙_}
 use mir.Syntax.{w64}
 use mir.Val.{SFits}
 use mir.Facts.{toZ-ofZ}
-use Rattle.layout.specs.Words.{countOf}
+use Rattle.encoding.specs.Words.{countOf}
 use Rattle.record.specs.declared.read.Figures.{Figures}
 use Rattle.record.proofs.read.root_in.Statement.{statement}
 use Rattle.record.proofs.read.root_in.Tie as tie

@@ -1,6 +1,6 @@
 -- `waiting_of` is right because it reads the numbers in the definition's order.
 use borrow.Author.Needs.{needs}
-use Rattle.record.specs.Words.{waitingOf}
+use Rattle.record.specs.computed.Words.{waitingOf}
 use Rattle.record.proofs.read.waiting_of.Statement.{statement}
 use Rattle.record.proofs.read.waiting_of.Tie as tie
 

@@ -5,8 +5,8 @@ use mathlib.Core.Path.{_≡_, sym, _∙_}
 use mir.Syntax.{w64}
 use mir.Val.{SFits}
 use mir.Facts.{toZ-ofZ}
-use Rattle.layout.specs.Right.{isCount}
-use Rattle.record.specs.Right.{figuresRight}
+use Rattle.encoding.specs.computed.Right.{isCount}
+use Rattle.record.specs.computed.Right.{figuresRight}
 use Rattle.record.proofs.sound.figures_right.Statement.{statement}
 use Rattle.record.proofs.sound.figures_right.Tie as tie
 

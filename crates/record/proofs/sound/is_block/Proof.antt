@@ -8,8 +8,8 @@ use mir.Syntax.{w64}
 use mir.Val.{SFits}
 use mir.Facts.{toZ-ofZ}
 use Rattle.whole.specs.Equal.{equalZ}
-use Rattle.layout.specs.Right.{isCount}
-use Rattle.record.specs.Right.{isBlock, blockRight}
+use Rattle.encoding.specs.computed.Right.{isCount}
+use Rattle.record.specs.computed.Right.{blockRowRight, blockRight}
 use Rattle.record.specs.laws.Right.{block-same}
 use Rattle.record.proofs.sound.is_block.Statement.{statement}
 use Rattle.record.proofs.sound.is_block.Tie as tie
@@ -49,7 +49,7 @@ ccw-is c = let f : SFits w64 (c .before .before .before .before .before .before 
     .before .args .b .kind) = search needs in simp toZ-ofZ at (c .equal5 .ensures)
 
 -- the tests are those of its own words
-own : (c : tie.After-struct-told) → blockRight (c .before .args .b) ≡ isBlock (c .before .args .b)
+own : (c : tie.After-struct-told) → blockRight (c .before .args .b) ≡ blockRowRight (c .before .args .b)
 own c = block-same (c .before .args .b) (record { feed = search needs; root = search needs })
 
 -- the counts asked before

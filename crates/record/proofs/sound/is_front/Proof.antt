@@ -8,13 +8,14 @@ use mir.Syntax.{w64}
 use mir.Val.{SFits}
 use mir.Facts.{toZ-ofZ}
 use Rattle.whole.specs.Equal.{equalZ}
-use Rattle.layout.specs.declared.encode.Head.{Head}
-use Rattle.layout.specs.Words.{abi, at, headIn, workWordsIn}
-use Rattle.layout.specs.Right.{headRight, workRight}
-use Rattle.layout.specs.laws.Right.{WorkFits}
+use Rattle.encoding.specs.declared.encode.Head.{Head}
+use Rattle.encoding.specs.Words.{abi, at}
+use Rattle.encoding.specs.computed.Words.{headIn, workWordsIn}
+use Rattle.encoding.specs.computed.Right.{headRight, workRight}
+use Rattle.encoding.specs.laws.Right.{WorkFits}
 use Rattle.record.specs.declared.read.Figures.{Figures}
-use Rattle.record.specs.Words.{figuresIn}
-use Rattle.record.specs.Right.{figuresRight, isFront, frontRight}
+use Rattle.record.specs.computed.Words.{figuresIn}
+use Rattle.record.specs.computed.Right.{figuresRight, isFront, frontRight}
 use Rattle.record.specs.laws.Right.{front-same}
 use Rattle.record.proofs.sound.is_front.Statement.{statement}
 use Rattle.record.proofs.sound.is_front.Tie as tie

@@ -4,8 +4,8 @@ use borrow.Author.Tests.{not-true, not-false}
 use mathlib.Core.Path.{_≡_, sym, ap, _∙_}
 use lib.ListN.{length}
 use denote.Ref.{now}
-use Rattle.bench.specs.Bench.{soundOf}
-use Rattle.record.specs.Words.{benchIn}
+use Rattle.bench.specs.computed.Bench.{soundOf}
+use Rattle.record.specs.computed.Words.{benchIn}
 use Rattle.record.specs.laws.Sound.{front-wrong, bench-wrong, waiting-is}
 use Rattle.record.proofs.sound.is_sound.Statement.{statement}
 use Rattle.record.proofs.sound.is_sound.Tie as tie

@@ -11,7 +11,7 @@ use Rattle.plane.specs.Travel.{insideOf}
 use Rattle.plane.specs.computed.Travel.{Wide}
 use Rattle.block.specs.laws.Accepted.{yes}
 use Rattle.queue.specs.laws.Test.{fits-has}
-use Rattle.record.specs.Right.{rowRight}
+use Rattle.record.specs.computed.Right.{rowRight}
 use Rattle.record.specs.laws.Right.{row-long, row-tested, row-end, wrong-words, wrong-block, fitting, counted}
 use Rattle.record.proofs.sound.row_right.Statement.{statement}
 use Rattle.record.proofs.sound.row_right.Tie as tie

@@ -8,7 +8,7 @@ use mir.Val.{SFits}
 use mir.Facts.{toZ-ofZ}
 use Rattle.bench.specs.laws.Sound.{sound}
 use Rattle.machine.specs.laws.Onward.{wide, work-countable, work-end-inside}
-use Rattle.layout.specs.Words.{at, countOf}
+use Rattle.encoding.specs.Words.{at, countOf}
 use Rattle.record.specs.declared.read.Figures.{Figures}
 use Rattle.record.specs.laws.Sound.{work-wrong, none-right, idle-wrong, busy-right}
 use Rattle.record.proofs.sound.waiting_right.Statement.{statement}

@@ -1,6 +1,6 @@
 -- `block_words` is right because each path has its own words.
 use borrow.Author.Needs.{needs}
-use Rattle.layout.specs.laws.Number.{word-fits, turn-fits, through}
+use Rattle.encoding.specs.laws.Number.{word-fits, turn-fits, through}
 use Rattle.record.proofs.write.block_words.Statement.{statement}
 use Rattle.record.proofs.write.block_words.Tie as tie
 

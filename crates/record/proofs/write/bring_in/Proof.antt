@@ -7,10 +7,10 @@ use denote.Ref.{now}
 use mir.Syntax.{w64}
 use mir.Val.{SFits}
 use mir.Facts.{toZ-ofZ}
-use Rattle.layout.specs.Words.{countOf}
-use Rattle.layout.specs.laws.Number.{word-fits, through}
+use Rattle.encoding.specs.Words.{countOf}
+use Rattle.encoding.specs.laws.Number.{word-fits, through}
 use Rattle.record.specs.declared.read.Figures.{Figures}
-use Rattle.record.specs.Words.{lenIn}
+use Rattle.record.specs.computed.Words.{lenIn}
 use Rattle.record.specs.laws.Write.{brought-none, brought-first}
 use Rattle.record.proofs.write.bring_in.Statement.{statement}
 use Rattle.record.proofs.write.bring_in.Tie as tie

@@ -1,7 +1,7 @@
 -- `into_work` is right because it stores the words of the block, its root and the figure.
 use borrow.Author.Needs.{needs}
 use denote.Ref.{now}
-use Rattle.layout.specs.laws.Number.{word-fits, through}
+use Rattle.encoding.specs.laws.Number.{word-fits, through}
 use Rattle.record.specs.laws.Load.{works}
 use Rattle.record.proofs.write.into_work.Statement.{statement}
 use Rattle.record.proofs.write.into_work.Tie as tie

@@ -1,8 +1,8 @@
 -- `push` is right because it stores the seven words behind the last block that waits.
 use borrow.Author.Needs.{needs}
 use denote.Ref.{now}
-use Rattle.layout.specs.laws.Number.{word-fits, through}
-use Rattle.record.specs.Words.{machineIn}
+use Rattle.encoding.specs.laws.Number.{word-fits, through}
+use Rattle.record.specs.computed.Words.{machineIn}
 use Rattle.record.specs.laws.Load.{pushes}
 use Rattle.record.proofs.write.push.Statement.{statement}
 use Rattle.record.proofs.write.push.Tie as tie

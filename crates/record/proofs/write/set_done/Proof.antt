@@ -1,6 +1,6 @@
 -- `set_done` is right because it stores one word.
 use borrow.Author.Needs.{needs}
-use Rattle.layout.specs.laws.Number.{word-fits, through}
+use Rattle.encoding.specs.laws.Number.{word-fits, through}
 use Rattle.record.proofs.write.set_done.Statement.{statement}
 use Rattle.record.proofs.write.set_done.Tie as tie
 

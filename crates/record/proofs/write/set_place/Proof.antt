@@ -3,7 +3,7 @@ use borrow.Author.Needs.{needs}
 use mir.Syntax.{w64}
 use mir.Val.{SFits}
 use mir.Facts.{toZ-ofZ}
-use Rattle.layout.specs.laws.Number.{word-fits, through}
+use Rattle.encoding.specs.laws.Number.{word-fits, through}
 use Rattle.record.proofs.write.set_place.Statement.{statement}
 use Rattle.record.proofs.write.set_place.Tie as tie
 

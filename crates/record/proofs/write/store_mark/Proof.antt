@@ -1,7 +1,7 @@
 -- `store_mark` is right because it stores one word.
 use borrow.Author.Needs.{needs}
 use denote.Ref.{now}
-use Rattle.layout.specs.laws.Number.{mark-fits, through}
+use Rattle.encoding.specs.laws.Number.{mark-fits, through}
 use Rattle.record.specs.laws.Write.{marked}
 use Rattle.record.proofs.write.store_mark.Statement.{statement}
 use Rattle.record.proofs.write.store_mark.Tie as tie

@@ -3,7 +3,7 @@ use borrow.Author.Needs.{needs}
 use mathlib.Core.Path.{ap}
 use denote.Ref.{now}
 use Rattle.work.specs.Work.{isNothing}
-use Rattle.layout.specs.laws.Number.{word-fits, through}
+use Rattle.encoding.specs.laws.Number.{word-fits, through}
 use Rattle.record.specs.laws.Write.{bringing, idle-words, line-words, arc-words}
 use Rattle.record.proofs.write.store_ticks.Statement.{statement}
 use Rattle.record.proofs.write.store_ticks.Tie as tie

@@ -9,8 +9,9 @@ use Rattle.work.specs.Work.{isNothing}
 use Rattle.work.specs.laws.Left.{accepted-loadable, begun-countable, rooted}
 use Rattle.machine.specs.declared.Answered.{Answered}
 use Rattle.machine.specs.laws.Load.{room-left, taken-accepted, taken-fits, c-own, into-work, waits}
-use Rattle.record.specs.Words.{encodeOf, over, machineIn}
-use Rattle.record.specs.Write.{workingOf, waitsOf}
+use Rattle.record.specs.Words.{encodeOf, over}
+use Rattle.record.specs.computed.Words.{machineIn}
+use Rattle.record.specs.computed.Write.{workingOf, waitsOf}
 use Rattle.record.proofs.write.take.Statement.{statement}
 use Rattle.record.proofs.write.take.Tie as tie
 

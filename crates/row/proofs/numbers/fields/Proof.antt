@@ -1,5 +1,5 @@
 -- `fields` is right because each number but the last is written with its blank, and the last with the LF.
-use Prim.Native.Nat.{_+_, _-_}
+use Prim.Native.Nat.{_-_}
 use native.Mathlib.Omega.{arith}
 use mathlib.Core.Path.{_≡_}
 use lib.ListN.{length, getD}

@@ -6,7 +6,7 @@ use mathlib.Core.Logic.{⊎-elim}
 use native.Mathlib.Omega.{arith}
 use lib.ListN.{length, length-append, length-set}
 use mir.Facts.{toZ-ofZ}
-use Rattle.whole.specs.Sign.{partOf}
+use Rattle.whole.specs.computed.Sign.{partOf}
 use Rattle.row.specs.Decimal.{decimal}
 use Rattle.row.specs.laws.Decimal.{digits-least, with-sign, without-sign}
 use Rattle.row.specs.laws.Puts.{_then_, at-most, puts-byte, puts-over}

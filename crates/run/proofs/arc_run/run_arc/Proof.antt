@@ -10,15 +10,15 @@ use Rattle.plane.specs.declared.point.Point.{Point}
 use Rattle.circle.specs.computed.Charge.{moveCharge}
 use Rattle.arc.specs.declared.arc.Arc.{Arc}
 use Rattle.arc.specs.declared.stepper.Tracer.{Tracer}
-use Rattle.arc.specs.Charge.{arcCharge}
-use Rattle.arc.specs.Stepper.{arcTracer, tracedOf, tracerAt}
+use Rattle.arc.specs.computed.Charge.{arcCharge}
+use Rattle.arc.specs.computed.Stepper.{arcTracer, tracedOf, tracerAt}
 use Rattle.arc.specs.laws.Step.{circles}
 use Rattle.arc.specs.laws.Stepper.{tracer-at}
 use Rattle.arc.specs.laws.Charge.{tracer-charge}
 use Rattle.work.specs.declared.Work.{Work}
 use Rattle.run.specs.declared.gap.Gap.{Gap}
-use Rattle.run.specs.Run.{Strip, stripOf}
-use Rattle.run.specs.Gap.{gapOf, nextGap, clearedOf}
+use Rattle.run.specs.computed.Run.{Strip, stripOf}
+use Rattle.run.specs.computed.Gap.{gapOf, nextGap, clearedOf}
 use Rattle.run.specs.laws.Going.{answers}
 use Rattle.run.specs.laws.Sound.{run-ready}
 use Rattle.run.specs.laws.Cycles.{in-work, end-range, added-some, feed-due, due-most, rest-most}

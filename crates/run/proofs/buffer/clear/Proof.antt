@@ -6,7 +6,7 @@ use mathlib.Core.Path.{_≡_, refl, ap, _∙_}
 use mathlib.Core.List.{List}
 use Prim.Native.Nat.{ℕ, _-_, _≤_, _<_}
 use lib.ListN as lists
-use Rattle.run.specs.Gap.{clearedOf}
+use Rattle.run.specs.computed.Gap.{clearedOf}
 use Rattle.run.proofs.buffer.clear.Statement.{statement}
 use Rattle.run.proofs.buffer.clear.Tie as tie
 
@@ -35,7 +35,8 @@ loop-again c =
     let i = c .before .loop .inv in
     let room : c .before .loop .i < lists.length (c .before .before .args .out .now) = omega (arith, i .2) in (
       omega arith,
-      ap (λ (l : List ℕ). lists.set l (c .before .loop .i) 0) (i .1) ∙ fill-more (c .before .loop .i) 0 (c .before .before .args .out .now) room,
+      ap (λ (l : List ℕ). lists.set l (c .before .loop .i) 0) (i .1)
+          ∙ fill-more (c .before .loop .i) 0 (c .before .before .args .out .now) room,
       lists.length-set (c .before .loop .out) (c .before .loop .i) 0 ∙ i .2,
     )
 

@@ -5,8 +5,8 @@ use Prim.Native.Nat.{_*_, _≤_, suc, min}
 use native.Mathlib.Nat.{mul-le-mul-right}
 use native.Mathlib.Omega.{arith}
 use Rattle.charges.specs.declared.Span.{Span}
-use Rattle.arc.specs.Charge.{arcCharges}
-use Rattle.divider.specs.Divider.{lastTick}
+use Rattle.arc.specs.computed.Charge.{arcCharges}
+use Rattle.divider.specs.computed.Divider.{lastTick}
 use Rattle.run.specs.laws.Cycles.{in-work, end-asks}
 use Rattle.run.specs.laws.Sound.{run-ready}
 use Rattle.run.specs.laws.Ending.{short-same, short-asks, short-few, way-few}

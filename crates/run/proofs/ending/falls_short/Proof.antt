@@ -3,7 +3,7 @@ use borrow.Author.Tests.{lt-ltb, le-ltb}
 use native.Mathlib.Omega.{arith}
 use native.Mathlib.Nat.{mul-le-mul}
 use Prim.Native.Nat.{_*_, _≤_}
-use Rattle.run.specs.Ending.{shortOf}
+use Rattle.run.specs.computed.Ending.{fallsShort}
 use Rattle.run.proofs.ending.falls_short.Statement.{statement}
 use Rattle.run.proofs.ending.falls_short.Tie as tie
 
@@ -14,7 +14,7 @@ product c =
     mul-le-mul few (c .before .pre .0)
 
 returns : tie.Need-returns
-unfolding shortOf
+unfolding fallsShort
 returns c = rw (le-ltb _ _ (c .if1 .taken))
 
 mul-result : tie.Need-mul-result
@@ -24,7 +24,7 @@ add-result : tie.Need-add-result
 add-result c = omega (arith, product c, c .before .pre .1)
 
 returns-2 : tie.Need-returns-2
-unfolding shortOf
+unfolding fallsShort
 returns-2 c = rw (lt-ltb _ _ (c .if1 .left))
 
 pub falls-short-spec : {M : Type 1} → statement M

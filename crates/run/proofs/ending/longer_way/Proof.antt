@@ -11,12 +11,22 @@ between-requires c κs = search needs
 returns : tie.Need-returns
 returns c =
     let b = c .before .before .before .before .before in
-    omega (arith, length-x (b .before .args .from) (b .before .args .to) (b .between .ensures), length-y (b .before .args .from) (b .before .args .to) (b .between .ensures), c .if1 .taken)
+    omega (
+      arith,
+      length-x (b .before .args .from) (b .before .args .to) (b .between .ensures),
+      length-y (b .before .args .from) (b .before .args .to) (b .between .ensures),
+      c .if1 .taken,
+    )
 
 returns-2 : tie.Need-returns-2
 returns-2 c =
     let b = c .before .before .before .before .before in
-    omega (arith, length-x (b .before .args .from) (b .before .args .to) (b .between .ensures), length-y (b .before .args .from) (b .before .args .to) (b .between .ensures), c .if1 .left)
+    omega (
+      arith,
+      length-x (b .before .args .from) (b .before .args .to) (b .between .ensures),
+      length-y (b .before .args .from) (b .before .args .to) (b .between .ensures),
+      c .if1 .left,
+    )
 
 pub longer-way-spec : {M : Type 1} → statement M
 longer-way-spec = tie.close (tie.spec between-requires returns returns-2)

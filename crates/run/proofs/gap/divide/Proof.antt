@@ -2,7 +2,7 @@
 use native.Mathlib.Nat.{div-mul-le-self}
 use native.Mathlib.Omega.{arith}
 use mathlib.Core.Path.{refl}
-use Rattle.run.specs.Gap.{dividedOf}
+use Rattle.run.specs.computed.Gap.{dividedOf}
 use Rattle.run.proofs.gap.divide.Statement.{statement}
 use Rattle.run.proofs.gap.divide.Tie as tie
 

@@ -3,7 +3,7 @@ use borrow.Author.Needs.{needs}
 use Prim.Native.Nat.{_+_, _-_}
 use native.Mathlib.Nat.{div-mul-le-self, lt-div-mul-add}
 use native.Mathlib.Omega.{arith}
-use Rattle.run.specs.Gap.{gapOf}
+use Rattle.run.specs.computed.Gap.{gapOf}
 use Rattle.run.specs.laws.Gap.{DueGap, gap-due, due-unique}
 use Rattle.run.proofs.gap.first_gap.Statement.{statement}
 use Rattle.run.proofs.gap.first_gap.Tie as tie

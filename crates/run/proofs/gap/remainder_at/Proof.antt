@@ -3,7 +3,7 @@ use borrow.Author.Needs.{needs}
 use Rattle.run.proofs.gap.remainder_at.Statement.{statement}
 use Rattle.run.proofs.gap.remainder_at.Tie as tie
 use mathlib.Core.Path.{refl}
-use Rattle.run.specs.Gap.{remainderAt}
+use Rattle.run.specs.computed.Gap.{remainderAt}
 
 add-result : tie.Need-add-result
 add-result c = search needs

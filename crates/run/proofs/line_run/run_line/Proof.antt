@@ -5,14 +5,14 @@ use mathlib.Core.Path.{_≡_, ap, subst, _∙_}
 use Prim.Native.Nat.{ℕ, _-_, _<_}
 use lib.ListN.{length, length-set}
 use Rattle.run.specs.declared.gap.Gap.{Gap}
-use Rattle.line.specs.Stepper.{stepperOf}
+use Rattle.line.specs.computed.Stepper.{stepperOf}
 use Rattle.work.specs.declared.Work.{Work}
-use Rattle.run.specs.Gap.{nextGap, clearedOf}
+use Rattle.run.specs.computed.Gap.{nextGap, clearedOf}
 use Rattle.run.proofs.line_run.run_line.Statement.{statement}
 use Rattle.run.proofs.line_run.run_line.Tie as tie
 use Rattle.plane.specs.declared.point.Point.{Point}
 use Rattle.line.specs.laws.Work.{line-at}
-use Rattle.run.specs.Run.{Strip, stripOf, SoundIn}
+use Rattle.run.specs.computed.Run.{Strip, stripOf, SoundIn}
 use Rattle.run.specs.laws.Going.{answers}
 use Rattle.run.specs.laws.Sound.{run-ready}
 use Rattle.run.specs.laws.Cycles.{in-work, end-range, added-some, feed-due, due-most, rest-most}
@@ -186,7 +186,8 @@ returns c =
     let l = c .before .before .before .before .before .before .before .before in
     let t = c .before .before .before .before .before in
     answers (strip (start l)) (reached (start l))
-    (line-end (start l .args .l) (l .loop .cycles) (l .loop .inv .0) (l .loop .inv .1) (c .before .before .before .before .advance2 .ensures)
+    (line-end (start l .args .l) (l .loop .cycles) (l .loop .inv .0) (l .loop .inv .1)
+    (c .before .before .before .before .advance2 .ensures)
     (t .if2 .taken) (t .before .if1 .left) (c .before .cycle-byte2 .ensures) (cleared l))
 
 sub-t24 : tie.Need-sub-t24 Inv-loop μ-loop

@@ -3,8 +3,8 @@ use borrow.Author.Needs.{needs}
 use mathlib.Core.Path.{_≡_, ap, _∙_}
 use Prim.Native.Nat.{ℕ, _+_, _-_, _*_, _/_, min}
 use native.Mathlib.Omega.{arith}
-use Rattle.arc.specs.Arc.{arcCycles}
-use Rattle.arc.specs.Charge.{arcPaidOf}
+use Rattle.arc.specs.computed.Arc.{arcCycles}
+use Rattle.arc.specs.computed.Charge.{arcPaidOf}
 use Rattle.run.specs.laws.Cycles.{in-work}
 use Rattle.run.specs.laws.Sound.{run-ready}
 use Rattle.run.specs.laws.Skip.{sum-fits, paid-fits, arc-on-ran}

@@ -1,6 +1,6 @@
 -- `start` writes the definition's record.
 use borrow.Author.Needs.{needs}
-use Rattle.seek.specs.laws.Search.{startOf}
+use Rattle.seek.specs.laws.Search.{searchFrom}
 use Rattle.seek.proofs.Search.start.Statement.{statement}
 use Rattle.seek.proofs.Search.start.Tie as tie
 
@@ -11,7 +11,7 @@ start-requires : tie.Need-start-requires
 start-requires c κs = search needs
 
 returns : tie.Need-returns
-unfolding startOf
+unfolding searchFrom
 returns c = rw (c .start .ensures, c .before .before .make .ensures)
 
 pub start-spec : {M : Type 1} → statement M

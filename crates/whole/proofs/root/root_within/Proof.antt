@@ -42,7 +42,8 @@ add-middle : tie.Need-add-middle Inv-loop μ-loop
 add-middle c = omega arith
 
 mul-if1 : tie.Need-mul-if1 Inv-loop μ-loop
-mul-if1 c = let i = c .before .loop .inv in omega (arith, square-le {m = c .before .loop .below + c .before .loop .gap / 2} {n = 2 ^ 32 - 1} (omega arith))
+mul-if1 c = let i = c .before .loop .inv in
+    omega (arith, square-le {m = c .before .loop .below + c .before .loop .gap / 2} {n = 2 ^ 32 - 1} (omega arith))
 
 sub-gap : tie.Need-sub-gap Inv-loop μ-loop
 sub-gap c = omega arith

@@ -2,7 +2,7 @@
 use borrow.Author.Needs.{needs}
 use mathlib.Core.Path.{_≡_}
 use mir.Facts.{toZ-ofZ}
-use Rattle.whole.specs.Sign.{offsetOf}
+use Rattle.whole.specs.computed.Sign.{offsetOf}
 use Rattle.whole.specs.laws.Sign.{difference-down, difference-up}
 use Rattle.whole.proofs.sign.difference.Statement.{statement}
 use Rattle.whole.proofs.sign.difference.Tie as tie
@@ -27,13 +27,15 @@ returns : tie.Need-returns
 returns c =
     let s = c .before .before .before in
     rw (from-is (c .before), to-is (c .before))
-    (difference-down (s .args .from) (s .args .to) (s .fits .from) (s .fits .to) (rw (from-is (c .before), to-is (c .before)) at (c .if1 .taken)))
+    (difference-down (s .args .from) (s .args .to) (s .fits .from) (s .fits .to)
+    (rw (from-is (c .before), to-is (c .before)) at (c .if1 .taken)))
 
 returns-2 : tie.Need-returns-2
 returns-2 c =
     let s = c .before .before .before in
     rw (from-is (c .before), to-is (c .before))
-    (difference-up (s .args .from) (s .args .to) (s .fits .from) (s .fits .to) (rw (from-is (c .before), to-is (c .before)) at (c .if1 .left)))
+    (difference-up (s .args .from) (s .args .to) (s .fits .from) (s .fits .to)
+    (rw (from-is (c .before), to-is (c .before)) at (c .if1 .left)))
 
 pub difference-spec : {M : Type 1} → statement M
 difference-spec = tie.close (tie.spec offset-requires offset-requires-2 sub-t7 returns returns-2)

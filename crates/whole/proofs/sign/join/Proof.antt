@@ -54,7 +54,8 @@ returns-2 : tie.Need-returns-2
 returns-2 c =
     let s = c .before .before in
     let f = sub-result-2 c in
-    toZ-ofZ f ∙ negative-is (s .args .p .magnitude) (some c) (small c) ∙ ap (λ (b : Bool). signed b (s .args .p .magnitude)) (sym (c .before .if1 .taken))
+    toZ-ofZ f ∙ negative-is (s .args .p .magnitude) (some c) (small c)
+    ∙ ap (λ (b : Bool). signed b (s .args .p .magnitude)) (sym (c .before .if1 .taken))
 
 returns-3 : tie.Need-returns-3
 returns-3 c =

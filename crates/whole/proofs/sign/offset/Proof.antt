@@ -6,7 +6,7 @@ use lib.IntN.{pos, natAbs, _+ℤ_}
 use mir.Syntax.{w64}
 use mir.Val.{SFits}
 use mir.Facts.{toZ-ofZ, sfits-lit}
-use Rattle.whole.specs.Sign.{offsetOf}
+use Rattle.whole.specs.computed.Sign.{offsetOf}
 use Rattle.whole.specs.laws.Difference.{up, down, parts, natural, added, size-up}
 use Rattle.whole.specs.laws.Order.{_≼_, _≺_, test-lt, test-not-lt, to-unsigned, fits, range}
 use Rattle.whole.specs.laws.Sign.{offset-sum}
@@ -20,7 +20,8 @@ below-zero c = test-lt (c .before .args .x) (pos 0) (c .before .fits .x) (sfits-
 moved : (c : tie.Then1) → SFits w64 (c .before .args .x +ℤ pos (2 ^ 63))
 moved c =
     let h = below-zero c in
-    fits (added (parts (c .before .args .x)) (natural (2 ^ 63))) (omega arith) (omega (arith, range (c .before .args .x) (c .before .fits .x)))
+    fits (added (parts (c .before .args .x)) (natural (2 ^ 63))) (omega arith)
+    (omega (arith, range (c .before .args .x) (c .before .fits .x)))
 
 moved-up : (c : tie.Then1) → pos 0 ≼ c .before .args .x +ℤ pos (2 ^ 63)
 moved-up c =

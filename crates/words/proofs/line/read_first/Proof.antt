@@ -87,8 +87,11 @@ returns-2 c =
     let t = o .before .before .before in
     let r = t .before .before .loop .inv .scanned in
     let letter = sym (o .of-byte .ensures) ∙ l .named .given .1 in
-    let wrong = line-wrong (text t) r (on t .0) (on t .1) (o .before .if2 .taken) _ letter (n .read .result) (n .read .ensures .0) in
-    (c .refused2 .ensures .0 ∙ wrong (not-true _ (c .before .if3 .taken)) ∙ scan-means (firstLine (text t)), c .refused2 .ensures .1 ∙ ends t)
+    let wrong = line-wrong (text t) r (on t .0) (on t .1) (o .before .if2 .taken) _ letter (n .read .result) (n .read .ensures .0) in (
+      c .refused2 .ensures .0 ∙ wrong (not-true _ (c .before .if3 .taken)) ∙ scan-means (firstLine (text t)),
+      c .refused2 .ensures .1
+          ∙ ends t,
+    )
 
 add-i-2 : tie.Need-add-i-2 Inv-loop μ-loop
 add-i-2 c = search needs

@@ -6,7 +6,7 @@ use borrow.Author.Tests.{not-true, not-false}
 use lib.Dec.{eqb}
 use lib.ListN.{drop, length-drop}
 use Rattle.words.specs.declared.number.Sign.{Sign}
-use Rattle.words.specs.computed.Scan.{firstOf, sign, signOf}
+use Rattle.words.specs.computed.Scan.{firstByte, sign, signOf}
 use Rattle.words.specs.laws.Run.{one-most, sign-read}
 use Rattle.words.specs.laws.FirstLine.{sign-short}
 use borrow.Author.Needs.{needs}
@@ -37,7 +37,7 @@ returns-2 c =
     let a = e .before .before .args in
     let rest = drop (a .from) (a .s .now) in
     let takes = not-false (a .takes) (e .if1 .left) in
-    let is : sign (eqb (b .byte-at .result) 45) (c .before .one-if .result + c .one-if2 .result) ≡ signOf (a .takes) (firstOf rest) =
+    let is : sign (eqb (b .byte-at .result) 45) (c .before .one-if .result + c .one-if2 .result) ≡ signOf (a .takes) (firstByte rest) =
     rw (c .before .one-if .ensures, c .one-if2 .ensures, takes, ← b .byte-at .ensures) (sign-read (b .byte-at .result)) in
     (is, omega (arith, ap (λ (g : Sign). g .bytes) is, sign-short (a .takes) rest, length-drop (a .from) (a .s .now)))
 

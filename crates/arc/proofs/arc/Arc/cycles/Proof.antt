@@ -2,8 +2,8 @@
 use borrow.Author.Needs.{needs}
 use mathlib.Core.Path.{ap₂, _∙_}
 use Rattle.circle.specs.declared.plane.Offset.{Offset}
-use Rattle.circle.specs.computed.Count.{cyclesOf}
-use Rattle.arc.specs.Arc.{arcCycles}
+use Rattle.circle.specs.computed.Count.{circleCycles}
+use Rattle.arc.specs.computed.Arc.{arcCycles}
 use Rattle.arc.proofs.arc.Arc.cycles.Statement.{statement}
 use Rattle.arc.proofs.arc.Arc.cycles.Tie as tie
 
@@ -23,7 +23,7 @@ unfolding arcCycles
 returns c =
     let a = c .before .before .before .before .before .args .self in
     c .cycles .ensures
-    ∙ ap₂ (λ (p e : Offset). cyclesOf (a .square) (a .turn) p e) (c .before .before .seen .ensures) (c .before .seen2 .ensures)
+    ∙ ap₂ (λ (p e : Offset). circleCycles (a .square) (a .turn) p e) (c .before .before .seen .ensures) (c .before .seen2 .ensures)
 
 pub cycles-spec : {M : Type 1} → statement M
 cycles-spec = tie.close (tie.spec seen-requires seen-requires-2 cycles-requires returns)

@@ -12,7 +12,7 @@ use Rattle.circle.specs.declared.plane.Offset.{Offset}
 use Rattle.circle.specs.Circle.{onCircle}
 use Rattle.arc.specs.declared.arc.Arc.{Arc}
 use Rattle.arc.specs.Centre.{seenFrom}
-use Rattle.arc.specs.Arc.{OnArc, arcAt, centres}
+use Rattle.arc.specs.computed.Arc.{StandsOnArc, arcAt, centres}
 use Rattle.arc.specs.laws.Work.{arc-at, centre-near, end-inside}
 use Rattle.arc.proofs.arc.Arc.is_at.Statement.{statement}
 use Rattle.arc.proofs.arc.Arc.is_at.Tie as tie
@@ -41,7 +41,8 @@ on-true : (c : tie.Else3)
 on-true c = on-is (c .before) (not-false _ (c .if3 .left))
 
 -- the numbers are small enough to be taken from one another
-on-arc : (c : tie.Else4) → OnArc (arc-in (c .before .before .before .before .before)) (at-in (c .before .before .before .before .before))
+on-arc : (c : tie.Else4) → StandsOnArc (arc-in (c .before .before .before .before .before)) (at-in
+    (c .before .before .before .before .before))
 on-arc c =
     let e = c .before .before in
     let b = e .before .before .before in

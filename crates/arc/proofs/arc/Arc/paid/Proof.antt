@@ -6,8 +6,8 @@ use Rattle.circle.specs.declared.plane.Offset.{Offset}
 use Rattle.charges.specs.declared.Paid.{Paid}
 use Rattle.charges.specs.computed.Paid.{paidOf}
 use Rattle.arc.specs.Centre.{seenFrom, backFrom}
-use Rattle.arc.specs.Arc.{arcAfter}
-use Rattle.arc.specs.Charge.{arcPaidOf}
+use Rattle.arc.specs.computed.Arc.{arcAfter}
+use Rattle.arc.specs.computed.Charge.{arcPaidOf}
 use Rattle.arc.specs.laws.Step.{circles, after-reach, cycles-turn}
 use Rattle.arc.proofs.arc.Arc.paid.Statement.{statement}
 use Rattle.arc.proofs.arc.Arc.paid.Tie as tie

@@ -3,7 +3,7 @@ use borrow.Author.Needs.{needs}
 use mathlib.Core.Path.{ap₂, _∙_}
 use Rattle.circle.specs.declared.plane.Offset.{Offset}
 use Rattle.charges.specs.computed.Sum.{spanOf}
-use Rattle.arc.specs.Arc.{arcCycles}
+use Rattle.arc.specs.computed.Arc.{arcCycles}
 use Rattle.arc.proofs.arc.Arc.span.Statement.{statement}
 use Rattle.arc.proofs.arc.Arc.span.Tie as tie
 

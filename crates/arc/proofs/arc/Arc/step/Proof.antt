@@ -4,7 +4,7 @@ use mathlib.Core.Path.{ap, _∙_}
 use Rattle.plane.specs.Pulse.{pulsesBetween}
 use Rattle.circle.specs.computed.Step.{stepOf, afterOf}
 use Rattle.arc.specs.Centre.{backFrom}
-use Rattle.arc.specs.Arc.{arcAfter, arcStepped}
+use Rattle.arc.specs.computed.Arc.{arcAfter, arcStepped}
 use Rattle.arc.specs.laws.Step.{circles, step-reach}
 use Rattle.arc.proofs.arc.Arc.step.Statement.{statement}
 use Rattle.arc.proofs.arc.Arc.step.Tie as tie

@@ -6,7 +6,7 @@ use mathlib.Core.Path.{_≡_, ap, _∙_}
 use Rattle.circle.specs.computed.Stepper.{enterOf}
 use Rattle.circle.specs.laws.Stepper.{enter-entered}
 use Rattle.arc.specs.Centre.{seenFrom}
-use Rattle.arc.specs.Stepper.{tracerOf, arcTracer}
+use Rattle.arc.specs.computed.Stepper.{tracerOf, arcTracer}
 
 entered : (c : tie.After-enter) → (let s = c .before .before .before .args in
     c .enter .result ≡ enterOf (s .a .square) (s .a .turn) (seenFrom (s .a .centre) (s .at)))

@@ -4,7 +4,7 @@ use Rattle.arc.proofs.stepper.Tracer.leave.Statement.{statement}
 use Rattle.arc.proofs.stepper.Tracer.leave.Tie as tie
 use mathlib.Core.Path.{ap, _∙_}
 use Rattle.arc.specs.Centre.{backFrom}
-use Rattle.arc.specs.Stepper.{tracerAt}
+use Rattle.arc.specs.computed.Stepper.{tracerAt}
 use Rattle.arc.specs.laws.Stepper.{leave-reach}
 
 leave-requires : tie.Need-leave-requires

@@ -5,7 +5,7 @@ use native.Mathlib.Omega.{arith}
 use Rattle.circle.specs.declared.plane.Offset.{Offset}
 use Rattle.circle.specs.computed.Step.{placeOf, seenPlace}
 use Rattle.circle.specs.laws.Circle.{on-circle-to, on-circle-small}
-use Rattle.charges.specs.computed.Jump.{startOf}
+use Rattle.charges.specs.computed.Jump.{jumpStart}
 use Rattle.charges.specs.laws.Sum.{tolled}
 use Rattle.charges.proofs.jump.Start.enter.Statement.{statement}
 use Rattle.charges.proofs.jump.Start.enter.Tie as tie
@@ -36,7 +36,7 @@ span-to-requires c κs =
     (tolled (s .args .n) (s .args .turn) (s .args .p) (s .pre))
 
 returns : tie.Need-returns
-unfolding startOf
+unfolding jumpStart
 returns c =
     let roots = c .before .before .before in
     rw (c .span-to .ensures, place-is (c .before), roots .before .nearest-root .ensures, roots .nearest-root2 .ensures)

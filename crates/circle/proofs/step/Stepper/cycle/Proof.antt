@@ -1,6 +1,6 @@
 -- `cycle` is right because it is a move, and an axis written in its own quadrant.
 use mathlib.Core.Path.{ap, _∙_}
-use Rattle.circle.specs.computed.Stepper.{moved, settled, advanceOf}
+use Rattle.circle.specs.computed.Stepper.{moved, broughtOn, advancedBy}
 use Rattle.circle.specs.laws.Stepper.{entered-bounds, movable, moved-quadrant}
 use borrow.Author.Needs.{needs}
 use Rattle.circle.proofs.step.Stepper.cycle.Statement.{statement}
@@ -18,11 +18,11 @@ settle-requires c κs =
     rw (c .moved-by .ensures, moved-quadrant (c .before .next-move .result) s) (entered-bounds (c .before .before .pre) .four)
 
 returns : tie.Need-returns
-unfolding advanceOf
+unfolding advancedBy
 returns c =
     let s = c .before .before .before .args .self in
     let m = c .before .before .next-move .ensures in
-    let next = c .settle .ensures ∙ ap settled (c .before .moved-by .ensures) ∙ ap (λ m. settled (moved m s)) m in
+    let next = c .settle .ensures ∙ ap broughtOn (c .before .moved-by .ensures) ∙ ap (λ m. broughtOn (moved m s)) m in
     λ i. record { stepper = next i; made = m i }
 
 pub cycle-spec : {M : Type 1} → statement M

@@ -5,7 +5,8 @@ use Prim.Native.Nat.{ℕ}
 use Rattle.plane.specs.declared.point.Point.{Point}
 use Rattle.plane.specs.laws.Point.{length-x, length-y}
 use Rattle.line.specs.declared.line.Line.{Line}
-use Rattle.line.specs.Line.{movedBy, steppedOf}
+use Rattle.line.specs.Line.{axisSteps}
+use Rattle.line.specs.computed.Line.{steppedOf}
 use Rattle.line.specs.laws.Pulses.{pulses-next, codes-are}
 use Rattle.line.specs.laws.Work.{LineAt, line-at, some-cycle, axis-x, axis-y, gone-x, gone-y}
 use Rattle.line.proofs.line.Line.codes.Statement.{statement}
@@ -33,7 +34,8 @@ axis-code-requires c κs =
     let l = line-in b in
     let way = length-x (l .start) (l .end) (b .before .between .ensures) in (
       rw way (axis-x l (in-work b .drawing)),
-      length-x (l .start) (at-in b) (b .between2 .ensures) ∙ gone-x l (at-in b) (in-work b) ∙ ap (λ (a : ℕ). movedBy (l .cycles) a (l .done)) (sym way),
+      length-x (l .start) (at-in b) (b .between2 .ensures) ∙ gone-x l (at-in b) (in-work b)
+          ∙ ap (λ (a : ℕ). axisSteps (l .cycles) a (l .done)) (sym way),
     )
 
 axis-code-requires-2 : tie.Need-axis-code-requires-2
@@ -42,7 +44,8 @@ axis-code-requires-2 c κs =
     let l = line-in b in
     let way = length-y (l .start) (l .end) (b .before .between .ensures) in (
       rw way (axis-y l (in-work b .drawing)),
-      length-y (l .start) (at-in b) (b .between2 .ensures) ∙ gone-y l (at-in b) (in-work b) ∙ ap (λ (a : ℕ). movedBy (l .cycles) a (l .done)) (sym way),
+      length-y (l .start) (at-in b) (b .between2 .ensures) ∙ gone-y l (at-in b) (in-work b)
+          ∙ ap (λ (a : ℕ). axisSteps (l .cycles) a (l .done)) (sym way),
     )
 
 returns : tie.Need-returns

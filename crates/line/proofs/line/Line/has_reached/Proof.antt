@@ -6,7 +6,7 @@ use Rattle.whole.specs.Equal.{equalZ}
 use Rattle.plane.specs.declared.point.Point.{Point}
 use Rattle.plane.specs.laws.Point.{length-x, length-y, joined-x, joined-y}
 use Rattle.line.specs.declared.line.Line.{Line}
-use Rattle.line.specs.Line.{incrementX, incrementY, pointOf}
+use Rattle.line.specs.Line.{incrementX, incrementY, linePoint}
 use Rattle.line.specs.laws.Signed.{axis-reached}
 use Rattle.line.specs.laws.Work.{Drawn, drawn, axis-x, axis-y}
 use Rattle.line.proofs.line.Line.has_reached.Statement.{statement}
@@ -26,8 +26,9 @@ abbrev between2 : tie.After-axis-at → tie.After-between2
 between2 c = c .before .before .before .before .before
 
 -- what the tests of the axes say, over the definition
-x-test : (c : tie.After-axis-at) → c .axis-at .result ≡ equalZ (at-in (between2 c) .x) (pointOf (line-in (between2 c) .start) (line-in (between2 c) .end) (line-in (between2 c) .done) .x)
-unfolding pointOf
+x-test : (c : tie.After-axis-at) → c .axis-at .result ≡ equalZ (at-in (between2 c) .x) (linePoint (line-in (between2 c) .start)
+    (line-in (between2 c) .end) (line-in (between2 c) .done) .x)
+unfolding linePoint
 x-test c =
     let b = between2 c in
     let l = line-in b in
@@ -35,8 +36,10 @@ x-test c =
     ∙ axis-reached (l .start .x) (at-in b .x) (incrementX (l .start) (l .end)) (l .done) (drawing b .own)
     (joined-x (l .start) (l .end) (b .before .between .ensures)) (joined-x (l .start) (at-in b) (b .between2 .ensures))
 
-y-test : (c : tie.After-axis-at2) → c .axis-at2 .result ≡ equalZ (at-in (between2 (c .before .before)) .y) (pointOf (line-in (between2 (c .before .before)) .start) (line-in (between2 (c .before .before)) .end) (line-in (between2 (c .before .before)) .done) .y)
-unfolding pointOf
+y-test : (c : tie.After-axis-at2) → c .axis-at2 .result ≡ equalZ (at-in (between2 (c .before .before)) .y) (linePoint
+    (line-in (between2 (c .before .before)) .start) (line-in (between2 (c .before .before)) .end)
+    (line-in (between2 (c .before .before)) .done) .y)
+unfolding linePoint
 y-test c =
     let b = between2 (c .before .before) in
     let l = line-in b in

@@ -2,7 +2,7 @@
 use borrow.Author.Needs.{needs}
 use mathlib.Core.Path.{sym, _∙_}
 use borrow.Author.Tests.{not-true, not-false}
-use Rattle.line.specs.Line.{lineAt}
+use Rattle.line.specs.computed.Line.{lineAt}
 use Rattle.line.proofs.line.Line.is_at.Statement.{statement}
 use Rattle.line.proofs.line.Line.is_at.Tie as tie
 

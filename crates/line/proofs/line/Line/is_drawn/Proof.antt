@@ -10,7 +10,7 @@ use lib.IntN.{natAbs}
 use Rattle.whole.specs.laws.Test.{refuted, same-test}
 use Rattle.plane.specs.laws.Point.{length-x, length-y}
 use Rattle.line.specs.declared.line.Line.{Line}
-use Rattle.line.specs.Line.{incrementX, incrementY, cyclesOf}
+use Rattle.line.specs.Line.{incrementX, incrementY, lineCycles}
 use Rattle.line.specs.laws.Work.{Drawn, drawn, drawn-test}
 use Rattle.line.proofs.line.Line.is_drawn.Statement.{statement}
 use Rattle.line.proofs.line.Line.is_drawn.Tie as tie
@@ -41,8 +41,9 @@ takes-requires c κs = search needs
 abbrev increments : (c : tie.After-takes) → tie.After-between
 increments c = c .before .before .before .before .before .before .before
 
-takes-is : (c : tie.After-takes) {b : Bool} → c .takes .result ≡ b → eqb (line-in (increments c) .cycles) (cyclesOf (line-in (increments c) .start) (line-in (increments c) .end)) ≡ b
-unfolding cyclesOf
+takes-is : (c : tie.After-takes) {b : Bool} → c .takes .result ≡ b
+    → eqb (line-in (increments c) .cycles) (lineCycles (line-in (increments c) .start) (line-in (increments c) .end)) ≡ b
+unfolding lineCycles
 takes-is c e = rw (← x-is (increments c), ← y-is (increments c)) (sym (c .takes .ensures) ∙ e)
 
 returns-3 : tie.Need-returns-3

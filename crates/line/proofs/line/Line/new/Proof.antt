@@ -6,7 +6,7 @@ use borrow.Author.Tests.{leb-true}
 use Rattle.whole.specs.Root.{leastRoot}
 use Rattle.whole.specs.laws.Test.{both}
 use Rattle.plane.specs.declared.point.Increments.{Increments}
-use Rattle.line.specs.Line.{cyclesOf}
+use Rattle.line.specs.Line.{lineCycles}
 use Rattle.line.proofs.line.Line.new.Statement.{statement}
 use Rattle.line.proofs.line.Line.new.Tie as tie
 
@@ -20,11 +20,12 @@ cycles-requires c κs =
     rw (c .before .before .between .ensures) (leb-true _ _ (short .0), leb-true _ _ (short .1))
 
 returns : tie.Need-returns
-unfolding cyclesOf
+unfolding lineCycles
 returns c =
     let b = c .before .before .before in
     let s = b .before in
-    let count = c .cycles .ensures ∙ ap (λ (w : Increments). leastRoot (w .x .magnitude * w .x .magnitude + w .y .magnitude * w .y .magnitude)) (b .between .ensures) in
+    let count = c .cycles .ensures ∙ ap (λ (w : Increments). leastRoot
+    (w .x .magnitude * w .x .magnitude + w .y .magnitude * w .y .magnitude)) (b .between .ensures) in
     λ i. record { start = s .args .start; end = s .args .end; feed = s .args .feed; cycles = count i; done = 0 }
 
 pub new-spec : {M : Type 1} → statement M

@@ -9,7 +9,7 @@ use mir.Val.{SFits}
 use mir.Facts.{toZ-ofZ}
 use Rattle.plane.specs.laws.Point.{length-x, length-y, joined-x, joined-y}
 use Rattle.line.specs.declared.line.Line.{Line}
-use Rattle.line.specs.Line.{movedOf, pointOf}
+use Rattle.line.specs.Line.{axisMoved, linePoint}
 use Rattle.plane.specs.laws.Fits.{FitsPoint}
 use Rattle.line.specs.laws.Points.{point-fits}
 use Rattle.line.specs.laws.Work.{Drawn, drawn, axis-x, axis-y, some-cycle}
@@ -22,7 +22,7 @@ line-in c = c .before .before .before .args .self
 drawing : (c : tie.After-between) → Drawn (line-in c)
 drawing c = drawn (c .before .before .before .pre)
 
-fits : (c : tie.After-between) → FitsPoint (pointOf (line-in c .start) (line-in c .end) (line-in c .done))
+fits : (c : tie.After-between) → FitsPoint (linePoint (line-in c .start) (line-in c .end) (line-in c .done))
 fits c =
     let s = c .before .before .before in
     let l = s .args .self in
@@ -35,30 +35,35 @@ fits c =
 abbrev between : tie.After-axis-moved → tie.After-between
 between c = c .before .before .before
 
-x-is : (c : tie.After-axis-moved) → line-in (between c) .start .x +ℤ c .axis-moved .result ≡ pointOf (line-in (between c) .start) (line-in (between c) .end) (line-in (between c) .done) .x
-unfolding pointOf
+x-is : (c : tie.After-axis-moved) → line-in (between c) .start .x +ℤ c .axis-moved .result ≡ linePoint (line-in
+    (between c) .start) (line-in (between c) .end) (line-in (between c) .done) .x
+unfolding linePoint
 x-is c =
     let b = between c in
     let l = line-in b in
     ap (λ (m : ℤ). l .start .x +ℤ m)
-    (c .axis-moved .ensures ∙ ap₂ (λ (q : ℕ) (a : ℤ). movedOf q a (l .done)) (drawing b .own) (joined-x (l .start) (l .end) (b .between .ensures)))
+    (c .axis-moved .ensures ∙ ap₂ (λ (q : ℕ) (a : ℤ). axisMoved q a (l .done)) (drawing b .own) (joined-x (l .start) (l .end)
+    (b .between .ensures)))
 
 abbrev between-2 : tie.After-axis-moved2 → tie.After-between
 between-2 c = between (c .before .before .before)
 
-y-is : (c : tie.After-axis-moved2) → line-in (between-2 c) .start .y +ℤ c .axis-moved2 .result ≡ pointOf (line-in (between-2 c) .start) (line-in (between-2 c) .end) (line-in (between-2 c) .done) .y
-unfolding pointOf
+y-is : (c : tie.After-axis-moved2) → line-in (between-2 c) .start .y +ℤ c .axis-moved2 .result ≡ linePoint (line-in
+    (between-2 c) .start) (line-in (between-2 c) .end) (line-in (between-2 c) .done) .y
+unfolding linePoint
 y-is c =
     let b = between-2 c in
     let l = line-in b in
     ap (λ (m : ℤ). l .start .y +ℤ m)
-    (c .axis-moved2 .ensures ∙ ap₂ (λ (q : ℕ) (a : ℤ). movedOf q a (l .done)) (drawing b .own) (joined-y (l .start) (l .end) (b .between .ensures)))
+    (c .axis-moved2 .ensures ∙ ap₂ (λ (q : ℕ) (a : ℤ). axisMoved q a (l .done)) (drawing b .own) (joined-y (l .start) (l .end)
+    (b .between .ensures)))
 
 between-requires : tie.Need-between-requires
 between-requires c κs = search needs
 
 axis-moved-requires : tie.Need-axis-moved-requires
-axis-moved-requires c κs = let b = c .before .before in let l = line-in b in rw (length-x (l .start) (l .end) (b .between .ensures)) (axis-x l (drawing b))
+axis-moved-requires c κs = let b = c .before .before in let l = line-in b in
+    rw (length-x (l .start) (l .end) (b .between .ensures)) (axis-x l (drawing b))
 
 add-t8 : tie.Need-add-t8
 add-t8 c =
@@ -69,7 +74,8 @@ add-t8 c =
     simp toZ-ofZ (rw (x-is m) (fits (between m) .x))
 
 axis-moved-requires-2 : tie.Need-axis-moved-requires-2
-axis-moved-requires-2 c κs = let b = between (c .before .before) in let l = line-in b in rw (length-y (l .start) (l .end) (b .between .ensures)) (axis-y l (drawing b))
+axis-moved-requires-2 c κs = let b = between (c .before .before) in let l = line-in b in
+    rw (length-y (l .start) (l .end) (b .between .ensures)) (axis-y l (drawing b))
 
 add-t10 : tie.Need-add-t10
 add-t10 c =

@@ -7,7 +7,7 @@ use Rattle.plane.specs.declared.point.Point.{Point}
 use Rattle.line.specs.declared.line.Line.{Line}
 use Rattle.plane.specs.declared.pulse.Pulses.{Pulses}
 use Rattle.plane.specs.Pulse.{shiftedOf}
-use Rattle.line.specs.Line.{steppedOf}
+use Rattle.line.specs.computed.Line.{steppedOf}
 use Rattle.plane.specs.laws.Fits.{FitsPoint}
 use Rattle.line.specs.laws.Work.{line-at, axis-x, stepped-at, stepped-fits}
 use Rattle.line.proofs.line.Line.step.Statement.{statement}
@@ -15,9 +15,19 @@ use Rattle.line.proofs.line.Line.step.Tie as tie
 
 -- a step is its line, its point and its pulses
 stepped : (l : Line) {at : Point} {pulses : Pulses} → at ≡ steppedOf l .at → pulses ≡ steppedOf l .pulses
-    → record { line = record { start = l .start; end = l .end; feed = l .feed; cycles = l .cycles; done = l .done + 1 }; at = at; pulses = pulses } ≡ steppedOf l
+    → record {
+      line = record { start = l .start; end = l .end; feed = l .feed; cycles = l .cycles; done = l .done + 1 };
+      at = at;
+      pulses =
+          pulses;
+    } ≡ steppedOf l
 unfolding steppedOf
-stepped l at pulses = λ i. record { line = record { start = l .start; end = l .end; feed = l .feed; cycles = l .cycles; done = l .done + 1 }; at = at i; pulses = pulses i }
+stepped l at pulses = λ i. record {
+  line =
+      record { start = l .start; end = l .end; feed = l .feed; cycles = l .cycles; done = l .done + 1 };
+  at = at i;
+  pulses = pulses i;
+}
 
 codes-requires : tie.Need-codes-requires
 codes-requires c κs = search needs

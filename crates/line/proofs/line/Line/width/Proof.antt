@@ -10,7 +10,9 @@ use Rattle.line.proofs.line.Line.width.Statement.{statement}
 use Rattle.line.proofs.line.Line.width.Tie as tie
 
 -- the longer of what the code compares
-width-is : (c : tie.After-between) → widthOf (max (c .between .result .x .magnitude) (c .between .result .y .magnitude)) ≡ lineWidth (c .before .before .before .args .self .start) (c .before .before .before .args .self .end)
+width-is : (c : tie.After-between) → widthOf (max (c .between .result .x .magnitude)
+    (c .between .result .y .magnitude))
+    ≡ lineWidth (c .before .before .before .args .self .start) (c .before .before .before .args .self .end)
 unfolding lineWidth
 width-is c =
     let l = c .before .before .before .args .self in
@@ -26,10 +28,12 @@ width-requires-2 : tie.Need-width-requires-2
 width-requires-2 c κs = search needs
 
 returns : tie.Need-returns
-returns c = c .width .ensures ∙ ap widthOf (sym (max-eq-right (c .before .if1 .taken))) ∙ width-is (c .before .before .before .before .before .before)
+returns c = c .width .ensures ∙ ap widthOf (sym (max-eq-right (c .before .if1 .taken)))
+    ∙ width-is (c .before .before .before .before .before .before)
 
 returns-2 : tie.Need-returns-2
-returns-2 c = c .width2 .ensures ∙ ap widthOf (sym (max-eq-left (le-of-lt (c .before .if1 .left)))) ∙ width-is (c .before .before .before .before .before .before)
+returns-2 c = c .width2 .ensures ∙ ap widthOf (sym (max-eq-left (le-of-lt (c .before .if1 .left))))
+    ∙ width-is (c .before .before .before .before .before .before)
 
 pub width-spec : {M : Type 1} → statement M
 width-spec = tie.close (tie.spec between-requires width-requires width-requires-2 returns returns-2)

@@ -2,7 +2,7 @@
 use borrow.Author.Needs.{needs}
 use Rattle.line.proofs.stepper.Stepper.advance.Statement.{statement}
 use Rattle.line.proofs.stepper.Stepper.advance.Tie as tie
-use Rattle.line.specs.Stepper.{advancedOf}
+use Rattle.line.specs.computed.Stepper.{advancedOf}
 
 advance-requires : tie.Need-advance-requires
 advance-requires c κs = search needs

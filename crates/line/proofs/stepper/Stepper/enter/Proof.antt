@@ -8,8 +8,8 @@ use Rattle.plane.specs.declared.point.Point.{Point}
 use Rattle.plane.specs.declared.point.Increments.{Increments}
 use Rattle.plane.specs.laws.Point.{length-x, length-y}
 use Rattle.line.specs.declared.line.Line.{Line}
-use Rattle.line.specs.Line.{movedBy}
-use Rattle.line.specs.Stepper.{trackOf, stepperOf}
+use Rattle.line.specs.Line.{axisSteps}
+use Rattle.line.specs.computed.Stepper.{trackOf, stepperOf}
 use Rattle.line.specs.laws.Work.{LineAt, line-at, axis-x, axis-y, gone-x, gone-y}
 
 -- the line and its point, as the code has them
@@ -34,7 +34,8 @@ track-after-requires c κs =
     let l = line-in b in
     let way = length-x (l .start) (l .end) (b .before .between .ensures) in (
       rw way (axis-x l (in-work b .drawing)),
-      length-x (l .start) (at-in b) (b .between2 .ensures) ∙ gone-x l (at-in b) (in-work b) ∙ ap (λ (a : ℕ). movedBy (l .cycles) a (l .done)) (sym way),
+      length-x (l .start) (at-in b) (b .between2 .ensures) ∙ gone-x l (at-in b) (in-work b)
+          ∙ ap (λ (a : ℕ). axisSteps (l .cycles) a (l .done)) (sym way),
     )
 
 track-after-requires-2 : tie.Need-track-after-requires-2
@@ -43,7 +44,8 @@ track-after-requires-2 c κs =
     let l = line-in b in
     let way = length-y (l .start) (l .end) (b .before .between .ensures) in (
       rw way (axis-y l (in-work b .drawing)),
-      length-y (l .start) (at-in b) (b .between2 .ensures) ∙ gone-y l (at-in b) (in-work b) ∙ ap (λ (a : ℕ). movedBy (l .cycles) a (l .done)) (sym way),
+      length-y (l .start) (at-in b) (b .between2 .ensures) ∙ gone-y l (at-in b) (in-work b)
+          ∙ ap (λ (a : ℕ). axisSteps (l .cycles) a (l .done)) (sym way),
     )
 
 returns : tie.Need-returns
@@ -52,7 +54,8 @@ returns c =
     let b = c .before .before .before .before .before .before in
     let l = line-in b in
     let way = b .before .between .ensures in
-    let x = c .before .track-after .ensures ∙ ap (λ (w : Increments). trackOf (l .cycles) (w .x .magnitude) (w .x .negative) (l .done)) way in
+    let x = c .before .track-after .ensures ∙ ap (λ (w : Increments). trackOf (l .cycles) (w .x .magnitude) (w .x .negative)
+    (l .done)) way in
     let y = c .track-after2 .ensures ∙ ap (λ (w : Increments). trackOf (l .cycles) (w .y .magnitude) (w .y .negative) (l .done)) way in
     λ i. record { capacity = l .cycles; x = x i; y = y i }
 

@@ -1,0 +1,4 @@
+pub mod Arc
+pub mod Centre
+pub mod Charge
+pub mod Stepper

@@ -1,0 +1,2 @@
+-- Nothing here is to be believed. Proved: laws.
+pub mod laws

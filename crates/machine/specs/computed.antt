@@ -1,0 +1,4 @@
+pub mod Asked
+pub mod Calls
+pub mod Machine
+pub mod Run

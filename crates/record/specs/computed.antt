@@ -1,0 +1,3 @@
+pub mod Right
+pub mod Words
+pub mod Write

@@ -1,0 +1,133 @@
+-- `block` is right because it prints what `finish` gives and adds it to the totals, which have room for it.
+use borrow.Author.Needs.{needs}
+use Rattle.tally.proofs.Tally.block.Statement.{statement}
+use Rattle.tally.proofs.Tally.block.Tie as tie
+use mir.Syntax.{w64}
+use mir.Val.{SFits}
+use mir.Facts.{toZ-ofZ}
+use mathlib.Core.Path.{_≡_, refl, _∙_}
+use Prim.Native.Nat.{_+_, _≤_}
+use native.Mathlib.Omega.{arith}
+use mathlib.Core.List.{List}
+use Prim.Native.Nat.{ℕ}
+use lib.ListN.{length}
+use Rattle.row.specs.Lines.{blockLine}
+use Rattle.row.specs.computed.Buffer.{lineRoom, bufferAfter, placeAfter}
+use Rattle.row.specs.laws.Buffer.{block-short}
+use Rattle.finish.specs.laws.Record.{cycles-most, ticks-most}
+use Rattle.tally.specs.computed.Tally.{blockListed}
+use Rattle.tally.specs.laws.Counts.{Room, room}
+use Rattle.tally.specs.laws.Read.{written, goes-on}
+
+-- the totals have room for the block
+has-room : (c : tie.After-finish) → Room (c .before .before .args .self) (c .finish .result .cycles) (c .finish .result .ticks)
+has-room c = rw (c .finish .ensures) (room _ _ _ (c .before .before .pre .0) (cycles-most _) (ticks-most _))
+
+-- the row, with the end's numbers as the code holds them
+abbrev line : tie.After-block → List ℕ
+line c =
+    let s = c .before .before .before .before .before .before .before .before .before .before .before .args in
+    let f = c .before .before .before .before .before .before .before .before .before .finish .result in
+    blockLine (s .self .blocks + 1) (s .self .lines + 1) (c .before .before .before .kind-of .result) (f .cycles) (f .bench .at .x)
+    (f .bench .at .y) (s .bits)
+
+line-short : (c : tie.After-block) → length (line c) ≤ lineRoom
+line-short c =
+    let s = c .before .before .before .before .before .before .before .before .before .before .before .args in
+    let f = c .before .before .before .before .before .before .before .before .before .finish .result in
+    block-short (s .self .blocks + 1) (s .self .lines + 1) (c .before .before .before .kind-of .result) (f .cycles) (f .bench .at .x)
+    (f .bench .at .y) (s .bits)
+    (omega (arith, has-room (c .before .before .before .before .before .before .before .before .before) .blocks))
+    (omega (arith, has-room (c .before .before .before .before .before .before .before .before .before) .lines))
+    (omega (arith, has-room (c .before .before .before .before .before .before .before .before .before) .cycles)) (search needs)
+    (search needs) (search needs)
+
+buffer-is : (c : tie.After-block)
+    → c .block .last .0 ≡ bufferAfter (line c)
+    (c .before .before .before .before .before .before .before .before .before .before .before .args .out .now)
+    (c .before .before .before .before .before .before .before .before .before .before .before .args .at)
+buffer-is c =
+    let x : SFits w64 (c .before .before .before .before .before .before .before .before .before .finish .result .bench .at .x) =
+    search needs in
+    let y : SFits w64 (c .before .before .before .before .before .before .before .before .before .finish .result .bench .at .y) =
+    search needs in
+    simp toZ-ofZ at (c .block .ensures .0)
+
+place-is : (c : tie.After-block)
+    → c .block .result ≡ placeAfter (line c)
+    (c .before .before .before .before .before .before .before .before .before .before .before .args .out .now)
+    (c .before .before .before .before .before .before .before .before .before .before .before .args .at)
+place-is c =
+    let x : SFits w64 (c .before .before .before .before .before .before .before .before .before .finish .result .bench .at .x) =
+    search needs in
+    let y : SFits w64 (c .before .before .before .before .before .before .before .before .before .finish .result .bench .at .y) =
+    search needs in
+    simp toZ-ofZ at (c .block .ensures .1)
+
+finish-requires : tie.Need-finish-requires
+finish-requires c κs = search needs
+
+add-lines : tie.Need-add-lines
+add-lines c = omega (arith, has-room (c .before .before .before) .lines)
+
+add-blocks : tie.Need-add-blocks
+add-blocks c = omega (arith, has-room (c .before .before .before .before) .blocks)
+
+kind-of-requires : tie.Need-kind-of-requires
+kind-of-requires c κs = search needs
+
+block-requires : tie.Need-block-requires
+block-requires c κs = search needs
+
+add-t19 : tie.Need-add-t19
+add-t19 c = omega (
+  arith,
+  has-room (c .before .before .before .before .before .before .before .before .before .before .before .before .before) .cycles,
+)
+
+add-t20 : tie.Need-add-t20
+add-t20 c = omega (
+  arith,
+  has-room (c .before .before .before .before .before .before .before .before .before .before .before .before .before .before .before) .ticks,
+)
+
+next-place-requires : tie.Need-next-place-requires
+next-place-requires c κs = search needs
+
+same-length : tie.Need-same-length
+same-length c = search needs
+
+returns : tie.Need-returns
+unfolding blockListed
+returns c =
+    let b = c .before .before .before .before .before .before .before in
+    let s = c .before .before .before .before .before .before .before .before .before .before .before .before .before .before .before .before .before .before in
+    let room = s .pre .1 in (
+      rw (← c .before .before .before .before .before .before .before .before .before .before .before .before .before .before .before .before .finish .ensures)
+          (record {
+            short = rw (← c .before .before .before .before .before .before .before .before .before .before .kind-of .ensures)
+                (line-short b);
+            buffer = rw (← c .before .before .before .before .before .before .before .before .before .before .kind-of .ensures)
+                (buffer-is b ∙ written (line b) (s .args .out .now) (s .args .at) room);
+            next = rw (← c .before .before .before .before .before .before .before .before .before .before .kind-of .ensures)
+                (c .next-place .ensures ∙ goes-on (line b) (s .args .out .now) (s .args .at) room (place-is b));
+            over = refl;
+            tally = refl;
+          }),
+      refl,
+    )
+
+pub block-spec : {M : Type 1} → statement M
+block-spec =
+    tie.close
+    (tie.spec
+    finish-requires
+    add-lines
+    add-blocks
+    kind-of-requires
+    block-requires
+    add-t19
+    add-t20
+    next-place-requires
+    same-length
+    returns)
