@@ -7,8 +7,8 @@ ghost use Rattle.calls.specs.computed.Calls.{tells};
 ghost use Rattle.ccheck.specs.computed.Check.{benchMade, startProgress, TellsFill};
 use bench::Bench;
 use calls::answer::answer_number;
+use encoding::decode::bench_read;
 use encoding::decode::is_sound;
-use encoding::decode::bench_told;
 use encoding::encode::encode;
 use encoding::encode::mark_word;
 use encoding::given::settings;
@@ -58,7 +58,7 @@ pub extern "C" fn vz_check_fill(
         return -9;
     }
     let before = *bench;
-    let m = bench_told(before);
+    let m = bench_read(before);
     let given = *progress;
     let p = decode_progress(m, given);
     let check = p.check;

@@ -1,6 +1,6 @@
 // The bench that 19 words tell, and whether they are a sound record.
 ghost use mathlib.Core.Path.{_≡_};
-ghost use Rattle.encoding.specs.computed.Words.{lineTold, arcTold, workTold, headIn, workWordsIn, settingsIn, benchOf, benchTold};
+ghost use Rattle.encoding.specs.computed.Words.{lineRead, arcRead, workRead, headIn, workWordsIn, settingsIn, benchOf, benchRead};
 ghost use Rattle.encoding.specs.computed.Words.{isRecord};
 ghost use Rattle.encoding.specs.computed.Words.{soundWords};
 use crate::encode::Head;
@@ -18,7 +18,7 @@ use settings::Settings;
 use work::Work;
 
 fn line_of(w: WorkWords) -> Line
-    ensures { λ r. ⌜ r ≡ lineTold w ⌝ }
+    ensures { λ r. ⌜ r ≡ lineRead w ⌝ }
 {
     let start = Point { x: w.a, y: w.b };
     let end = Point { x: w.c, y: w.d };
@@ -32,7 +32,7 @@ fn line_of(w: WorkWords) -> Line
 }
 
 fn arc_of(turn: Turn, w: WorkWords) -> Arc
-    ensures { λ r. ⌜ r ≡ arcTold turn w ⌝ }
+    ensures { λ r. ⌜ r ≡ arcRead turn w ⌝ }
 {
     let centre = Point { x: w.a, y: w.b };
     let end = Point { x: w.d, y: w.e };
@@ -46,7 +46,7 @@ fn arc_of(turn: Turn, w: WorkWords) -> Arc
 }
 
 pub fn work_of(w: WorkWords) -> Work
-    ensures { λ r. ⌜ r ≡ workTold w ⌝ }
+    ensures { λ r. ⌜ r ≡ workRead w ⌝ }
 {
     let kind = count(w.kind);
     if kind == 1 {
@@ -122,8 +122,8 @@ fn is_record(words: [i64; 19]) -> bool
 }
 
 // The machine that words tell, whatever they are.
-pub fn bench_told(words: [i64; 19]) -> Bench
-    ensures { λ r. ⌜ r ≡ benchTold words ⌝ }
+pub fn bench_read(words: [i64; 19]) -> Bench
+    ensures { λ r. ⌜ r ≡ benchRead words ⌝ }
 {
     let work = work_of(work_words_in(words));
     bench_of(head_in(words), work)
@@ -137,7 +137,7 @@ pub fn is_sound(words: &[i64; 19]) -> bool
     if !is_record(given) {
         return false;
     }
-    let m = bench_told(given);
+    let m = bench_read(given);
     let settings = m.settings;
     let at = m.at;
     let work = m.work;

@@ -7,7 +7,7 @@ ghost use Rattle.settings.specs.Settings.{standardSettings};
 ghost use Rattle.seek.specs.computed.Seek.{seekOf};
 ghost use Rattle.row.specs.computed.Numbers.{bufferWith, placeWith};
 ghost use Rattle.row.specs.laws.Numbers.{EndsIn};
-ghost use Rattle.jobwhere.specs.computed.Asked.{pushedOf, askedOf};
+ghost use Rattle.jobwhere.specs.computed.Asked.{digitPushed, ticksAsked};
 ghost use Rattle.jobwhere.specs.computed.Row.{foundWord, rowOf};
 ghost use Rattle.jobwhere.specs.laws.Row.{standingOf, rowWith};
 use encoding::encode::WorkWords;
@@ -46,7 +46,7 @@ enum Pushed {
 }
 
 fn push(n: u64, b: u8) -> Pushed
-    ensures { λ r. ⌜ r ≡ pushedOf n b ⌝ }
+    ensures { λ r. ⌜ r ≡ digitPushed n b ⌝ }
 {
     if b < b'0' {
         return Pushed::Nothing;
@@ -62,7 +62,7 @@ fn push(n: u64, b: u8) -> Pushed
 }
 
 fn ask(text: &[u8]) -> Asked
-    ensures { λ r. ⌜ r ≡ askedOf (now (text .entry)) ⌝ }
+    ensures { λ r. ⌜ r ≡ ticksAsked (now (text .entry)) ⌝ }
 {
     let mut n = 0;
     let mut at = 0;

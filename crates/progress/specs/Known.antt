@@ -32,9 +32,9 @@ encodeKnown k = knownOf k .motion ∷ knownOf k .feed ∷ []
 -- ---- and back: what the words tell, whatever they are
 
 -- a feed of 32 bits
-abbrev pub feedTold : ℤ → Feed
-feedTold (pos f) = cond (ltb f (2 ^ 32)) (Feed.Known f) Feed.Unknown
-feedTold (negsuc n) = Feed.Unknown
+abbrev pub feedRead : ℤ → Feed
+feedRead (pos f) = cond (ltb f (2 ^ 32)) (Feed.Known f) Feed.Unknown
+feedRead (negsuc n) = Feed.Unknown
 
 abbrev pub readerOf : Known → Reader
-readerOf k = record { motion = motionOf (countOf (k .motion)); feed = feedTold (k .feed) }
+readerOf k = record { motion = motionOf (countOf (k .motion)); feed = feedRead (k .feed) }

@@ -1,6 +1,6 @@
 // The G and F known as 2 words, and back. `specs/Known.antt` says which word is what.
 ghost use mathlib.Core.Path.{_≡_};
-ghost use Rattle.progress.specs.Known.{motionWord, feedWord, knownOf, encodeKnown, feedTold, readerOf};
+ghost use Rattle.progress.specs.Known.{motionWord, feedWord, knownOf, encodeKnown, feedRead, readerOf};
 ghost use Rattle.progress.specs.computed.Known.{decodeKnown};
 ghost use Rattle.progress.specs.computed.Right.{knownRight};
 use encoding::encode::turn_word;
@@ -63,7 +63,7 @@ pub struct DecodedKnown {
 
 // Known feeds have 32 bits.
 fn feed_of(word: i64) -> Feed
-    ensures { λ r. ⌜ r ≡ feedTold word ⌝ }
+    ensures { λ r. ⌜ r ≡ feedRead word ⌝ }
 {
     let p = part(word);
     if p.negative {

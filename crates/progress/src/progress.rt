@@ -3,7 +3,7 @@ ghost use mathlib.Core.Path.{_≡_};
 ghost use Rattle.progress.specs.Progress.{stageWord, progressOf, progressWords, encodeProgress, stageOf, tallyOf, checkOf};
 ghost use Rattle.progress.specs.Progress.{progressIn};
 ghost use Rattle.progress.specs.computed.Progress.{decodeProgress};
-ghost use Rattle.progress.specs.computed.Right.{countsRight, progressRight};
+ghost use Rattle.progress.specs.computed.Right.{countWordsRight, progressRight};
 use crate::known::Known;
 use crate::known::known_of;
 use crate::known::known_right;
@@ -142,7 +142,7 @@ fn check_of(m: Bench, p: Progress) -> Check
 }
 
 fn counts_right(p: Progress) -> bool
-    ensures { λ r. ⌜ r ≡ countsRight p ⌝ }
+    ensures { λ r. ⌜ r ≡ countWordsRight p ⌝ }
 {
     if !is_count(p.at) {
         return false;

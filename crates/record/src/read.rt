@@ -4,7 +4,7 @@ ghost use Prim.Native.Nat.{_≤_, _<_};
 ghost use Rattle.encoding.specs.Words.{countOf, at};
 ghost use Rattle.encoding.specs.computed.Words.{headIn, workWordsIn};
 ghost use Rattle.machine.specs.Machine.{startOf};
-ghost use Rattle.record.specs.computed.Words.{blockWordsIn, pathTold, waitingOf, waitingIn, queueIn, figuresIn, lenIn, benchIn};
+ghost use Rattle.record.specs.computed.Words.{blockWordsIn, pathRead, waitingOf, waitingIn, queueIn, figuresIn, lenIn, benchIn};
 use bench::Bench;
 use block::Block;
 use block::Path;
@@ -114,7 +114,7 @@ pub fn block_words_in(words: &[i64; 134], place: usize) -> BlockWords
 }
 
 fn path_of(b: BlockWords) -> Path
-    ensures { λ r. ⌜ r ≡ pathTold b ⌝ }
+    ensures { λ r. ⌜ r ≡ pathRead b ⌝ }
 {
     let centre = Offset { x: b.i, y: b.j };
     let kind = count(b.kind);

@@ -38,15 +38,15 @@ pub data Value : Type 0 where
   twice : Value
 
 -- a word of the letter, in front of what the rest of the line says of it
-abbrev pub andThen : (negative : Bool) (magnitude : ℕ) → Value → Value
-andThen n m missing = one n m
-andThen n m (one _ _) = twice
-andThen n m twice = twice
+abbrev pub withRest : (negative : Bool) (magnitude : ℕ) → Value → Value
+withRest n m missing = one n m
+withRest n m (one _ _) = twice
+withRest n m twice = twice
 
 abbrev pub says : Letter → List Item → Value
 says l [] = missing
 says l (blank ∷ is) = says l is
-says l (word k s w f ∷ is) = cond (same l k) (andThen (isMinus s) (magnitudeOf k w f) (says l is)) (says l is)
+says l (word k s w f ∷ is) = cond (same l k) (withRest (isMinus s) (magnitudeOf k w f) (says l is)) (says l is)
 
 -- ---- the same as the code answers it
 

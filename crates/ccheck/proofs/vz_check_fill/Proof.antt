@@ -22,8 +22,8 @@ is-sound-requires c κs = search needs
 returns : tie.Need-returns
 returns c = fill-no-record _ _ (sym (c .before .is-sound .ensures) ∙ not-true _ (c .if1 .taken))
 
-bench-told-requires : tie.Need-bench-told-requires
-bench-told-requires c κs = search needs
+bench-read-requires : tie.Need-bench-read-requires
+bench-read-requires c κs = search needs
 
 decode-progress-requires : tie.Need-decode-progress-requires
 decode-progress-requires c κs = search needs
@@ -31,7 +31,7 @@ decode-progress-requires c κs = search needs
 returns-2 : tie.Need-returns-2
 returns-2 c =
     let p = c .before .before .before in
-    fill-no-progress _ _ (rw (p .before .before .bench-told .ensures) at (p .decode-progress .ensures))
+    fill-no-progress _ _ (rw (p .before .before .bench-read .ensures) at (p .decode-progress .ensures))
     (sound (c .before .before .before .before .before .before .before)) (not-true _ (c .if2 .taken))
 
 fill-requires : tie.Need-fill-requires
@@ -58,7 +58,7 @@ returns-3 c =
     let e2 = k .before .before in
     let next = k .fill .result .check in
     let p = e2 .before .before .before in
-    fill-rows _ _ (rw (p .before .before .bench-told .ensures) at (p .decode-progress .ensures))
+    fill-rows _ _ (rw (p .before .before .bench-read .ensures) at (p .decode-progress .ensures))
     (sound (e2 .before .before .before .before .before .before .before)) (not-false _ (e2 .if2 .left))
     (record {
       next = next;
@@ -74,7 +74,7 @@ vz-check-fill-spec =
     (tie.spec
     is-sound-requires
     returns
-    bench-told-requires
+    bench-read-requires
     decode-progress-requires
     returns-2
     fill-requires

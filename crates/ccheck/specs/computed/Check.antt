@@ -10,7 +10,7 @@ use Rattle.job.specs.declared.Check.{Check}
 use Rattle.job.specs.computed.Check.{checkFrom, Fills}
 use Rattle.job.specs.Check.{isOver}
 use Rattle.encoding.specs.Words.{markWord, encodeOf}
-use Rattle.encoding.specs.computed.Words.{benchTold, soundWords}
+use Rattle.encoding.specs.computed.Words.{benchRead, soundWords}
 use Rattle.progress.specs.declared.progress.DecodedProgress.{DecodedProgress}
 use Rattle.progress.specs.Progress.{encodeProgress}
 use Rattle.progress.specs.computed.Progress.{decodeProgress}
@@ -28,7 +28,7 @@ startProgress s = encodeProgress (checkFrom (makeOf s .bench))
 
 -- the check that the words of a bench and of its progress tell, if they are a sound bench's and one's
 abbrev pub checkTold : (ws ps : List ℤ) → DecodedProgress
-checkTold ws ps = decodeProgress (benchTold ws) ps
+checkTold ws ps = decodeProgress (benchRead ws) ps
 
 unfoldable pub isCheck : (ws ps : List ℤ) → Bool
 isCheck ws ps = soundWords ws && checkTold ws ps .ok

@@ -59,9 +59,9 @@ front : (m : Machine) → 22 ≤ length (encodeOf m)
 unfolding encodeOf
 front m = omega arith
 
-bench-told : (ws : List ℤ) → benchIn ws ≡ machineIn ws .bench
+bench-read : (ws : List ℤ) → benchIn ws ≡ machineIn ws .bench
 unfolding machineIn
-bench-told ws = refl
+bench-read ws = refl
 
 -- ---- one tick
 
@@ -141,7 +141,7 @@ unfolding ticksOf
 ticks-none n ws none = rw none refl
 
 pub ticks-still : (n : ℕ) (ws : List ℤ) → soundWords ws ≡ true → {k : Bench} → k ≡ benchIn ws → worksOf k ≡ false → ticksOf n ws ≡ ws
-ticks-still n ws t is rests = ticks-rest n ws t (subst (λ (k : Bench). worksOf k ≡ false) (is ∙ bench-told ws) rests)
+ticks-still n ws t is rests = ticks-rest n ws t (subst (λ (k : Bench). worksOf k ≡ false) (is ∙ bench-read ws) rests)
 
 -- ---- at work
 
@@ -324,7 +324,7 @@ module _ (ws : List ℤ) (n : ℕ) where
       to-own = by ∙ ap (λ (m : Machine). m .bench) (ticks-told n ws t .0)
         where
           by : to ≡ machineIn (ticksOf n ws) .bench
-          by = to-is ∙ bench-told (ticksOf n ws)
+          by = to-is ∙ bench-read (ticksOf n ws)
 
       pub ahead-near : Near 1000000 (from .at) × Near 1000000 (to .at)
       ahead-near =

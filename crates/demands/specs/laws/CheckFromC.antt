@@ -20,7 +20,7 @@ use Rattle.job.specs.computed.Listing.{listingOf}
 use Rattle.job.specs.computed.Check.{checkFrom, restAt, restOf}
 use Rattle.job.specs.Check.{stageOver}
 use Rattle.encoding.specs.Words.{encodeOf, markWord}
-use Rattle.encoding.specs.computed.Words.{benchTold, soundWords}
+use Rattle.encoding.specs.computed.Words.{benchRead, soundWords}
 use Rattle.encoding.specs.laws.Same.{same-true, same-words}
 use Rattle.encoding.specs.laws.Record.{machine-back, words-are, told-sound, sound-words}
 use Rattle.progress.specs.Progress.{encodeProgress, checkIn}
@@ -42,7 +42,7 @@ check-is : (ws ps : List ℤ) (k : Bench) → IsCheck ws ps k → (isCheck ws ps
 unfolding isCheck decodeProgress
 check-is ws ps k c =
     let e = bench-is k .1 (c .0) in
-    let here = ap benchTold (c .1) ∙ machine-back k e in
+    let here = ap benchRead (c .1) ∙ machine-back k e in
     (joined (ap soundWords (c .1) ∙ sound-words k e) (rw here (sym (same-words (c .2)))), ap (λ (x : Bench). checkIn x ps) here)
 
 no-check-is : (ws ps : List ℤ) → ((k : Bench) → ¬ (IsCheck ws ps k)) → isCheck ws ps ≡ false
@@ -51,10 +51,10 @@ no-check-is ws ps none =
     refuted (isCheck ws ps)
     (λ t.
     let b = both {a = soundWords ws} t in
-    none (benchTold ws) (
-      bench-is (benchTold ws) .0 (told-sound ws (b .0)),
+    none (benchRead ws) (
+      bench-is (benchRead ws) .0 (told-sound ws (b .0)),
       words-are ws (b .0),
-      same-true ps (encodeProgress (checkIn (benchTold ws) ps)) (b .1),
+      same-true ps (encodeProgress (checkIn (benchRead ws) ps)) (b .1),
     ))
 
 own-fill : {c : Check} (text out out′ : RefT (List ℕ)) {n : ℤ} {len : ℕ} {ws′ ps′ : List ℤ}

@@ -49,4 +49,8 @@ every-answer =
     }
 
 pub every-record : EveryRecord
-every-record m r e = (λ t. sound-is m .0 (sym e ∙ t), λ s. e ∙ sound-is m .1 s)
+every-record =
+    record {
+      answers = λ m r e. (λ t. sound-is m .0 (sym e ∙ t), λ s. e ∙ sound-is m .1 s);
+      passes = λ m. (λ p. sound-is m .0 (sym p), λ s. sym (sound-is m .1 s));
+    }

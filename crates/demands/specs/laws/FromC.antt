@@ -55,7 +55,7 @@ use Rattle.calls.specs.computed.Calls.{madeOf, ToldRun, tellsRun, ran, toldRunO
 use Rattle.calls.specs.laws.Told.{told-call, told-refused, run-refused}
 use Rattle.calls.specs.laws.Load.{own-words}
 use Rattle.progress.specs.declared.known.DecodedKnown.{DecodedKnown}
-use Rattle.progress.specs.Known.{encodeKnown, feedTold, readerOf}
+use Rattle.progress.specs.Known.{encodeKnown, feedRead, readerOf}
 use Rattle.progress.specs.computed.Known.{knownIn, decodeKnown}
 use Rattle.progress.specs.laws.Inverse.{FeedFits, known-decode}
 use Rattle.cmachine.specs.computed.Looks.{ToldAhead, tellsAhead, ticksOf, toldAheadOf}
@@ -334,7 +334,7 @@ made-words s before n after h =
 -- ---- a line of a job text
 
 -- what is known, and its words
-feed-32 : (z : ℤ) → FeedOf32 (feedTold z)
+feed-32 : (z : ℤ) → FeedOf32 (feedRead z)
 feed-32 (negsuc n) = tt
 feed-32 (pos f) = by (ltb f (2 ^ 32)) refl
   where

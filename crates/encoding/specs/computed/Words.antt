@@ -18,8 +18,8 @@ use Rattle.encoding.specs.Words.{settingsOf, at}
 
 -- ---- and back: what the words tell, whatever they are
 
-abbrev pub lineTold : WorkWords → Line
-lineTold w =
+abbrev pub lineRead : WorkWords → Line
+lineRead w =
     record {
       start = record { x = w .a; y = w .b };
       end = record { x = w .c; y = w .d };
@@ -28,8 +28,8 @@ lineTold w =
       done = countOf (w .g);
     }
 
-abbrev pub arcTold : Turn → WorkWords → Arc
-arcTold t w =
+abbrev pub arcRead : Turn → WorkWords → Arc
+arcRead t w =
     record {
       centre = record { x = w .a; y = w .b };
       square = countOf (w .c);
@@ -38,11 +38,11 @@ arcTold t w =
       feed = countOf (w .f);
     }
 
-unfoldable pub workTold : WorkWords → Work
-workTold w =
-    cond (eqb (countOf (w .kind)) 1) (Work.Line (lineTold w))
-    (cond (eqb (countOf (w .kind)) 2) (Work.Arc (arcTold Turn.Clockwise w))
-    (cond (eqb (countOf (w .kind)) 3) (Work.Arc (arcTold Turn.Counterclockwise w)) Work.Nothing))
+unfoldable pub workRead : WorkWords → Work
+workRead w =
+    cond (eqb (countOf (w .kind)) 1) (Work.Line (lineRead w))
+    (cond (eqb (countOf (w .kind)) 2) (Work.Arc (arcRead Turn.Clockwise w))
+    (cond (eqb (countOf (w .kind)) 3) (Work.Arc (arcRead Turn.Counterclockwise w)) Work.Nothing))
 
 abbrev pub settingsIn : Head → Settings
 settingsIn h = settingsOf (h .p) (h .w) (h .xlo) (h .xhi) (h .ylo) (h .yhi)
@@ -76,8 +76,8 @@ abbrev pub workWordsIn : List ℤ → WorkWords
 workWordsIn ws = workWords (at ws 11) (at ws 12) (at ws 13) (at ws 14) (at ws 15) (at ws 16) (at ws 17) (at ws 18)
 
 -- the bench that the words tell
-unfoldable pub benchTold : List ℤ → Bench
-benchTold ws = benchOf (headIn ws) (workTold (workWordsIn ws))
+unfoldable pub benchRead : List ℤ → Bench
+benchRead ws = benchOf (headIn ws) (workRead (workWordsIn ws))
 
 unfoldable pub sameWords : List ℤ → List ℤ → Bool
 sameWords [] [] = true
@@ -88,8 +88,8 @@ sameWords (v ∷ vs) (w ∷ ws) = equalZ v w && sameWords vs ws
 -- Words are a bench's record if they are those of the bench that they tell. So another layout's number, a mark that is neither 0 nor 1,
 -- a kind above 3, an unused word that is not 0 and a negative count make no record.
 unfoldable pub isRecord : List ℤ → Bool
-isRecord ws = sameWords ws (encodeOf (benchTold ws))
+isRecord ws = sameWords ws (encodeOf (benchRead ws))
 
 -- "Any call on a record: is it sound? 9.": they are a record, and it is sound
 unfoldable pub soundWords : List ℤ → Bool
-soundWords ws = isRecord ws && soundOf (benchTold ws)
+soundWords ws = isRecord ws && soundOf (benchRead ws)

@@ -22,16 +22,16 @@ use Rattle.bench.specs.computed.Bench.{soundOf}
 use Rattle.settings.specs.laws.Right.{settings-right}
 use Rattle.bench.specs.laws.Sound.{sound}
 use Rattle.encoding.specs.Words.{wordOf, countOf, markWord, turnWord, workWords, workWordsOf, encodeOf}
-use Rattle.encoding.specs.computed.Words.{workTold, benchTold, isRecord}
+use Rattle.encoding.specs.computed.Words.{workRead, benchRead, isRecord}
 use Rattle.encoding.specs.computed.Words.{soundWords}
 use Rattle.encoding.specs.laws.Number.{word-small}
 use Rattle.encoding.specs.laws.Same.{same-true, same-self}
 
 -- ---- from words to a machine and back
 
-pub record-words : (ws : List ℤ) → isRecord ws ≡ true → encodeOf (benchTold ws) ≡ ws
+pub record-words : (ws : List ℤ) → isRecord ws ≡ true → encodeOf (benchRead ws) ≡ ws
 unfolding isRecord
-record-words ws t = sym (same-true ws (encodeOf (benchTold ws)) t)
+record-words ws t = sym (same-true ws (encodeOf (benchRead ws)) t)
 
 -- ---- from a machine to words and back
 
@@ -61,15 +61,15 @@ arc-back :
     (a : Arc)
     → ArcSmall a
     → (t : Turn)
-    → workTold (workWords (turnWord t) (a .centre .x) (a .centre .y) (wordOf (a .square)) (a .end .x) (a .end .y) (wordOf (a .feed))
+    → workRead (workWords (turnWord t) (a .centre .x) (a .centre .y) (wordOf (a .square)) (a .end .x) (a .end .y) (wordOf (a .feed))
     (pos 0))
     ≡ Work.Arc (record { centre = a .centre; square = a .square; turn = t; end = a .end; feed = a .feed })
-unfolding workTold
+unfolding workRead
 arc-back a s Turn.Clockwise = rw (count-word (s .square), count-word (s .feed))
 arc-back a s Turn.Counterclockwise = rw (count-word (s .square), count-word (s .feed))
 
-pub work-back : (w : Work) → Small w → workTold (workWordsOf w) ≡ w
-unfolding workTold
+pub work-back : (w : Work) → Small w → workRead (workWordsOf w) ≡ w
+unfolding workRead
 work-back Work.Nothing s = refl
 work-back (Work.Line l) s = rw (count-word (s .feed), count-word (s .cycles), count-word (s .done))
 work-back (Work.Arc a) s = arc-back a s (a .turn)
@@ -86,8 +86,8 @@ small t at (Work.Arc a) most e =
     let i = arc-work {t = t} {at = at} e in
     record { square = omega (arith, on-circle-to _ _ (i .arc .on) .bound); feed = omega (arith, i .feed .most) }
 
-pub machine-back : (m : Bench) → soundOf m ≡ true → benchTold (encodeOf m) ≡ m
-unfolding benchTold encodeOf
+pub machine-back : (m : Bench) → soundOf m ≡ true → benchRead (encodeOf m) ≡ m
+unfolding benchRead encodeOf
 machine-back m e =
     let s = sound e in
     let r = settings-right (m .settings) (s .settings) in
@@ -105,11 +105,11 @@ record-of m e = rw (machine-back m e, same-self (encodeOf m))
 
 module _ (ws : List ℤ) (t : soundWords ws ≡ true) where
   -- they are those of the machine that they tell, which is sound
-  pub words-are : ws ≡ encodeOf (benchTold ws)
+  pub words-are : ws ≡ encodeOf (benchRead ws)
   unfolding soundWords
   words-are = sym (record-words ws (both {a = isRecord ws} t .0))
 
-  pub told-sound : soundOf (benchTold ws) ≡ true
+  pub told-sound : soundOf (benchRead ws) ≡ true
   unfolding soundWords
   told-sound = both {a = isRecord ws} t .1
 

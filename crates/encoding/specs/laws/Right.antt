@@ -17,9 +17,9 @@ use Rattle.work.specs.declared.Work.{Work}
 use Rattle.encoding.specs.declared.encode.Head.{Head}
 use Rattle.encoding.specs.declared.encode.WorkWords.{WorkWords}
 use Rattle.encoding.specs.Words.{abi, at, wordOf, countOf, markWord, turnWord, workWords}
-use Rattle.encoding.specs.computed.Words.{lineTold, arcTold}
+use Rattle.encoding.specs.computed.Words.{lineRead, arcRead}
 use Rattle.encoding.specs.Words.{workWordsOf, headOf, wordsOf}
-use Rattle.encoding.specs.computed.Words.{workTold, headIn, workWordsIn, benchOf, benchTold}
+use Rattle.encoding.specs.computed.Words.{workRead, headIn, workWordsIn, benchOf, benchRead}
 use Rattle.encoding.specs.Words.{encodeOf}
 use Rattle.encoding.specs.computed.Words.{isRecord}
 use Rattle.encoding.specs.computed.Right.{isCount, isMark, headRight, nothingRight, lineRight, arcRight, workRight, partsRight}
@@ -104,20 +104,20 @@ module _ (w : WorkWords) where
         equal-true (w .g) (pos 0) (f .1),
       )
 
-  line-again : WorkFits w → lineRight w ≡ true → workWordsOf (Work.Line (lineTold w)) ≡ of-kind (pos 1)
+  line-again : WorkFits w → lineRight w ≡ true → workWordsOf (Work.Line (lineRead w)) ≡ of-kind (pos 1)
   line-again s t =
       let a = both t in
       let b = both (a .1) in
       rw (count-again (w .e) (s .e) (a .0), count-again (w .f) (s .f) (b .0), count-again (w .g) (s .g) (b .1))
 
-  arc-again : (turn : Turn) → WorkFits w → arcRight w ≡ true → workWordsOf (Work.Arc (arcTold turn w)) ≡ of-kind (turnWord turn)
+  arc-again : (turn : Turn) → WorkFits w → arcRight w ≡ true → workWordsOf (Work.Arc (arcRead turn w)) ≡ of-kind (turnWord turn)
   arc-again turn s t =
       let a = both t in
       let b = both (a .1) in
       rw (count-again (w .c) (s .c) (a .0), count-again (w .f) (s .f) (b .0), equal-true (w .g) (pos 0) (b .1))
 
-  pub work-again : WorkFits w → workRight w ≡ true → workWordsOf (workTold w) ≡ of-kind (w .kind)
-  unfolding workRight workTold
+  pub work-again : WorkFits w → workRight w ≡ true → workWordsOf (workRead w) ≡ of-kind (w .kind)
+  unfolding workRight workRead
   work-again s = by (equalZ (w .kind) (pos 0)) refl (equalZ (w .kind) (pos 1)) refl (equalZ (w .kind) (pos 2)) refl
       (equalZ (w .kind) (pos 3)) refl
     where
@@ -125,7 +125,7 @@ module _ (w : WorkWords) where
           → equalZ (w .kind) (pos 2) ≡ k2
           → (k3 : Bool) → equalZ (w .kind) (pos 3) ≡ k3
           → cond k0 (nothingRight w) (cond k1 (lineRight w) (cond k2 (arcRight w) (cond k3 (arcRight w) false))) ≡ true
-          → workWordsOf (workTold w) ≡ of-kind (w .kind)
+          → workWordsOf (workRead w) ≡ of-kind (w .kind)
       by true e k1 e1 k2 e2 k3 e3 t = rw (equal-true (w .kind) (pos 0) e) (nothing-again t)
       by false e true e1 k2 e2 k3 e3 t = rw (equal-true (w .kind) (pos 1) e1) (line-again s t)
       by false e false e1 true e2 k3 e3 t = rw (equal-true (w .kind) (pos 2) e2) (arc-again Turn.Clockwise s t)
@@ -142,12 +142,12 @@ module _ (w : WorkWords) where
       (joined (zero-right (ap (λ (v : WorkWords). v .e) e))
       (joined (zero-right (ap (λ (v : WorkWords). v .f) e)) (zero-right (ap (λ (v : WorkWords). v .g) e)))))))
 
-  line-right : workWordsOf (Work.Line (lineTold w)) ≡ w → lineRight w ≡ true
+  line-right : workWordsOf (Work.Line (lineRead w)) ≡ w → lineRight w ≡ true
   line-right e =
       joined (count-right (w .e) (ap (λ (v : WorkWords). v .e) e))
       (joined (count-right (w .f) (ap (λ (v : WorkWords). v .f) e)) (count-right (w .g) (ap (λ (v : WorkWords). v .g) e)))
 
-  arc-right : (turn : Turn) → workWordsOf (Work.Arc (arcTold turn w)) ≡ w → arcRight w ≡ true
+  arc-right : (turn : Turn) → workWordsOf (Work.Arc (arcRead turn w)) ≡ w → arcRight w ≡ true
   arc-right turn e =
       joined (count-right (w .c) (ap (λ (v : WorkWords). v .c) e))
       (joined (count-right (w .f) (ap (λ (v : WorkWords). v .f) e)) (zero-right (ap (λ (v : WorkWords). v .g) e)))
@@ -156,17 +156,17 @@ module _ (w : WorkWords) where
   kind-is : (work : Work) → workWordsOf work ≡ w → w .kind ≡ workWordsOf work .kind
   kind-is work e = sym (ap (λ (v : WorkWords). v .kind) e)
 
-  pub work-right : workWordsOf (workTold w) ≡ w → workRight w ≡ true
-  unfolding workRight workTold
+  pub work-right : workWordsOf (workRead w) ≡ w → workRight w ≡ true
+  unfolding workRight workRead
   work-right = by (eqb (countOf (w .kind)) 1) (eqb (countOf (w .kind)) 2) (eqb (countOf (w .kind)) 3)
     where
       by : (k1 k2 k3 : Bool)
-          → workWordsOf (cond k1 (Work.Line (lineTold w))
-          (cond k2 (Work.Arc (arcTold Turn.Clockwise w)) (cond k3 (Work.Arc (arcTold Turn.Counterclockwise w)) Work.Nothing))) ≡ w
+          → workWordsOf (cond k1 (Work.Line (lineRead w))
+          (cond k2 (Work.Arc (arcRead Turn.Clockwise w)) (cond k3 (Work.Arc (arcRead Turn.Counterclockwise w)) Work.Nothing))) ≡ w
           → workRight w ≡ true
-      by true k2 k3 e = rw (kind-is (Work.Line (lineTold w)) e) (line-right e)
-      by false true k3 e = rw (kind-is (Work.Arc (arcTold Turn.Clockwise w)) e) (arc-right Turn.Clockwise e)
-      by false false true e = rw (kind-is (Work.Arc (arcTold Turn.Counterclockwise w)) e) (arc-right Turn.Counterclockwise e)
+      by true k2 k3 e = rw (kind-is (Work.Line (lineRead w)) e) (line-right e)
+      by false true k3 e = rw (kind-is (Work.Arc (arcRead Turn.Clockwise w)) e) (arc-right Turn.Clockwise e)
+      by false false true e = rw (kind-is (Work.Arc (arcRead Turn.Counterclockwise w)) e) (arc-right Turn.Counterclockwise e)
       by false false false e = rw (kind-is Work.Nothing e) (nothing-right e)
 
 -- ---- all nineteen
@@ -192,27 +192,27 @@ pub record Fits (ws : List ℤ) : Type 0 where
   pub work : WorkFits (workWordsIn ws)
 
 module _ (ws : List ℤ) (all : length ws ≡ 19) (f : Fits ws) where
-  told-again : wordsRight ws ≡ true → ws ≡ encodeOf (benchTold ws)
-  unfolding wordsRight partsRight encodeOf benchTold
+  told-again : wordsRight ws ≡ true → ws ≡ encodeOf (benchRead ws)
+  unfolding wordsRight partsRight encodeOf benchRead
   told-again t =
       let a = both t in
       let b = both (a .1) in
-      let h = head-again (headIn ws) (workTold (workWordsIn ws)) (f .p) (f .w) (f .remainder) (b .0) in
+      let h = head-again (headIn ws) (workRead (workWordsIn ws)) (f .p) (f .w) (f .remainder) (b .0) in
       let w = work-again (workWordsIn ws) (f .work) (b .1) in
       each 19 ws all
       ∙ ap (λ (first : ℤ). first ∷ wordsAt 1 18 ws) (equal-true (at ws 0) abi (a .0))
       ∙ ap (λ (g : Head). wordsOf g (workWordsIn ws)) (sym h)
-      ∙ ap (λ (v : WorkWords). wordsOf (headOf (benchTold ws)) v) (sym w)
+      ∙ ap (λ (v : WorkWords). wordsOf (headOf (benchRead ws)) v) (sym w)
 
-  told-right : ws ≡ encodeOf (benchTold ws) → wordsRight ws ≡ true
-  unfolding wordsRight partsRight encodeOf benchTold
+  told-right : ws ≡ encodeOf (benchRead ws) → wordsRight ws ≡ true
+  unfolding wordsRight partsRight encodeOf benchRead
   told-right e =
       let first : equalZ (at ws 0) abi ≡ true = rw (ap (λ (l : List ℤ). at l 0) e) in
       joined first
-      (joined (head-right (headIn ws) (workTold (workWordsIn ws)) (sym (ap headIn e)))
+      (joined (head-right (headIn ws) (workRead (workWordsIn ws)) (sym (ap headIn e)))
       (work-right (workWordsIn ws) (sym (ap workWordsIn e))))
 
   pub right-same : wordsRight ws ≡ isRecord ws
   unfolding isRecord
   right-same =
-      same-test (λ t. sym (same-words (told-again t))) (λ t. told-right (same-true ws (encodeOf (benchTold ws)) t))
+      same-test (λ t. sym (same-words (told-again t))) (λ t. told-right (same-true ws (encodeOf (benchRead ws)) t))

@@ -4,7 +4,7 @@ use mathlib.Core.Path.{sym, subst, _∙_}
 use native.Mathlib.Omega.{arith}
 use lib.ListN.{length}
 use Rattle.jobwhere.specs.declared.Asked.{Asked}
-use Rattle.jobwhere.specs.laws.Asked.{Within, begins}
+use Rattle.jobwhere.specs.laws.Asked.{NumberWithin, begins}
 use Rattle.jobwhere.proofs.answer.Statement.{statement}
 use Rattle.jobwhere.proofs.answer.Tie as tie
 
@@ -13,11 +13,11 @@ start :
     (c : tie.After-asked)
     → (let s = c .before .before .before .before .args .text .now in
     let held = c .asked .given .0 in
-    Within (length s) (Asked.Ticks (held .0) (held .1 .0)))
+    NumberWithin (length s) (Asked.Ticks (held .0) (held .1 .0)))
 start c =
     let a = c .before .before in
     let s = a .before .before .args .text .now in
-    subst (Within (length s)) (sym (a .ask .ensures) ∙ c .asked .given .1) (begins s)
+    subst (NumberWithin (length s)) (sym (a .ask .ensures) ∙ c .asked .given .1) (begins s)
 
 ask-requires : tie.Need-ask-requires
 ask-requires c κs = search needs

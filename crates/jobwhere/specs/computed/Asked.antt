@@ -8,8 +8,8 @@ use Rattle.jobwhere.specs.declared.Asked.{Asked}
 use Rattle.jobwhere.specs.declared.Pushed.{Pushed}
 
 -- a digit, from '0', byte 48, to '9', after the digits that write n
-unfoldable pub pushedOf : (n b : ℕ) → Pushed
-pushedOf n b =
+unfoldable pub digitPushed : (n b : ℕ) → Pushed
+digitPushed n b =
     let more = n * 10 + (b - 48) in
     cond (leb 48 b && (leb b 57 && ltb more (2 ^ 63))) (Pushed.Number more) Pushed.Nothing
 
@@ -23,7 +23,7 @@ askedFrom n digits [] = Asked.Nothing
 askedFrom n digits (b ∷ s) =
     cond (eqb b 10)
     (cond (eqb digits 0) Asked.Nothing (Asked.Ticks n (digits + 1)))
-    (cond (eqb digits 19) Asked.Nothing (ifPushed (pushedOf n b) (λ more. askedFrom more (digits + 1) s)))
+    (cond (eqb digits 19) Asked.Nothing (ifPushed (digitPushed n b) (λ more. askedFrom more (digits + 1) s)))
 
-abbrev pub askedOf : (text : List ℕ) → Asked
-askedOf text = askedFrom 0 0 text
+abbrev pub ticksAsked : (text : List ℕ) → Asked
+ticksAsked text = askedFrom 0 0 text

@@ -19,8 +19,8 @@ feeds = record { lower = negsuc 0; upper = pos 4294967295 }
 unfoldable pub knownRight : Known → Bool
 knownRight k = withinOf motions (k .motion) && withinOf feeds (k .feed)
 
-unfoldable pub countsRight : Progress → Bool
-countsRight p = isCount (p .at) && (isCount (p .lines) && (isCount (p .blocks) && (isCount (p .cycles) && isCount (p .ticks))))
+unfoldable pub countWordsRight : Progress → Bool
+countWordsRight p = isCount (p .at) && (isCount (p .lines) && (isCount (p .blocks) && (isCount (p .cycles) && isCount (p .ticks))))
 
 unfoldable pub progressRight : Progress → Bool
-progressRight p = withinOf stages (p .stage) && (knownRight (p .known) && countsRight p)
+progressRight p = withinOf stages (p .stage) && (knownRight (p .known) && countWordsRight p)

@@ -16,7 +16,7 @@ use Rattle.job.specs.computed.Check.{FeedSmall, Reached}
 use Rattle.encoding.specs.Words.{countOf}
 use Rattle.encoding.specs.laws.Record.{count-word}
 use Rattle.encoding.specs.laws.Same.{same-self}
-use Rattle.progress.specs.Known.{motionWord, feedWord, encodeKnown, feedTold}
+use Rattle.progress.specs.Known.{motionWord, feedWord, encodeKnown, feedRead}
 use Rattle.progress.specs.computed.Known.{decodeKnown}
 use Rattle.progress.specs.Progress.{stageWord, encodeProgress, stageOf, checkIn}
 use Rattle.progress.specs.computed.Progress.{decodeProgress}
@@ -46,7 +46,7 @@ motion-back Motion.Line = refl
 motion-back (Motion.Arc Turn.Clockwise) = refl
 motion-back (Motion.Arc Turn.Counterclockwise) = refl
 
-feed-back : (f : Feed) → FeedFits f → feedTold (feedWord f) ≡ f
+feed-back : (f : Feed) → FeedFits f → feedRead (feedWord f) ≡ f
 feed-back Feed.Unknown h = refl
 feed-back (Feed.Known f) h = rw (lt-ltb f (2 ^ 32) h)
 

@@ -13,7 +13,7 @@ use Rattle.reader.specs.declared.Motion.{Motion}
 use Rattle.reader.specs.declared.Feed.{Feed}
 use Rattle.job.specs.declared.Stage.{Stage}
 use Rattle.encoding.specs.laws.Number.{turn-fits}
-use Rattle.progress.specs.Known.{motionWord, feedTold}
+use Rattle.progress.specs.Known.{motionWord, feedRead}
 use Rattle.progress.specs.Progress.{stageWord}
 
 pub stage-fits : (s : Stage) → SFits w64 (stageWord s)
@@ -26,11 +26,11 @@ motion-fits Motion.Unknown = sfits-lit tt
 motion-fits Motion.Line = sfits-lit tt
 motion-fits (Motion.Arc turn) = turn-fits turn
 
-pub feed-none : (z : ℤ) {p : SignMagnitude} → p ≡ partOf z → p .negative ≡ true → Feed.Unknown ≡ feedTold z
+pub feed-none : (z : ℤ) {p : SignMagnitude} → p ≡ partOf z → p .negative ≡ true → Feed.Unknown ≡ feedRead z
 feed-none (pos n) e t = absurd (true≢false (sym t ∙ ap (λ (p : SignMagnitude). p .negative) e))
 feed-none (negsuc n) e t = refl
 
 pub feed-some : (z : ℤ) {p : SignMagnitude} → p ≡ partOf z → p .negative ≡ false
-    → cond (ltb (p .magnitude) (2 ^ 32)) (Feed.Known (p .magnitude)) Feed.Unknown ≡ feedTold z
+    → cond (ltb (p .magnitude) (2 ^ 32)) (Feed.Known (p .magnitude)) Feed.Unknown ≡ feedRead z
 feed-some (pos n) e t = ap (λ (p : SignMagnitude). cond (ltb (p .magnitude) (2 ^ 32)) (Feed.Known (p .magnitude)) Feed.Unknown) e
 feed-some (negsuc n) e t = absurd (true≢false (sym (ap (λ (p : SignMagnitude). p .negative) e) ∙ t))

@@ -26,10 +26,10 @@ use Rattle.encoding.specs.laws.Right.{count-again, count-right, each}
 use Rattle.encoding.specs.laws.Same.{same-true, same-words}
 use Rattle.progress.specs.declared.known.Known.{Known}
 use Rattle.progress.specs.declared.progress.Progress.{Progress}
-use Rattle.progress.specs.Known.{motionWord, feedWord, knownOf, encodeKnown, feedTold, readerOf}
+use Rattle.progress.specs.Known.{motionWord, feedWord, knownOf, encodeKnown, feedRead, readerOf}
 use Rattle.progress.specs.computed.Known.{knownIn}
 use Rattle.progress.specs.Progress.{stageWord, progressOf, progressWords, encodeProgress, stageOf, checkOf, progressIn, checkIn}
-use Rattle.progress.specs.computed.Right.{stages, motions, feeds, knownRight, countsRight, progressRight}
+use Rattle.progress.specs.computed.Right.{stages, motions, feeds, knownRight, countWordsRight, progressRight}
 
 -- ---- ranges
 
@@ -71,13 +71,13 @@ motion-right Motion.Line = refl
 motion-right (Motion.Arc Turn.Clockwise) = refl
 motion-right (Motion.Arc Turn.Counterclockwise) = refl
 
-feed-again : (z : ℤ) → withinOf feeds z ≡ true → feedWord (feedTold z) ≡ z
+feed-again : (z : ℤ) → withinOf feeds z ≡ true → feedWord (feedRead z) ≡ z
 feed-again (pos f) t = rw (lt-ltb f (2 ^ 32) (omega (arith, range-to feeds (pos f) t .1)))
 feed-again (negsuc zero) t = refl
 feed-again (negsuc (suc n)) t = absurd (omega (arith, range-to feeds (negsuc (suc n)) t .0))
 
 -- a feed that the words tell
-feed-right : (z : ℤ) → feedWord (feedTold z) ≡ z → withinOf feeds z ≡ true
+feed-right : (z : ℤ) → feedWord (feedRead z) ≡ z → withinOf feeds z ≡ true
 feed-right (pos f) = by (ltb f (2 ^ 32)) refl
   where
     by : (small : Bool) → ltb f (2 ^ 32) ≡ small → feedWord (cond small (Feed.Known f) Feed.Unknown) ≡ pos f → withinOf feeds (pos f) ≡ true
@@ -118,7 +118,7 @@ pub record Fits (p : Progress) : Type 0 where
 
 module _ (m : Bench) (p : Progress) where
   progress-again : Fits p → progressRight p ≡ true → progressOf (checkOf m p) ≡ p
-  unfolding progressRight countsRight
+  unfolding progressRight countWordsRight
   progress-again f t =
       let s = both t in
       let k = both (s .1) in
@@ -137,7 +137,7 @@ module _ (m : Bench) (p : Progress) where
       )
 
   progress-right : progressOf (checkOf m p) ≡ p → progressRight p ≡ true
-  unfolding progressRight countsRight
+  unfolding progressRight countWordsRight
   progress-right e =
       let s : withinOf stages (p .stage) ≡ true = rw (← ap (λ (q : Progress). q .stage) e) (stage-right (stageOf (countOf (p .stage)))) in
       joined s

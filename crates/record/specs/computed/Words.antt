@@ -14,7 +14,7 @@ use Rattle.bench.specs.declared.Bench.{Bench}
 use Rattle.machine.specs.declared.Machine.{Machine}
 use Rattle.machine.specs.computed.Machine.{soundOf}
 use Rattle.encoding.specs.Words.{countOf, at}
-use Rattle.encoding.specs.computed.Words.{workTold, headIn, workWordsIn, sameWords}
+use Rattle.encoding.specs.computed.Words.{workRead, headIn, workWordsIn, sameWords}
 use Rattle.encoding.specs.computed.Words.{benchOf as benchOf}
 use Rattle.record.specs.declared.read.Figures.{Figures}
 use Rattle.record.specs.declared.read.BlockWords.{BlockWords}
@@ -22,15 +22,15 @@ use Rattle.record.specs.Words.{blockWords, encodeOf}
 
 -- ---- and back: what the words tell, whatever they are
 
-abbrev pub pathTold : BlockWords → Path
-pathTold b =
+abbrev pub pathRead : BlockWords → Path
+pathRead b =
     cond (eqb (countOf (b .kind)) 2) (Path.Arc Turn.Clockwise (record { x = b .i; y = b .j }))
     (cond (eqb (countOf (b .kind)) 3) (Path.Arc Turn.Counterclockwise (record { x = b .i; y = b .j })) Path.Line)
 
 unfoldable pub waitingOf : BlockWords → Waiting
 waitingOf b =
     record {
-      block = record { path = pathTold b; end = record { x = b .x; y = b .y }; feed = countOf (b .feed) };
+      block = record { path = pathRead b; end = record { x = b .x; y = b .y }; feed = countOf (b .feed) };
       root = countOf (b .root);
     }
 
@@ -60,7 +60,7 @@ abbrev pub lenIn : List ℤ → ℕ
 lenIn ws = countOf (at ws 21)
 
 unfoldable pub benchIn : List ℤ → Bench
-benchIn ws = benchOf (headIn ws) (workTold (workWordsIn ws))
+benchIn ws = benchOf (headIn ws) (workRead (workWordsIn ws))
 
 unfoldable pub machineIn : List ℤ → Machine
 machineIn ws = record { bench = benchIn ws; root = countOf (at ws 19); left = countOf (at ws 20); queue = queueIn ws (lenIn ws) }

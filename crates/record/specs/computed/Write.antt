@@ -85,10 +85,10 @@ broughtOf ws p (suc n) =
     shifted (set (set (setWork ws (workWordsOf (begunOf p (w .block) .work))) 19 (wordOf (w .root))) 21 (wordOf n)) n
 
 -- what ticks change: a line or an arc keeps its numbers but the cycles done
-abbrev pub ticked : List ℤ → Point → (remainder left : ℕ) → Work → List ℤ
-ticked ws p r left Work.Nothing = let now = set (setPlace ws p r) 20 (wordOf left) in broughtOf now p (lenIn now)
-ticked ws p r left (Work.Line l) = set (set (setPlace ws p r) 20 (wordOf left)) 18 (wordOf (l .done))
-ticked ws p r left (Work.Arc a) = set (setPlace ws p r) 20 (wordOf left)
+abbrev pub tickedWords : List ℤ → Point → (remainder left : ℕ) → Work → List ℤ
+tickedWords ws p r left Work.Nothing = let now = set (setPlace ws p r) 20 (wordOf left) in broughtOf now p (lenIn now)
+tickedWords ws p r left (Work.Line l) = set (set (setPlace ws p r) 20 (wordOf left)) 18 (wordOf (l .done))
+tickedWords ws p r left (Work.Arc a) = set (setPlace ws p r) 20 (wordOf left)
 
 -- ---- the records after a load: the block comes into work, or it waits
 

@@ -24,14 +24,14 @@ use Rattle.queue.specs.laws.Test.{soundWith, too-long, tested, off-right, off-l
 use Rattle.encoding.specs.declared.encode.Head.{Head}
 use Rattle.encoding.specs.declared.encode.WorkWords.{WorkWords}
 use Rattle.encoding.specs.Words.{abi, at, wordOf, countOf, headOf, workWordsOf}
-use Rattle.encoding.specs.computed.Words.{headIn, workWordsIn, workTold}
+use Rattle.encoding.specs.computed.Words.{headIn, workWordsIn, workRead}
 use Rattle.encoding.specs.laws.Same.{same-true, same-words}
 use Rattle.encoding.specs.laws.Right.{count-again, count-right, zero-right, head-again, head-right, WorkFits, work-again, work-right}
 use Rattle.encoding.specs.laws.Right.{wordsAt}
 use Rattle.record.specs.declared.read.BlockWords.{BlockWords}
 use Rattle.record.specs.Words.{figuresOf, frontOf, blockWords, blockWordsAlong, blockWordsOf, sevenOf, queueWords, encodeOf}
 use Rattle.record.specs.Words.{over}
-use Rattle.record.specs.computed.Words.{waitingOf, pathTold, blockWordsIn, waitingIn, placesIn, queueIn, figuresIn, lenIn, benchIn}
+use Rattle.record.specs.computed.Words.{waitingOf, pathRead, blockWordsIn, waitingIn, placesIn, queueIn, figuresIn, lenIn, benchIn}
 use Rattle.record.specs.computed.Words.{machineIn}
 use Rattle.record.specs.computed.Words.{isRecord}
 use Rattle.record.specs.computed.Right.{figuresRight, isFront, frontRight, blockRowRight, kindRight, blockRight, areBlocks, rowRight}
@@ -68,7 +68,7 @@ module _ (ws : List ℤ) where
       let c = both (b .1) in
       let d = both (c .1) in
       let e = both (d .1) in
-      let h = head-again (headIn ws) (workTold (workWordsIn ws)) (f .p) (f .w) (f .remainder) (b .0) in
+      let h = head-again (headIn ws) (workRead (workWordsIn ws)) (f .p) (f .w) (f .remainder) (b .0) in
       let w = work-again (workWordsIn ws) (f .work) (c .0) in
       let root = count-again (at ws 19) (f .root) (d .0) in
       let left = count-again (at ws 20) (f .left) (e .0) in
@@ -88,7 +88,7 @@ module _ (ws : List ℤ) where
   front-right rest rest′ e =
       let first : equalZ (at ws 0) abi ≡ true = rw (ap (λ (l : List ℤ). at l 0) e) in
       joined first
-      (joined (head-right (headIn ws) (workTold (workWordsIn ws)) (sym (ap headIn e)))
+      (joined (head-right (headIn ws) (workRead (workWordsIn ws)) (sym (ap headIn e)))
       (joined (work-right (workWordsIn ws) (sym (ap workWordsIn e)))
       (joined (count-right (at ws 19) (sym (ap (λ (l : List ℤ). at l 19) e)))
       (joined (count-right (at ws 20) (sym (ap (λ (l : List ℤ). at l 20) e)))
@@ -133,8 +133,8 @@ module _ (b : BlockWords) where
   block-right : own ≡ b → blockRight b ≡ true
   unfolding blockRight waitingOf
   block-right e =
-      joined (count-right (b .feed) (feed (pathTold b) ∙ ap (λ (v : BlockWords). v .feed) e))
-      (joined (count-right (b .root) (root (pathTold b) ∙ ap (λ (v : BlockWords). v .root) e))
+      joined (count-right (b .feed) (feed (pathRead b) ∙ ap (λ (v : BlockWords). v .feed) e))
+      (joined (count-right (b .root) (root (pathRead b) ∙ ap (λ (v : BlockWords). v .root) e))
       (by (eqb (countOf (b .kind)) 2) (eqb (countOf (b .kind)) 3) e))
     where
       feed : (p : Path) → wordOf (countOf (b .feed)) ≡ blockWordsAlong (waitingOf b) p .feed

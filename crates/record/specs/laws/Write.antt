@@ -34,7 +34,8 @@ use Rattle.encoding.specs.Words.{abi, wordOf, markWord, headOf, workWordsOf}
 use Rattle.record.specs.Words.{figuresOf, frontOf, queueWords, encodeOf, over}
 use Rattle.record.specs.computed.Words.{waitingIn, placesIn, queueIn, lenIn, benchIn}
 use Rattle.record.specs.computed.Words.{machineIn, isRecord, soundWords}
-use Rattle.record.specs.computed.Write.{Bringing, SameWork, Later, setPlace, setWork, shifted, emptied, broughtOf, ticked, idleOf}
+use Rattle.record.specs.computed.Write.{Bringing, SameWork, Later, setPlace, setWork, shifted, emptied, broughtOf, tickedWords}
+use Rattle.record.specs.computed.Write.{idleOf}
 use Rattle.encoding.specs.laws.Record.{count-word}
 use Rattle.record.specs.laws.Places.{queue-length}
 use Rattle.record.specs.laws.Record.{record-words}
@@ -103,7 +104,7 @@ first-in ws len some = by (min len 16) (omega arith)
 -- the words before a block comes into work, or those of one that goes on
 module _ (k : Bench) (root left len : ℕ) (rest : List ℤ) (p : Point) (r next : ℕ) where
   gone-on : (v w : Work) → k .work ≡ v → SameWork v w → isNothing w ≡ false
-      → ticked (whole k root left len rest) p r next w ≡ whole (movedOf k p r w) root next len rest
+      → tickedWords (whole k root left len rest) p r next w ≡ whole (movedOf k p r w) root next len rest
   unfolding movedOf
   gone-on v Work.Nothing e f busy = absurd (subst T busy tt)
   gone-on Work.Nothing (Work.Line l) e f busy = absurd f
@@ -123,10 +124,10 @@ module _ (ws : List ℤ) (k : Bench) (left : ℕ) (i : Later ws k left) where
   are : ws ≡ whole (machineIn ws .bench) (machineIn ws .root) (machineIn ws .left) (q .len) (behind ws (i .sound))
   are = words-are ws (i .sound)
 
-  busy-words : isNothing (k .work) ≡ false → ticked ws (k .at) (k .remainder) left (k .work) ≡ over (encodeOf (nextOf k q)) ws
+  busy-words : isNothing (k .work) ≡ false → tickedWords ws (k .at) (k .remainder) left (k .work) ≡ over (encodeOf (nextOf k q)) ws
   unfolding encodeOf machineIn
   busy-words busy =
-      ap (λ (l : List ℤ). ticked l (k .at) (k .remainder) left (k .work)) are
+      ap (λ (l : List ℤ). tickedWords l (k .at) (k .remainder) left (k .work)) are
       ∙ gone-on (benchIn ws) (machineIn ws .root) (machineIn ws .left) (q .len) (behind ws (i .sound)) (k .at) (k .remainder) left
       (benchIn ws .work) (k .work) refl (i .follows) busy
       ∙ ap (λ (b : Bench). after (machineIn ws .root) left b q) (sym (i .same))
@@ -134,11 +135,11 @@ module _ (ws : List ℤ) (k : Bench) (left : ℕ) (i : Later ws k left) where
 
   pub line-words : (l : Line) → k .work ≡ Work.Line l
       → set (set (setPlace ws (k .at) (k .remainder)) 20 (wordOf left)) 18 (wordOf (l .done)) ≡ over (encodeOf (nextOf k q)) ws
-  line-words l e = ap (ticked ws (k .at) (k .remainder) left) (sym e) ∙ busy-words (ap isNothing e)
+  line-words l e = ap (tickedWords ws (k .at) (k .remainder) left) (sym e) ∙ busy-words (ap isNothing e)
 
   pub arc-words : (a : Arc) → k .work ≡ Work.Arc a → set (setPlace ws (k .at) (k .remainder)) 20 (wordOf left) ≡ over
       (encodeOf (nextOf k q)) ws
-  arc-words a e = ap (ticked ws (k .at) (k .remainder) left) (sym e) ∙ busy-words (ap isNothing e)
+  arc-words a e = ap (tickedWords ws (k .at) (k .remainder) left) (sym e) ∙ busy-words (ap isNothing e)
 
   -- ---- nothing is in work any more
 

@@ -15,7 +15,7 @@ use Rattle.letters.specs.laws.Letter.{letter-of}
 use Rattle.letters.specs.laws.Put.{at-by}
 use Rattle.words.specs.declared.line.Line.{Line}
 use Rattle.words.specs.Grammar.{Item, blank, word, RightLine, LineOfWords}
-use Rattle.words.specs.Meaning.{magnitudeOf, isMinus, Value, missing, one, twice, andThen, says, wordSaying, notWords, Means}
+use Rattle.words.specs.Meaning.{magnitudeOf, isMinus, Value, missing, one, twice, withRest, says, wordSaying, notWords, Means}
 use Rattle.words.specs.computed.Scan.{scanLine, firstLine}
 use Rattle.words.specs.computed.Meaning.{meaningBy, meaningOf}
 use Rattle.words.specs.laws.Digits.{magnitude-below}
@@ -52,13 +52,13 @@ Below b missing = Unit
 Below b (one n m) = m < b
 Below b twice = Unit
 
-then-below : (b : ℕ) (n : Bool) (m : ℕ) (v : Value) → m < b → Below b (andThen n m v)
+then-below : (b : ℕ) (n : Bool) (m : ℕ) (v : Value) → m < b → Below b (withRest n m v)
 then-below b n m missing h = h
 then-below b n m (one k j) h = tt
 then-below b n m twice h = tt
 
 word-below : (found : Bool) (b : ℕ) (n : Bool) (m : ℕ) (v : Value) → (found ≡ true → m < b) → Below b v
-    → Below b (cond found (andThen n m v) v)
+    → Below b (cond found (withRest n m v) v)
 word-below true b n m v h g = then-below b n m v (h refl)
 word-below false b n m v h g = g
 

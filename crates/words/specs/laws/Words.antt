@@ -9,7 +9,7 @@ use Rattle.letters.specs.declared.word.Words.{Words}
 use Rattle.words.specs.Grammar.{Item, blank, word}
 use Rattle.letters.specs.Letter.{same}
 use Rattle.letters.specs.Word.{missingWord, oneWord, twiceWord, wordAt, wordsBy}
-use Rattle.words.specs.Meaning.{isMinus, magnitudeOf, Value, missing, one, twice, andThen, says, wordSaying}
+use Rattle.words.specs.Meaning.{isMinus, magnitudeOf, Value, missing, one, twice, withRest, says, wordSaying}
 use Rattle.letters.specs.laws.Scan.{noWords, moreOf, putOf}
 use Rattle.letters.specs.laws.Put.{at-by, words-same}
 
@@ -31,13 +31,13 @@ join-more : (stands n k : Bool) (m j : ℕ) → cond (cond stands twiceWord (one
 join-more true n k m j = refl
 join-more false n k m j = refl
 
-join-then : (w : Word) (n : Bool) (m : ℕ) (v : Value) → join (moreOf w (oneWord n m)) v ≡ join w (andThen n m v)
+join-then : (w : Word) (n : Bool) (m : ℕ) (v : Value) → join (moreOf w (oneWord n m)) v ≡ join w (withRest n m v)
 join-then w n m missing = refl
 join-then w n m (one k j) = join-more (w .stands) n k m j
 join-then w n m twice = refl
 
 join-put : (found : Bool) (w : Word) (n : Bool) (m : ℕ) (v : Value)
-    → join (cond found (moreOf w (oneWord n m)) w) v ≡ join w (cond found (andThen n m v) v)
+    → join (cond found (moreOf w (oneWord n m)) w) v ≡ join w (cond found (withRest n m v) v)
 join-put true w n m v = join-then w n m v
 join-put false w n m v = refl
 

@@ -13,8 +13,8 @@ returns : tie.Need-returns
 unfolding soundWords
 returns c = rw (sym (c .before .is-record .ensures) ∙ not-true _ (c .if1 .taken))
 
-bench-told-requires : tie.Need-bench-told-requires
-bench-told-requires c κs = search needs
+bench-read-requires : tie.Need-bench-read-requires
+bench-read-requires c κs = search needs
 
 sound-requires : tie.Need-sound-requires
 sound-requires c κs = search needs
@@ -24,8 +24,8 @@ unfolding soundWords
 returns-2 c =
     let m = c .before .before .before in
     let e = m .before in
-    c .sound .ensures ∙ rw (m .bench-told .ensures, sym (e .before .is-record .ensures) ∙ not-false _ (e .if1 .left))
+    c .sound .ensures ∙ rw (m .bench-read .ensures, sym (e .before .is-record .ensures) ∙ not-false _ (e .if1 .left))
 
 pub is-sound-spec : {M : Type 1} → statement M
 is-sound-spec =
-    tie.close (tie.spec is-record-requires returns bench-told-requires sound-requires returns-2)
+    tie.close (tie.spec is-record-requires returns bench-read-requires sound-requires returns-2)

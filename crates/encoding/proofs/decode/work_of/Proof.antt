@@ -6,7 +6,7 @@ use mir.Syntax.{w64}
 use mir.Val.{SFits}
 use mir.Facts.{toZ-ofZ}
 use Rattle.encoding.specs.Words.{countOf}
-use Rattle.encoding.specs.computed.Words.{workTold}
+use Rattle.encoding.specs.computed.Words.{workRead}
 use Rattle.encoding.proofs.decode.work_of.Statement.{statement}
 use Rattle.encoding.proofs.decode.work_of.Tie as tie
 
@@ -21,14 +21,14 @@ line-of-requires : tie.Need-line-of-requires
 line-of-requires c κs = search needs
 
 returns : tie.Need-returns
-unfolding workTold
+unfolding workRead
 returns c = rw (kind-is (c .before .before), eq-eqb _ _ (c .before .if1 .taken), c .line-of .ensures)
 
 arc-of-requires : tie.Need-arc-of-requires
 arc-of-requires c κs = search needs
 
 returns-2 : tie.Need-returns-2
-unfolding workTold
+unfolding workRead
 returns-2 c =
     let e = c .before .before in
     rw (kind-is (e .before), ne-eqb _ _ (e .if1 .left), eq-eqb _ _ (c .before .if2 .taken), c .arc-of .ensures)
@@ -37,7 +37,7 @@ arc-of-requires-2 : tie.Need-arc-of-requires-2
 arc-of-requires-2 c κs = search needs
 
 returns-3 : tie.Need-returns-3
-unfolding workTold
+unfolding workRead
 returns-3 c =
     let e = c .before .before .before in
     rw (
@@ -49,7 +49,7 @@ returns-3 c =
     )
 
 returns-4 : tie.Need-returns-4
-unfolding workTold
+unfolding workRead
 returns-4 c =
     let e = c .before .before in
     rw (kind-is (e .before), ne-eqb _ _ (e .if1 .left), ne-eqb _ _ (c .before .if2 .left), ne-eqb _ _ (c .if3 .left))

@@ -7,45 +7,53 @@ use mir.Val.{SFits}
 use mir.Facts.{toZ-ofZ}
 use lib.IntN.{pos}
 use Rattle.whole.specs.Equal.{equalZ}
+use Rattle.encoding.specs.declared.encode.WorkWords.{WorkWords}
 use Rattle.encoding.proofs.right.nothing_right.Statement.{statement}
 use Rattle.encoding.proofs.right.nothing_right.Tie as tie
 
+-- the words that were lent, seen from after each call
+abbrev words1 : tie.After-equal → WorkWords
+words1 c = c .before .before .args .w
+
+abbrev words2 : tie.After-equal2 → WorkWords
+words2 c = words1 (c .before .before .before)
+
+abbrev words3 : tie.After-equal3 → WorkWords
+words3 c = words2 (c .before .before .before)
+
+abbrev words4 : tie.After-equal4 → WorkWords
+words4 c = words3 (c .before .before .before)
+
+abbrev words5 : tie.After-equal5 → WorkWords
+words5 c = words4 (c .before .before .before)
+
+abbrev words6 : tie.After-equal6 → WorkWords
+words6 c = words5 (c .before .before .before)
+
+abbrev words7 : tie.After-equal7 → WorkWords
+words7 c = words6 (c .before .before .before)
+
 -- what each call says, over the word itself
-a-is : (c : tie.After-equal) → c .equal .result ≡ equalZ (c .before .before .args .w .a) (pos 0)
-a-is c = let f : SFits w64 (c .before .before .args .w .a) = search needs in simp toZ-ofZ at (c .equal .ensures)
+a-is : (c : tie.After-equal) → c .equal .result ≡ equalZ (words1 c .a) (pos 0)
+a-is c = let f : SFits w64 (words1 c .a) = search needs in simp toZ-ofZ at (c .equal .ensures)
 
-b-is : (c : tie.After-equal2) → c .equal2 .result ≡ equalZ (c .before .before .before .before .before .args .w .b) (pos 0)
-b-is c = let f : SFits w64 (c .before .before .before .before .before .args .w .b) = search needs in simp toZ-ofZ at (c .equal2 .ensures)
+b-is : (c : tie.After-equal2) → c .equal2 .result ≡ equalZ (words2 c .b) (pos 0)
+b-is c = let f : SFits w64 (words2 c .b) = search needs in simp toZ-ofZ at (c .equal2 .ensures)
 
-c-is : (c : tie.After-equal3)
-    → c .equal3 .result ≡ equalZ (c .before .before .before .before .before .before .before .before .args .w .c) (pos 0)
-c-is c = let f : SFits w64 (c .before .before .before .before .before .before .before .before .args .w .c) = search needs in
-    simp toZ-ofZ at (c .equal3 .ensures)
+c-is : (c : tie.After-equal3) → c .equal3 .result ≡ equalZ (words3 c .c) (pos 0)
+c-is c = let f : SFits w64 (words3 c .c) = search needs in simp toZ-ofZ at (c .equal3 .ensures)
 
-d-is : (c : tie.After-equal4)
-    → c .equal4 .result ≡ equalZ (c .before .before .before .before .before .before .before .before .before .before .before .args .w .d)
-    (pos 0)
-d-is c = let f : SFits w64 (c .before .before .before .before .before .before .before .before .before .before .before .args .w .d) =
-    search needs in simp toZ-ofZ at (c .equal4 .ensures)
+d-is : (c : tie.After-equal4) → c .equal4 .result ≡ equalZ (words4 c .d) (pos 0)
+d-is c = let f : SFits w64 (words4 c .d) = search needs in simp toZ-ofZ at (c .equal4 .ensures)
 
-e-is : (c : tie.After-equal5)
-    → c .equal5 .result ≡ equalZ
-    (c .before .before .before .before .before .before .before .before .before .before .before .before .before .before .args .w .e) (pos 0)
-e-is c = let f : SFits w64
-    (c .before .before .before .before .before .before .before .before .before .before .before .before .before .before .args .w .e) =
-    search needs in simp toZ-ofZ at (c .equal5 .ensures)
+e-is : (c : tie.After-equal5) → c .equal5 .result ≡ equalZ (words5 c .e) (pos 0)
+e-is c = let f : SFits w64 (words5 c .e) = search needs in simp toZ-ofZ at (c .equal5 .ensures)
 
-f-is : (c : tie.After-equal6)
-    → c .equal6 .result ≡ equalZ
-    (c .before .before .before .before .before .before .before .before .before .before .before .before .before .before .before .before .before .args .w .f) (pos 0)
-f-is c = let f : SFits w64
-    (c .before .before .before .before .before .before .before .before .before .before .before .before .before .before .before .before .before .args .w .f) = search needs in simp toZ-ofZ at (c .equal6 .ensures)
+f-is : (c : tie.After-equal6) → c .equal6 .result ≡ equalZ (words6 c .f) (pos 0)
+f-is c = let f : SFits w64 (words6 c .f) = search needs in simp toZ-ofZ at (c .equal6 .ensures)
 
-g-is : (c : tie.After-equal7)
-    → c .equal7 .result ≡ equalZ
-    (c .before .before .before .before .before .before .before .before .before .before .before .before .before .before .before .before .before .before .before .before .args .w .g) (pos 0)
-g-is c = let f : SFits w64
-    (c .before .before .before .before .before .before .before .before .before .before .before .before .before .before .before .before .before .before .before .before .args .w .g) = search needs in simp toZ-ofZ at (c .equal7 .ensures)
+g-is : (c : tie.After-equal7) → c .equal7 .result ≡ equalZ (words7 c .g) (pos 0)
+g-is c = let f : SFits w64 (words7 c .g) = search needs in simp toZ-ofZ at (c .equal7 .ensures)
 
 equal-requires : tie.Need-equal-requires
 equal-requires c κs = search needs
@@ -158,4 +166,6 @@ returns-7 c =
 
 pub nothing-right-spec : {M : Type 1} → statement M
 nothing-right-spec =
-    tie.close (tie.spec equal-requires returns equal-requires-2 returns-2 equal-requires-3 returns-3 equal-requires-4 returns-4 equal-requires-5 returns-5 equal-requires-6 returns-6 equal-requires-7 returns-7)
+    tie.close
+    (tie.spec equal-requires returns equal-requires-2 returns-2 equal-requires-3 returns-3 equal-requires-4 returns-4 equal-requires-5
+    returns-5 equal-requires-6 returns-6 equal-requires-7 returns-7)

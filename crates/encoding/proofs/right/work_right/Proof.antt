@@ -105,4 +105,5 @@ returns-5 c =
 
 pub work-right-spec : {M : Type 1} → statement M
 work-right-spec = tie.close
-    (tie.spec equal-requires nothing-right-requires returns equal-requires-2 line-right-requires returns-2 equal-requires-3 arc-right-requires returns-3 equal-requires-4 arc-right-requires-2 returns-4 returns-5)
+    (tie.spec equal-requires nothing-right-requires returns equal-requires-2 line-right-requires returns-2 equal-requires-3
+    arc-right-requires returns-3 equal-requires-4 arc-right-requires-2 returns-4 returns-5)

@@ -23,45 +23,44 @@ use Rattle.tally.specs.laws.Read.{written, goes-on}
 has-room : (c : tie.After-finish) → Room (c .before .before .args .self) (c .finish .result .cycles) (c .finish .result .ticks)
 has-room c = rw (c .finish .ensures) (room _ _ _ (c .before .before .pre .0) (cycles-most _) (ticks-most _))
 
+-- from after the row's writing: the block's finish, and the start
+abbrev finished : tie.After-block → tie.After-finish
+finished c = c .before .before .before .before .before .before .before .before .before
+
+abbrev start : tie.After-block → tie.Start
+start c = finished c .before .before
+
 -- the row, with the end's numbers as the code holds them
 abbrev line : tie.After-block → List ℕ
 line c =
-    let s = c .before .before .before .before .before .before .before .before .before .before .before .args in
-    let f = c .before .before .before .before .before .before .before .before .before .finish .result in
+    let s = start c .args in
+    let f = finished c .finish .result in
     blockLine (s .self .blocks + 1) (s .self .lines + 1) (c .before .before .before .kind-of .result) (f .cycles) (f .bench .at .x)
     (f .bench .at .y) (s .bits)
 
 line-short : (c : tie.After-block) → length (line c) ≤ lineRoom
 line-short c =
-    let s = c .before .before .before .before .before .before .before .before .before .before .before .args in
-    let f = c .before .before .before .before .before .before .before .before .before .finish .result in
+    let s = start c .args in
+    let f = finished c .finish .result in
     block-short (s .self .blocks + 1) (s .self .lines + 1) (c .before .before .before .kind-of .result) (f .cycles) (f .bench .at .x)
     (f .bench .at .y) (s .bits)
-    (omega (arith, has-room (c .before .before .before .before .before .before .before .before .before) .blocks))
-    (omega (arith, has-room (c .before .before .before .before .before .before .before .before .before) .lines))
-    (omega (arith, has-room (c .before .before .before .before .before .before .before .before .before) .cycles)) (search needs)
+    (omega (arith, has-room (finished c) .blocks))
+    (omega (arith, has-room (finished c) .lines))
+    (omega (arith, has-room (finished c) .cycles)) (search needs)
     (search needs) (search needs)
 
 buffer-is : (c : tie.After-block)
-    → c .block .last .0 ≡ bufferAfter (line c)
-    (c .before .before .before .before .before .before .before .before .before .before .before .args .out .now)
-    (c .before .before .before .before .before .before .before .before .before .before .before .args .at)
+    → c .block .last .0 ≡ bufferAfter (line c) (start c .args .out .now) (start c .args .at)
 buffer-is c =
-    let x : SFits w64 (c .before .before .before .before .before .before .before .before .before .finish .result .bench .at .x) =
-    search needs in
-    let y : SFits w64 (c .before .before .before .before .before .before .before .before .before .finish .result .bench .at .y) =
-    search needs in
+    let x : SFits w64 (finished c .finish .result .bench .at .x) = search needs in
+    let y : SFits w64 (finished c .finish .result .bench .at .y) = search needs in
     simp toZ-ofZ at (c .block .ensures .0)
 
 place-is : (c : tie.After-block)
-    → c .block .result ≡ placeAfter (line c)
-    (c .before .before .before .before .before .before .before .before .before .before .before .args .out .now)
-    (c .before .before .before .before .before .before .before .before .before .before .before .args .at)
+    → c .block .result ≡ placeAfter (line c) (start c .args .out .now) (start c .args .at)
 place-is c =
-    let x : SFits w64 (c .before .before .before .before .before .before .before .before .before .finish .result .bench .at .x) =
-    search needs in
-    let y : SFits w64 (c .before .before .before .before .before .before .before .before .before .finish .result .bench .at .y) =
-    search needs in
+    let x : SFits w64 (finished c .finish .result .bench .at .x) = search needs in
+    let y : SFits w64 (finished c .finish .result .bench .at .y) = search needs in
     simp toZ-ofZ at (c .block .ensures .1)
 
 finish-requires : tie.Need-finish-requires
@@ -80,16 +79,10 @@ block-requires : tie.Need-block-requires
 block-requires c κs = search needs
 
 add-t19 : tie.Need-add-t19
-add-t19 c = omega (
-  arith,
-  has-room (c .before .before .before .before .before .before .before .before .before .before .before .before .before) .cycles,
-)
+add-t19 c = omega (arith, has-room (finished (c .before .before .before .before)) .cycles)
 
 add-t20 : tie.Need-add-t20
-add-t20 c = omega (
-  arith,
-  has-room (c .before .before .before .before .before .before .before .before .before .before .before .before .before .before .before) .ticks,
-)
+add-t20 c = omega (arith, has-room (finished (c .before .before .before .before .before .before)) .ticks)
 
 next-place-requires : tie.Need-next-place-requires
 next-place-requires c κs = search needs
@@ -101,15 +94,15 @@ returns : tie.Need-returns
 unfolding blockListed
 returns c =
     let b = c .before .before .before .before .before .before .before in
-    let s = c .before .before .before .before .before .before .before .before .before .before .before .before .before .before .before .before .before .before in
+    let s = start b in
     let room = s .pre .1 in (
-      rw (← c .before .before .before .before .before .before .before .before .before .before .before .before .before .before .before .before .finish .ensures)
+      rw (← finished b .finish .ensures)
           (record {
-            short = rw (← c .before .before .before .before .before .before .before .before .before .before .kind-of .ensures)
+            short = rw (← b .before .before .before .kind-of .ensures)
                 (line-short b);
-            buffer = rw (← c .before .before .before .before .before .before .before .before .before .before .kind-of .ensures)
+            buffer = rw (← b .before .before .before .kind-of .ensures)
                 (buffer-is b ∙ written (line b) (s .args .out .now) (s .args .at) room);
-            next = rw (← c .before .before .before .before .before .before .before .before .before .before .kind-of .ensures)
+            next = rw (← b .before .before .before .kind-of .ensures)
                 (c .next-place .ensures ∙ goes-on (line b) (s .args .out .now) (s .args .at) room (place-is b));
             over = refl;
             tally = refl;
