@@ -85,9 +85,10 @@ class File:
         return definition
 
     def sentence(self):
-        """The first sentence of its head comment."""
+        """The first sentence of its head comment, with what it quotes."""
         text = " ".join(self.lines[i].removeprefix("--").strip() for i in self.head)
-        return re.split(r"(?<=[.:]) (?=[A-Z`])", text)[0].rstrip(".:")
+        ends = (m.start() for m in re.finditer(r"\. |\.$|$", text) if text.count('"', 0, m.start()) % 2 == 0)
+        return text[: next(ends, len(text))]
 
 
 class Tree:
