@@ -1,4 +1,5 @@
-"""Definitions of .antt files: where each stands, and which others it mentions. Enough of the language for this repository's specs."""
+"""Definitions of .antt files: where each stands, and which others it mentions. Enough of the language for this repository's specs. Scopes
+are not followed: a variable or a field that has a definition's name counts as a mention of it."""
 import pathlib
 import re
 
@@ -14,7 +15,7 @@ class Definition:
         self.file, self.name, self.kind, self.comment, self.numbers = file, name, kind, comment, []
 
     def text(self):
-        return "\n".join(line for line in self.lines() if not line.lstrip().startswith("--"))
+        return "\n".join(re.sub(r"(^|\s)-- .*", "", line) for line in self.lines())
 
     def lines(self):
         return [self.file.lines[i] for i in self.comment + self.numbers]

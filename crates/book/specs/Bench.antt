@@ -48,7 +48,7 @@ endIn at (working j) = endAfter (j .start) (j .block)
 abbrev pub workEnd : Bench → Point
 workEnd b = endIn (b .at) (b .work)
 
--- the cycles that the block in work has resting to do
+-- the cycles that the block in work has still to do
 abbrev pub leftIn : InWork → ℕ
 leftIn nothing = 0
 leftIn (working j) = blockCycles (j .start) (j .block) - j .done

@@ -90,5 +90,6 @@ settingsOf p w xlo xhi ylo yhi =
           record { x = record { lower = xlo; upper = xhi }; y = record { lower = ylo; upper = yhi } };
     }
 
+-- word i; 0 where there is none
 abbrev pub at : List ℤ → ℕ → ℤ
 at ws i = getD ws i (pos 0)

@@ -121,7 +121,7 @@ fn is_record(words: [i64; 19]) -> bool
     words_right(words[0], head_in(words), work_words_in(words))
 }
 
-// The machine that words tell, whatever they are.
+// The bench that words tell, whatever they are.
 pub fn bench_read(words: [i64; 19]) -> Bench
     ensures { λ r. ⌜ r ≡ benchRead words ⌝ }
 {

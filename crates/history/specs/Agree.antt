@@ -1,4 +1,4 @@
--- The record that a book tells. A machine and its book say the same where the machine is this record.
+-- The work that a book tells: what a machine has in work where the book has this. The whole record is `recordOf` in `laws/Record.antt`.
 use Rattle.line.specs.Line.{lineCycles}
 use Rattle.block.specs.declared.Path.{Path}
 use Rattle.block.specs.Block.{arcOf}

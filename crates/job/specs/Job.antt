@@ -1,11 +1,8 @@
--- 01, Questions, "Job text": what a job is at a machine with these settings: its blocks, or where it is refused. It knows no machine: "Each
--- block is loaded once the one before has ended", so a line is read where the last block ends, with nothing in work.
+-- A job: its blocks, with the text lines that made them, and how it ends. `TextMeans` of crate demands says which job a text is.
 use mathlib.Core.List.{List}
 use Prim.Native.Nat.{ℕ}
 use Rattle.plane.specs.declared.point.Point.{Point}
 use Rattle.block.specs.declared.Block.{Block}
-
--- ---- the job
 
 -- a block of the job, the text line that made it, and the point where it starts
 pub record Made : Type 0 where

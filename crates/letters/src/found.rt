@@ -9,7 +9,7 @@ ghost use mathlib.Core.Bool.{cond};
 ghost use Prim.Native.Nat.{_^_};
 ghost use lib.Dec.{eqb};
 ghost use lib.ListN.{getD};
-ghost use Rattle.letters.specs.laws.Found.{indexOf, hasOf, nothingFound, addOf, magnitudeAfter, wordIn, wordsIn};
+ghost use Rattle.letters.specs.computed.Found.{indexOf, hasOf, nothingFound, addOf, magnitudeAfter, wordIn, wordsIn};
 
 // Sets of letters: the bit of a letter is 2 to the power of its index.
 pub struct Found {

@@ -1,8 +1,8 @@
 // The letters that words begin with.
 ghost use mathlib.Core.Path.{_≡_};
 ghost use Rattle.letters.specs.Letter.{takesSign, takesPoint};
-ghost use Rattle.letters.specs.laws.Scan.{letterOf};
-ghost use Rattle.letters.specs.laws.Found.{indexOf};
+ghost use Rattle.letters.specs.computed.Scan.{letterOf};
+ghost use Rattle.letters.specs.computed.Found.{indexOf};
 
 pub enum Letter {
     N,

@@ -1,7 +1,7 @@
 // What a line says of each letter.
 ghost use mathlib.Core.Path.{_≡_};
 ghost use Rattle.letters.specs.Word.{missingWord};
-ghost use Rattle.letters.specs.laws.Scan.{noWords};
+ghost use Rattle.letters.specs.computed.Scan.{noWords};
 
 // A letter's word. The magnitude is in thousandths for a letter that takes a point (below 10^10), else a plain number (below 10^7).
 // A letter that does not stand, or stands twice, has no value: plus 0.

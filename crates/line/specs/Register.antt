@@ -5,7 +5,7 @@ use lib.Dec.{leb}
 use Rattle.line.specs.declared.register.Clocked.{Clocked}
 
 -- Source 000: "The content of the y register is added to that of r ..", and on an overflow "an overflow pulse is applied by the integrator
--- at the output and the contents of r are reduced by q". Source 000 has r > q; 01 decides that reaching q counts.
+-- at the output .. and the contents of r are reduced by q". Source 000 has r > q; 01 decides that reaching q counts.
 abbrev pub clockOf : (q a r : ℕ) → Clocked
 clockOf q a r = cond (leb q (r + a)) (record { register = r + a - q; pulse = true }) (record { register = r + a; pulse = false })
 

@@ -39,10 +39,11 @@ nextOf k q = cond (isNothing (k .work)) (firstIn k q (q .len)) (machineOf k q)
 abbrev pub ticks : Tick → Machine → Ticked
 ticks t m = record { tick = t; machine = m }
 
+-- the bench's tick, and then the next block where one has ended
 abbrev pub goingOn : Machine → BenchTicked → Ticked
 goingOn m t = ticks (t .tick) (nextOf (t .bench) (m .queue))
 
--- ---- hold, release, stop
+-- ---- hold and release
 
 -- 01: "Hold and release only set a mark."
 abbrev pub markOf : Machine → Bool → Machine

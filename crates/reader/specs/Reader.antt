@@ -36,14 +36,17 @@ feedAfter f w = cond (w .stands) (Feed.Known (w .magnitude)) f
 abbrev pub readerAfter : Reader → Words → Reader
 readerAfter k ws = record { motion = motionAfter (k .motion) (ws .g); feed = feedAfter (k .feed) (ws .f) }
 
--- ---- the questions
+-- ---- what the questions ask about
 
+-- X or Y stands
 abbrev pub endStands : Words → Bool
 endStands ws = ws .x .stands || ws .y .stands
 
+-- I or J stands
 abbrev pub centreStands : Words → Bool
 centreStands ws = ws .i .stands || ws .j .stands
 
+-- "one of those four stands"
 abbrev pub moving : Words → Bool
 moving ws = endStands ws || centreStands ws
 
@@ -63,6 +66,7 @@ isArc (Motion.Arc turn) = true
 
 -- ---- the block
 
+-- a word is in thousandths of a millimetre; question 35 has asked that it falls on whole pulses
 abbrev pub inPulses : (p : ℕ) → Word → ℤ
 inPulses p w = signed (w .negative) (w .magnitude * p / 1000)
 
@@ -89,6 +93,7 @@ blockOf p k ws at =
       feed = feedNumber p (k .feed);
     }
 
+-- "a straight line to the point where it stands"; an arc to its start is a full turn
 abbrev pub goesNowhere : (end place : Point) → Path → Bool
 goesNowhere end place Path.Line = equalPoint end place
 goesNowhere end place (Path.Arc turn centre) = false

@@ -1,3 +1,4 @@
 pub mod Asked
 pub mod Reader
 pub mod TextLine
+pub mod Small

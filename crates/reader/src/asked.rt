@@ -8,8 +8,8 @@ ghost use Rattle.words.specs.computed.Scan.{firstLine};
 ghost use Rattle.reader.specs.computed.Asked.{asked, blockAsked, askedOf};
 ghost use Rattle.reader.specs.Reader.{goesNowhere};
 ghost use Rattle.reader.specs.declared.asked.ToLoad.the-variants.{Refused};
-ghost use Rattle.reader.specs.laws.Asked.{brokenNo};
-ghost use Rattle.reader.specs.laws.Small.{Writable};
+ghost use Rattle.reader.specs.computed.Asked.{brokenNo};
+ghost use Rattle.reader.specs.computed.Small.{Writable};
 use crate::LONGEST_LINE;
 use crate::Reader;
 use crate::command::block_of;
@@ -41,7 +41,7 @@ pub struct AskedFirst {
     pub bytes: usize,
 }
 
-fn stands_still(b: Block, place: Point) -> bool
+fn goes_nowhere(b: Block, place: Point) -> bool
     ensures { λ r. ⌜ r ≡ goesNowhere (b .end) place (b .path) ⌝ }
 {
     let end = b.end;
@@ -55,7 +55,7 @@ fn stands_still(b: Block, place: Point) -> bool
 fn block_asked(place: Point, b: Block) -> ToLoad
     ensures { λ r. ⌜ r ≡ blockAsked place b ⌝ }
 {
-    if stands_still(b, place) {
+    if goes_nowhere(b, place) {
         return ToLoad::Nothing;
     }
     ToLoad::Block(b)

@@ -3,7 +3,7 @@ ghost use mathlib.Core.Path.{_≡_};
 ghost use Prim.Native.Nat.{_<_, _^_, _≤_};
 ghost use Rattle.reader.specs.Reader.{motionOf, motionAfter, feedAfter, readerAfter, inPulses, coordinate, pathOf, feedNumber};
 ghost use Rattle.reader.specs.Reader.{blockOf};
-ghost use Rattle.reader.specs.laws.Small.{Small, SmallWords};
+ghost use Rattle.reader.specs.computed.Small.{Small, SmallWords};
 use crate::Feed;
 use crate::Motion;
 use crate::Reader;
@@ -65,7 +65,7 @@ pub fn reader_after(k: Reader, ws: Words) -> Reader
     }
 }
 
-fn pulses(scale: u64, w: Word) -> i64
+fn in_pulses(scale: u64, w: Word) -> i64
     requires { ⌜ Small scale w ⌝ }
     ensures { λ r. ⌜ r ≡ inPulses scale w ⌝ }
 {
@@ -80,7 +80,7 @@ fn coordinate_of(scale: u64, w: Word, here: i64) -> i64
     ensures { λ r. ⌜ r ≡ coordinate scale w here ⌝ }
 {
     if w.stands {
-        return pulses(scale, w);
+        return in_pulses(scale, w);
     }
     here
 }
@@ -98,8 +98,8 @@ fn path_of(scale: u64, m: Motion, ws: Words) -> Path
             Path::Arc(
                 turn,
                 Offset {
-                    x: pulses(scale, i),
-                    y: pulses(scale, j),
+                    x: in_pulses(scale, i),
+                    y: in_pulses(scale, j),
                 },
             )
         }

@@ -2,7 +2,7 @@
 ghost use mathlib.Core.Path.{_≡_};
 ghost use Rattle.reader.specs.computed.Reader.{motionRight, onPulse, allOnPulse, allKnown, centreRight, lineNo};
 ghost use Rattle.reader.specs.Reader.{endStands, centreStands, moving, motionKnown, feedKnown, isArc};
-ghost use Rattle.reader.specs.laws.Small.{Small, SmallWords};
+ghost use Rattle.reader.specs.computed.Small.{Small, SmallWords};
 use crate::Feed;
 use crate::LONGEST_LINE;
 use crate::Motion;
@@ -56,7 +56,7 @@ fn all_on_pulse(scale: u64, ws: Words) -> bool
     on_pulse(scale, j)
 }
 
-fn is_placed(ws: Words) -> bool
+fn end_stands(ws: Words) -> bool
     ensures { λ r. ⌜ r ≡ endStands ws ⌝ }
 {
     let x = ws.x;
@@ -64,7 +64,7 @@ fn is_placed(ws: Words) -> bool
     x.stands || y.stands
 }
 
-fn is_centred(ws: Words) -> bool
+fn centre_stands(ws: Words) -> bool
     ensures { λ r. ⌜ r ≡ centreStands ws ⌝ }
 {
     let i = ws.i;
@@ -75,10 +75,10 @@ fn is_centred(ws: Words) -> bool
 pub fn moves(ws: Words) -> bool
     ensures { λ r. ⌜ r ≡ moving ws ⌝ }
 {
-    if is_placed(ws) {
+    if end_stands(ws) {
         return true;
     }
-    is_centred(ws)
+    centre_stands(ws)
 }
 
 fn motion_known(m: Motion) -> bool
@@ -128,12 +128,12 @@ fn centre_right(m: Motion, ws: Words) -> bool
     ensures { λ r. ⌜ r ≡ centreRight m ws ⌝ }
 {
     if is_arc(m) {
-        if is_placed(ws) {
-            return is_centred(ws);
+        if end_stands(ws) {
+            return centre_stands(ws);
         }
         return true;
     }
-    !is_centred(ws)
+    !centre_stands(ws)
 }
 
 // k is the reader after the line.

@@ -14,8 +14,6 @@ use Rattle.encoding.specs.Words.{abi, wordOf, turnWord, workWordsOf, headOf}
 use Rattle.record.specs.declared.read.Figures.{Figures}
 use Rattle.record.specs.declared.read.BlockWords.{BlockWords}
 
--- ---- a machine as words
-
 abbrev pub blockWords : (kind x y feed i j root : ℤ) → BlockWords
 blockWords k x y f i j r = record { kind = k; x = x; y = y; feed = f; i = i; j = j; root = r }
 

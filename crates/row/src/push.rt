@@ -5,7 +5,7 @@ ghost use mathlib.Core.List.{_++_, _∷_, []};
 ghost use Prim.Native.Nat.{_+_, _≤_, _<_};
 ghost use lib.ListN.{length};
 ghost use Rattle.row.specs.Decimal.{decimal, signedDecimal};
-ghost use Rattle.row.specs.laws.Puts.{Puts};
+ghost use Rattle.row.specs.computed.Puts.{Puts};
 
 const MINUS: u8 = 45;
 

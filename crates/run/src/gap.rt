@@ -1,7 +1,7 @@
 // The gap to the next cycle.
 ghost use mathlib.Core.Path.{_≡_};
 ghost use Prim.Native.Nat.{_+_, _*_, _^_, _≤_, _<_};
-ghost use Rattle.work.specs.laws.Sound.{Feed};
+ghost use Rattle.work.specs.computed.Sound.{Feed};
 ghost use Rattle.circle.specs.computed.Charge.{moveCharge};
 ghost use Rattle.run.specs.computed.Gap.{gapOf, dividedOf, nextGap, remainderAt, ifLess, byMove, Before, ArcGap};
 use circle::step::Move;

@@ -4,7 +4,7 @@ ghost use mathlib.Core.Path.{_≡_};
 ghost use mathlib.Core.Bool.{true};
 ghost use Rattle.bench.specs.computed.Bench.{soundOf};
 ghost use Rattle.seek.specs.computed.Seek.{seekOf};
-ghost use Rattle.seek.specs.laws.Search.{Counted, Tested, searchFrom, passedOf, blockOf, refusedOf, searchAfter};
+ghost use Rattle.seek.specs.computed.Search.{Counted, Tested, searchFrom, passedOf, blockOf, refusedOf, searchAfter};
 use ahead::after_ticks;
 use bench::Bench;
 use finish::finish;

@@ -28,7 +28,7 @@ abbrev pub following : (ended : Bool) → Work → Work
 following true w = Work.Nothing
 following false w = w
 
--- ---- a working tick
+-- ---- its feed, what is left of it, and where it ends
 
 abbrev pub feedOf : Work → ℕ
 feedOf Work.Nothing = 0
@@ -71,6 +71,8 @@ workAlong start b (Path.Arc turn centre) = Work.Arc (arcOf start b turn centre)
 
 unfoldable pub begunOf : (start : Point) → Block → Begun
 begunOf start b = record { work = workAlong start b (b .path); width = blockWidth start b }
+
+-- ---- its root, which the record keeps: by it the cycles left are known without taking one
 
 -- q of a line, the cycles of a quarter turn of an arc: that of its block, `rootOf`
 abbrev pub rootIn : Work → ℕ

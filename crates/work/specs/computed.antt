@@ -1,3 +1,4 @@
 pub mod Work
 pub mod Rest
 pub mod Asked
+pub mod Sound

@@ -16,12 +16,12 @@ use Rattle.arc.specs.declared.arc.Stepped.{Stepped}
 use Rattle.arc.specs.Centre.{seenFrom, backFrom}
 
 -- the point that the arc visits c cycles after it was at `at`
--- Tied: `counts` of `AsDemanded`, `walk` of `EveryArc`.
+-- Tied: `counts` of `AsDemanded`; in question 16 `load` of `EveryAnswer`.
 unfoldable pub arcAfter : Arc → (at : Point) (c : ℕ) → Point
 arcAfter a at c = backFrom (a .centre) (afterOf (a .square) (a .turn) (seenFrom (a .centre) at) c)
 
 -- the cycles from there to its end; "Start equal to end is a full turn."
--- Tied: `counts` of `AsDemanded`, `cycles-left` of `EveryArc`.
+-- Tied: `counts` of `AsDemanded`, `cycles-left` of `EveryArc`, `waiting-cycles` of `EveryArc`.
 unfoldable pub arcCycles : Arc → (at : Point) → ℕ
 arcCycles a at = circleCycles (a .square) (a .turn) (seenFrom (a .centre) at) (seenFrom (a .centre) (a .end))
 

@@ -29,7 +29,7 @@ use Rattle.book.specs.laws.Settled.{settled-busy}
 abbrev pub jobTicksLeft : (q0 r : ℕ) → BlockInWork → ℕ
 jobTicksLeft q0 r j = endTick ((jobCharges j - jobPaid j) * q0) (addedBy (j .block)) r
 
--- a ticksDone of at most so many ticks does all that the block allows, and says whether it ended
+-- at most so many ticks are all that the block allows, and they say whether it ended
 pub record Counted (q0 most r : ℕ) (j : BlockInWork) (s : TicksDone) : Type 0 where
   pub ticks : length (s .bytes) ≡ min most (jobTicksLeft q0 r j)
   pub ended : s .ended ≡ leb (jobTicksLeft q0 r j) most
@@ -162,7 +162,7 @@ module _ (q0 : ℕ) (t : Travel) where
     abbrev left : ℕ
     left = jobTicksLeft q0 (b .bench .remainder) j
 
-    -- a ticksDone does every tick that it may, up to the end of the block
+    -- they are every tick that the run may do, up to the end of the block
     pub strip-counted : (most : ℕ) → Counted q0 most (b .bench .remainder) j (ticksDone q0 most (b .bench))
     strip-counted most =
         let k = b .bench in

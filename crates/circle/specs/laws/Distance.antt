@@ -13,7 +13,7 @@ use Rattle.circle.specs.Circle.{square, squares, excess, Circle, past, W
 use Rattle.circle.specs.laws.Octant.{Octant, Quadrant}
 use Rattle.circle.specs.laws.Circle.{from-<ℤ, to-<ℤ, square-parts, excess-parts, circle-quadrant}
 
--- ---- half a pulse: outside by f, 4 f = d + 1, and inside
+-- outside by f, 4 f = d + 1; and inside
 
 squared : {m n : ℕ} → m ≡ n → m * m ≡ n * n
 squared e = ap (λ (t : ℕ). t * t) e

@@ -16,7 +16,7 @@ use Rattle.encoding.specs.declared.encode.WorkWords.{WorkWords}
 use Rattle.encoding.specs.Words.{workWords, encodeOf, countOf}
 use Rattle.encoding.specs.Words.{settingsOf, at}
 
--- ---- and back: what the words tell, whatever they are
+-- ---- what the words tell, whatever they are
 
 abbrev pub lineRead : WorkWords → Line
 lineRead w =

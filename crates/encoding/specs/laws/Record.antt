@@ -1,4 +1,4 @@
--- Words and machines, exactly: words that are a record are those of their machine, and a sound machine's words are a record of it.
+-- Words and benches, exactly: words that are a record are those of their bench, and a sound bench's words are a record of it.
 use mathlib.Core.Path.{_≡_, refl, sym}
 use mathlib.Core.Bool.{Bool, true, false}
 use mathlib.Core.List.{List}
@@ -27,13 +27,13 @@ use Rattle.encoding.specs.computed.Words.{soundWords}
 use Rattle.encoding.specs.laws.Number.{word-small}
 use Rattle.encoding.specs.laws.Same.{same-true, same-self}
 
--- ---- from words to a machine and back
+-- ---- from words to a bench and back
 
 pub record-words : (ws : List ℤ) → isRecord ws ≡ true → encodeOf (benchRead ws) ≡ ws
 unfolding isRecord
 record-words ws t = sym (same-true ws (encodeOf (benchRead ws)) t)
 
--- ---- from a machine to words and back
+-- ---- from a bench to words and back
 
 -- the counts of what is in work are words
 pub record LineSmall (l : Line) : Type 0 where
@@ -104,7 +104,7 @@ record-of m e = rw (machine-back m e, same-self (encodeOf m))
 -- ---- words of a sound record
 
 module _ (ws : List ℤ) (t : soundWords ws ≡ true) where
-  -- they are those of the machine that they tell, which is sound
+  -- they are those of the bench that they tell, which is sound
   pub words-are : ws ≡ encodeOf (benchRead ws)
   unfolding soundWords
   words-are = sym (record-words ws (both {a = isRecord ws} t .0))
@@ -113,7 +113,7 @@ module _ (ws : List ℤ) (t : soundWords ws ≡ true) where
   unfolding soundWords
   told-sound = both {a = isRecord ws} t .1
 
--- the words of a sound machine
+-- the words of a sound bench
 pub sound-words : (m : Bench) → soundOf m ≡ true → soundWords (encodeOf m) ≡ true
 unfolding soundWords
 sound-words m e = rw (record-of m e, machine-back m e, e)

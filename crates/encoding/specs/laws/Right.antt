@@ -1,4 +1,4 @@
--- The code's tests pass exactly where the words are those of the machine that they tell.
+-- The code's tests pass exactly where the words are those of the bench that they tell.
 use mathlib.Core.Path.{_≡_, refl, sym, ap, _∙_}
 use mathlib.Core.Bool.{Bool, true, false, cond}
 use mathlib.Core.List.{List, [], _∷_}

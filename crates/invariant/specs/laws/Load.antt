@@ -21,7 +21,8 @@ use Rattle.block.specs.laws.Begin.{begins}
 use Rattle.work.specs.computed.Work.{workSound}
 use Rattle.work.specs.Work.{workAlong}
 use Rattle.work.specs.computed.Asked.{Loadable}
-use Rattle.work.specs.laws.Sound.{Feed, line-sound, arc-sound}
+use Rattle.work.specs.computed.Sound.{Feed}
+use Rattle.work.specs.laws.Sound.{line-sound, arc-sound}
 
 module _ {t : Travel} {q0 : ℕ} (start : Point) (b : Block) (wide : Wide t) (here : insideOf t start ≡ true) (feed : Feed q0 (b .feed))
     (end : insideOf t (b .end) ≡ true) where

@@ -1,4 +1,5 @@
--- 01, Questions, "Job text": what a text means, line by line, as it is computed.
+-- 01, Questions, "Job text": what a text means, line by line, as it is computed. It knows no machine: "Each block is loaded once the one
+-- before has ended", so a line is read where the last block ends, with nothing in work.
 use mathlib.Core.Bool.{true, cond}
 use mathlib.Core.List.{List, [], _∷_}
 use Prim.Native.Nat.{ℕ, zero, suc, _+_}

@@ -1,4 +1,4 @@
--- A digit more, the loop over the digits, and how large the number is.
+-- A digit more, the loop over the digits, and that the job begins within the text.
 use mathlib.Core.Path.{_≡_, sym, ap, subst, _∙_}
 use mathlib.Core.Bool.{Bool, true, false, cond}
 use mathlib.Core.List.{List, [], _∷_}

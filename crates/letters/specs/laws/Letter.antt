@@ -10,7 +10,7 @@ use Rattle.letters.specs.declared.letter.Letter.the-variants.{N, G, F, X
 use Rattle.letters.specs.declared.letter.Named.{Named}
 use Rattle.letters.specs.declared.letter.Named.the-variants.{Is, Other}
 use Rattle.letters.specs.Letter.{letters, letterByte}
-use Rattle.letters.specs.laws.Scan.{amongOf, letterOf}
+use Rattle.letters.specs.computed.Scan.{amongOf, letterOf}
 
 pub letter-of : (l : Letter) → letterOf (letterByte l) ≡ Is l
 letter-of N = refl

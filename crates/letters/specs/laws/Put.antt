@@ -6,7 +6,7 @@ use mathlib.Core.Bool.{Bool, true, false, cond, not, _||_, _&&_, false≢true}
 use native.Mathlib.Omega.{arith}
 use lib.Dec.{eqb}
 use lib.Bits.{bitOr, or-zero-r}
-use lib.ListN.{length, getD, set, replicate, length-set}
+use lib.ListN.{getD, set, replicate, length-set}
 use lib.Seq.{getD-set-same, getD-set-other}
 use borrow.Author.Tests.{eqb-true, eqb-false}
 use Rattle.letters.specs.declared.letter.Letter.{Letter}
@@ -16,8 +16,9 @@ use Rattle.letters.specs.declared.found.Found.{Found}
 use Rattle.letters.specs.Letter.{same}
 use Rattle.letters.specs.Word.{oneWord, wordAt, wordsBy, onceOf}
 use Rattle.letters.specs.laws.Scan.{moreOf, putOf}
-use Rattle.letters.specs.laws.Found.{indexOf, hasOf, nothingFound, addOf, magnitudeAfter, wordIn, wordsIn}
+use Rattle.letters.specs.computed.Found.{indexOf, hasOf, nothingFound, addOf, magnitudeAfter, wordIn, wordsIn}
 use Rattle.letters.specs.laws.Sets.{index-below, index-same, has-put, has-taken, put-small, taken-small, set-empty}
+use Rattle.letters.specs.computed.Put.{Gathered}
 
 -- ---- words by their letters
 
@@ -34,15 +35,6 @@ pub words-same : (v w : Letter → Word) → ((l : Letter) → v l ≡ w l) → 
 words-same v w h = rw (h N, h G, h F, h X, h Y, h I, h J)
 
 -- ---- what the words found keep
-
--- a letter that does not stand is in no set
-pub record Gathered (f : Found) (ms : List ℕ) : Type 0 where
-  pub stands : f .stands < 128
-  pub twice : f .twice < 128
-  pub negative : f .negative < 128
-  pub places : length ms ≡ 7
-  pub not-twice : (l : Letter) → hasOf (f .stands) l ≡ false → hasOf (f .twice) l ≡ false
-  pub not-negative : (l : Letter) → hasOf (f .stands) l ≡ false → hasOf (f .negative) l ≡ false
 
 pub gathered-none : Gathered nothingFound (replicate 7 0)
 gathered-none =

@@ -11,7 +11,7 @@ use borrow.Author.Tests.{eqb-true, eqb-false}
 use Rattle.letters.specs.declared.letter.Letter.{Letter}
 use Rattle.letters.specs.declared.letter.Letter.the-variants.{N, G, F, X, Y, I, J}
 use Rattle.letters.specs.Letter.{letters, same}
-use Rattle.letters.specs.laws.Found.{indexOf, hasOf, allLetters}
+use Rattle.letters.specs.computed.Found.{indexOf, hasOf, allLetters}
 
 pub index-below : (l : Letter) → indexOf l < 7
 index-below N = omega arith

@@ -10,8 +10,6 @@ use Rattle.line.specs.declared.line.Line.{Line}
 use Rattle.line.specs.declared.line.Stepped.{Stepped}
 use Rattle.line.specs.Line.{incrementX, incrementY, lineCycles, linePoint}
 
--- ---- a line in work
-
 -- increments that a line within travel can have; what the code asks so that no product overflows
 abbrev pub shortOf : (start end : Point) → Bool
 shortOf start end = leb (natAbs (incrementX start end)) 2000000 && leb (natAbs (incrementY start end)) 2000000

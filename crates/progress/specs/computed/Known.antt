@@ -7,8 +7,6 @@ use Rattle.progress.specs.declared.known.Known.{Known}
 use Rattle.progress.specs.declared.known.DecodedKnown.{DecodedKnown}
 use Rattle.progress.specs.Known.{encodeKnown, readerOf}
 
--- ---- and back: what the words tell, whatever they are
-
 abbrev pub knownIn : List ℤ → Known
 knownIn ws = record { motion = at ws 0; feed = at ws 1 }
 

@@ -7,8 +7,6 @@ use Rattle.progress.specs.declared.progress.DecodedProgress.{DecodedProg
 use Rattle.progress.specs.Progress.{encodeProgress}
 use Rattle.progress.specs.Progress.{checkIn}
 
--- ---- and back: what the words tell, whatever they are
-
 -- Words are a check's progress if they are those of the check that they tell. So a stage above 2, a negative count, and a G or F that tells
 -- nothing make no progress.
 unfoldable pub decodeProgress : Bench → List ℤ → DecodedProgress

@@ -1,4 +1,4 @@
--- Words and checks, exactly: a check that fits is told by its machine and the words of its progress, and so is what is known.
+-- Words and checks, exactly: a check that fits is told by its bench and the words of its progress, and so is what is known.
 use mathlib.Core.Path.{_≡_, refl}
 use mathlib.Core.Bool.{true}
 use Prim.Native.Nat.{_^_, _<_}

@@ -12,8 +12,6 @@ use Rattle.queue.specs.declared.Waiting.{Waiting}
 use Rattle.queue.specs.declared.Queue.{Queue}
 use Rattle.queue.specs.Queue.{places, waiting}
 
--- ---- a sound queue
-
 -- each keeps its own root, from the end of the one before
 unfoldable pub rootsRight : (start : Point) → List Waiting → Bool
 rootsRight start [] = true

@@ -13,6 +13,11 @@ use Rattle.reader.specs.declared.asked.Asked.{Asked}
 use Rattle.reader.specs.Reader.{readerAfter, moving, blockOf}
 use Rattle.reader.specs.computed.Reader.{lineNo}
 use Rattle.reader.specs.Reader.{goesNowhere}
+use mathlib.Core.Bool.{cond}
+use Prim.Native.Nat.{ℕ, zero, suc}
+use lib.Dec.{leb}
+use Rattle.reader.specs.computed.Reader.{longestLine, lineNo}
+use Rattle.reader.specs.Reader.{readerAfter}
 
 abbrev pub asked : ToLoad → Reader → Asked
 asked a k = record { asks = a; reader = k }
@@ -29,3 +34,7 @@ askedWith p k k′ place ws (suc n) = asked (ToLoad.Refused (suc n)) k
 -- a line of so many bytes, which say this; what is known after it, unless load refuses the block
 unfoldable pub askedOf : (p : ℕ) → Reader → (place : Point) → (bytes : ℕ) → Line → Asked
 askedOf p k place bytes l = let k′ = readerAfter k (l .words) in askedWith p k k′ place (l .words) (lineNo p k′ bytes l)
+
+-- the number that bytes with an LF get
+abbrev pub brokenNo : (bytes : ℕ) → ℕ
+brokenNo bytes = cond (leb bytes longestLine) 32 31

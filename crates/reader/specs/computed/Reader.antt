@@ -11,8 +11,6 @@ use Rattle.reader.specs.declared.Reader.{Reader}
 use Rattle.reader.specs.Reader.{endStands, centreStands, moving, motionKnown}
 use Rattle.reader.specs.Reader.{feedKnown, isArc}
 
--- ---- the questions
-
 -- "is the text at most 65,536 bytes (asked once, line 1)? 30."
 abbrev pub longestText : ℕ
 longestText = 65536

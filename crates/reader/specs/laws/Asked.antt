@@ -16,15 +16,12 @@ use Rattle.reader.specs.declared.asked.ToLoad.{ToLoad}
 use Rattle.reader.specs.computed.Reader.{longestLine, lineNo}
 use Rattle.reader.specs.Reader.{readerAfter}
 use Rattle.reader.specs.computed.Asked.{asked, askedWith, askedOf}
+use Rattle.reader.specs.computed.Asked.{brokenNo}
 
 pub asked-refused : (p : ℕ) (k k′ : Reader) (place : Point) (ws : Words) (n : ℕ) → (n ≡ 0 → ⊥)
     → asked (ToLoad.Refused n) k ≡ askedWith p k k′ place ws n
 asked-refused p k k′ place ws zero some = absurd (some refl)
 asked-refused p k k′ place ws (suc n) some = refl
-
--- the number that bytes with an LF get
-abbrev pub brokenNo : (bytes : ℕ) → ℕ
-brokenNo bytes = cond (leb bytes longestLine) 32 31
 
 pub asked-broken : (p : ℕ) (k : Reader) (place : Point) (bytes : List ℕ) → length (firstLine bytes) < length bytes
     → asked (ToLoad.Refused (brokenNo (length bytes))) k ≡ askedOf p k place (length bytes) (meaningOf bytes)

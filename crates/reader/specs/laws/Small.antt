@@ -15,16 +15,9 @@ use Rattle.reader.specs.Reader.{inPulses, coordinate}
 use Rattle.letters.specs.declared.letter.Letter.the-variants.{F, X, Y, I, J}
 use Rattle.letters.specs.declared.word.Word.{Word}
 use Rattle.letters.specs.declared.word.Words.{Words}
-
-abbrev pub Small : (p : ℕ) → Word → Type 0
-Small p w = w .magnitude * p < 2 ^ 63
-
-pub record SmallWords (p : ℕ) (ws : Words) : Type 0 where
-  pub x : Small p (ws .x)
-  pub y : Small p (ws .y)
-  pub i : Small p (ws .i)
-  pub j : Small p (ws .j)
-  pub f : Small p (ws .f)
+use Rattle.reader.specs.computed.Small.{Small}
+use Rattle.reader.specs.computed.Small.{SmallWords}
+use Rattle.reader.specs.computed.Small.{Writable}
 
 -- and so the pulses are an i64
 pub pulses-fit : (p : ℕ) (w : Word) → Small p w → SFits w64 (inPulses p w)
@@ -37,14 +30,6 @@ coordinate-fits p w here h at = by (w .stands)
     by : (stands : Bool) → SFits w64 (cond stands (inPulses p w) here)
     by true = pulses-fit p w h
     by false = at
-
--- numbers as a line can write them: seven digits, and three more after a point
-pub record Writable (ws : Words) : Type 0 where
-  pub x : ws .x .magnitude < 10 ^ 10
-  pub y : ws .y .magnitude < 10 ^ 10
-  pub i : ws .i .magnitude < 10 ^ 10
-  pub j : ws .j .magnitude < 10 ^ 10
-  pub f : ws .f .magnitude < 10 ^ 7
 
 pub line-writable : (bytes : List ℕ) → Writable (meaningOf bytes .words)
 line-writable bytes =

@@ -20,7 +20,7 @@ use Rattle.record.specs.declared.read.Figures.{Figures}
 use Rattle.record.specs.declared.read.BlockWords.{BlockWords}
 use Rattle.record.specs.Words.{blockWords, encodeOf}
 
--- ---- and back: what the words tell, whatever they are
+-- ---- what the words tell, whatever they are
 
 abbrev pub pathRead : BlockWords → Path
 pathRead b =

@@ -10,6 +10,11 @@ use Rattle.row.specs.declared.lines.Place.the-variants.{Next, NoRoom}
 use Rattle.row.specs.Decimal.{signedDecimal}
 use Rattle.row.specs.Lines.{line}
 use Rattle.row.specs.computed.Buffer.{placed}
+use Prim.Native.Nat.{ℕ, _+_, _*_, _≤_}
+use mathlib.Core.List.{List, [], _∷_}
+use lib.IntN.{ℤ}
+use lib.ListN.{length}
+use Rattle.row.specs.computed.Puts.{Puts}
 
 abbrev pub numberFields : List ℤ → List (List ℕ)
 numberFields [] = []
@@ -29,3 +34,11 @@ bufferWith vs buffer at = cond (hasRoomFor (length vs) buffer at) (placed (numbe
 
 abbrev pub placeWith : List ℤ → (buffer : List ℕ) (at : ℕ) → Place
 placeWith vs buffer at = cond (hasRoomFor (length vs) buffer at) (Next (at + length (numbersLine vs))) NoRoom
+
+abbrev pub PutsNumbers : List ℤ → (old : List ℕ) (at : ℕ) (new : List ℕ) (next : ℕ) → Type 0
+PutsNumbers vs old at new next = Puts (numbersLine vs) (22 * length vs) old at new next
+
+-- the place after a line lies in the buffer, or is its end
+abbrev pub EndsIn : (buffer : List ℕ) → Place → Type 0
+EndsIn buffer (Next at) = at ≤ length buffer
+EndsIn buffer NoRoom = Unit {0}

@@ -7,7 +7,8 @@ use lib.ListN.{length, set}
 use lib.Seq.{append-snoc}
 use Rattle.row.specs.Decimal.{digit, decimal}
 use Rattle.row.specs.laws.Decimal.{decimal-small, decimal-large, length-small, length-large}
-use Rattle.row.specs.laws.Puts.{Puts, puts-none, puts-before}
+use Rattle.row.specs.computed.Puts.{Puts}
+use Rattle.row.specs.laws.Puts.{puts-none, puts-before}
 
 -- the digits of n are those of m and then a text; the text stands in the buffer up to the end, and before it there is room for those of m
 pub record Behind (n : ℕ) (old : List ℕ) (at end : ℕ) (new : List ℕ) (m from : ℕ) : Type 0 where

@@ -7,14 +7,12 @@ use lib.IntN.{ℤ, pos}
 use lib.ListN.{length, drop, getD, drop-of-length-le}
 use lib.Seq.{drop-cons}
 use borrow.Author.Tests.{le-leb, lt-leb}
-use Rattle.row.specs.declared.lines.Place.{Place}
 use Rattle.row.specs.declared.lines.Place.the-variants.{Next, NoRoom}
 use Rattle.row.specs.Decimal.{signedDecimal}
 use Rattle.row.specs.computed.Numbers.{numbersLine, bufferWith, placeWith}
-use Rattle.row.specs.laws.Puts.{Puts, _then_, at-most, puts-none}
-
-abbrev pub PutsNumbers : List ℤ → (old : List ℕ) (at : ℕ) (new : List ℕ) (next : ℕ) → Type 0
-PutsNumbers vs old at new next = Puts (numbersLine vs) (22 * length vs) old at new next
+use Rattle.row.specs.computed.Puts.{Puts}
+use Rattle.row.specs.laws.Puts.{_then_, at-most, puts-none}
+use Rattle.row.specs.computed.Numbers.{PutsNumbers}
 
 -- the first i numbers are written, each with its blank, and those from i on make the rest of the line
 pub record Written (vs : List ℤ) (old : List ℕ) (at i : ℕ) (new : List ℕ) (next : ℕ) : Type 0 where
@@ -55,11 +53,6 @@ module _ {vs : List ℤ} {old new : List ℕ} {at i next : ℕ} (w : Written vs 
       rw (← (sym (ap (λ (s : List ℕ). w .front ++ s) cut) ∙ w .rest)) (at-most (w .puts then p) (omega arith))
 
 -- ---- a whole line
-
--- the place after a line lies in the buffer, or is its end
-abbrev pub EndsIn : (buffer : List ℕ) → Place → Type 0
-EndsIn buffer (Next at) = at ≤ length buffer
-EndsIn buffer NoRoom = Unit {0}
 
 module _ (vs : List ℤ) (old : List ℕ) (at : ℕ) where
   pub with-room-for : {new : List ℕ} {next k : ℕ} → at + 22 * (length vs + 1) ≤ length old → Puts (numbersLine vs) k old at new next

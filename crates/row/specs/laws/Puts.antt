@@ -12,14 +12,7 @@ use borrow.Author.Tests.{le-leb, lt-leb}
 use Rattle.row.specs.declared.lines.Place.the-variants.{Next, NoRoom}
 use Rattle.row.specs.computed.Buffer.{lineRoom, placed, bufferAfter, placeAfter}
 use Rattle.row.specs.laws.Buffer.{placed-length, placed-join}
-
--- new is old with the line at a place; the next place is after the line, at most k further on, and within the buffer
-pub record Puts (line : List ℕ) (k : ℕ) (old : List ℕ) (at : ℕ) (new : List ℕ) (next : ℕ) : Type 0 where
-  pub buffer : new ≡ placed line old at
-  pub place : next ≡ at + length line
-  pub most : next ≤ at + k
-  pub within : next ≤ length old
-  pub len : length new ≡ length old
+use Rattle.row.specs.computed.Puts.{Puts}
 
 -- a line is written piece by piece
 infixr 5 _then_

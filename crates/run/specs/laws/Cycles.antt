@@ -27,7 +27,8 @@ use Rattle.work.specs.Work.{isNothing, following, feedOf, endOf}
 use Rattle.work.specs.computed.Work.{workSound, lineCycle, arcCycle, cycleOf}
 use Rattle.work.specs.Work.{cyclesLeft, addedOf, chargesLeft}
 use Rattle.work.specs.computed.Work.{chargeOf, dueOf}
-use Rattle.work.specs.laws.Sound.{Feed, line-work, arc-work}
+use Rattle.work.specs.computed.Sound.{Feed}
+use Rattle.work.specs.laws.Sound.{line-work, arc-work}
 use Rattle.work.specs.laws.Charge.{due-range}
 use Rattle.run.specs.computed.Run.{SoundIn}
 

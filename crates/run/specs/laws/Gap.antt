@@ -10,7 +10,7 @@ use Rattle.circle.specs.declared.step.Move.{Move}
 use Rattle.circle.specs.declared.step.Move.the-variants.{Rise, Slant, Fall}
 use Rattle.circle.specs.computed.Charge.{moveCharge}
 use Rattle.divider.specs.laws.Last.{Due}
-use Rattle.work.specs.laws.Sound.{Feed}
+use Rattle.work.specs.computed.Sound.{Feed}
 use Rattle.run.specs.declared.gap.Gap.{Gap}
 use Rattle.run.specs.declared.gap.Divided.{Divided}
 use Rattle.run.specs.computed.Gap.{gapOf, dividedOf, later, nextGap, ifLess, byMove}

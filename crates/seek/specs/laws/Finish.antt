@@ -26,7 +26,7 @@ use Rattle.stream.specs.laws.Pieces.{still}
 use Rattle.seek.specs.declared.Found.{Found}
 use Rattle.seek.specs.declared.Search.{Search}
 use Rattle.seek.specs.computed.Seek.{answer}
-use Rattle.seek.specs.laws.Search.{blockWith, blockOf}
+use Rattle.seek.specs.computed.Search.{blockWith, blockOf}
 
 pub record EndsBlock (m : Bench) : Type 0 where
   pub ticks : runOf m enough enough .ran .ticks ≡ finishOf m .ticks

@@ -18,7 +18,8 @@ use Rattle.seek.specs.declared.Found.{Found}
 use Rattle.seek.specs.declared.Sought.{Sought}
 use Rattle.seek.specs.declared.Search.{Search}
 use Rattle.seek.specs.computed.Seek.{seekFrom, seekOf}
-use Rattle.seek.specs.laws.Search.{searchFrom, refusedOf, searchAfter, toFind, outcome, Counted, line-found, one-line-more}
+use Rattle.seek.specs.computed.Search.{searchFrom, refusedOf, searchAfter, Counted}
+use Rattle.seek.specs.laws.Search.{toFind, outcome, line-found, one-line-more}
 
 module _ (c : Settings) (n : ℕ) where
   pub start-counted : {s : Search} → s ≡ searchFrom c n → Counted s

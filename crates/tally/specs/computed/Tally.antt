@@ -1,4 +1,4 @@
--- What a text line adds to a listing, for any tally whatever. `Listing` says what the listing of a whole text is.
+-- What a text line adds to a listing, for any tally whatever. Crate `job` says what the listing of a whole text is.
 use mathlib.Core.Path.{_≡_}
 use mathlib.Core.Bool.{Bool, true, false, cond, not, _&&_}
 use mathlib.Core.List.{List, []}

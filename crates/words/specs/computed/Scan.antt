@@ -10,7 +10,8 @@ use Rattle.letters.specs.declared.letter.Named.the-variants.{Is, Other}
 use Rattle.letters.specs.declared.word.Words.{Words}
 use Rattle.letters.specs.Letter.{takesSign, takesPoint}
 use Rattle.letters.specs.Word.{oneWord}
-use Rattle.letters.specs.laws.Scan.{letterOf, noWords, putOf}
+use Rattle.letters.specs.computed.Scan.{letterOf, noWords}
+use Rattle.letters.specs.laws.Scan.{putOf}
 use Rattle.words.specs.declared.digits.Digits.{Digits}
 use Rattle.words.specs.declared.number.Sign.{Sign}
 use Rattle.words.specs.declared.number.Amount.{Amount}

@@ -15,7 +15,8 @@ use Rattle.letters.specs.declared.letter.Named.the-variants.{Is, Other}
 use Rattle.letters.specs.declared.word.Words.{Words}
 use Rattle.letters.specs.Letter.{letterByte}
 use Rattle.letters.specs.Word.{oneWord}
-use Rattle.letters.specs.laws.Scan.{letterOf, putOf}
+use Rattle.letters.specs.computed.Scan.{letterOf}
+use Rattle.letters.specs.laws.Scan.{putOf}
 use Rattle.letters.specs.laws.Letter.{letter-of, letter-byte}
 use Rattle.words.specs.declared.line.Line.{Line}
 use Rattle.words.specs.Grammar.{Item, blank, word, lineText, RightLine, LineOfWords}

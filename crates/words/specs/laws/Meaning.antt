@@ -10,7 +10,7 @@ use Rattle.letters.specs.declared.letter.Letter.{Letter}
 use Rattle.letters.specs.declared.letter.Named.the-variants.{Is}
 use Rattle.letters.specs.Letter.{letterByte, takesPoint, unitOf, same}
 use Rattle.letters.specs.Word.{missingWord, wordAt}
-use Rattle.letters.specs.laws.Scan.{letterOf}
+use Rattle.letters.specs.computed.Scan.{letterOf}
 use Rattle.letters.specs.laws.Letter.{letter-of}
 use Rattle.letters.specs.laws.Put.{at-by}
 use Rattle.words.specs.declared.line.Line.{Line}

@@ -1,4 +1,4 @@
--- The scan's answer is the one that `Meaning` asks for, there is no other, and how large its numbers are.
+-- The scan's answer is the one that `Meaning` asks for, there is no other, and so bytes are a line of words or none.
 use Prim.Native.Nat.{ℕ}
 use mathlib.Core.Path.{_≡_, refl, sym, ap, _∙_}
 use mathlib.Core.Logic.{inl, inr}
@@ -7,7 +7,7 @@ use mathlib.Core.Bool.{Bool, true, false, true≢false, false≢true}
 use Rattle.words.specs.declared.line.Line.{Line}
 use Rattle.words.specs.Grammar.{Item, lineText, RightLine, LineOfWords}
 use Rattle.words.specs.Meaning.{answerOf, saidBy, notWords, Means}
-use Rattle.letters.specs.laws.Scan.{noWords}
+use Rattle.letters.specs.computed.Scan.{noWords}
 use Rattle.words.specs.computed.Scan.{scanLine}
 use Rattle.words.specs.laws.Words.{gathered}
 use Rattle.words.specs.laws.Line.{items-read, Answered, answered}

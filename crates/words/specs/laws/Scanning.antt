@@ -13,9 +13,10 @@ use Rattle.letters.specs.declared.letter.Named.{Named}
 use Rattle.letters.specs.declared.letter.Named.the-variants.{Is, Other}
 use Rattle.letters.specs.declared.word.Words.{Words}
 use Rattle.letters.specs.declared.found.Found.{Found}
-use Rattle.letters.specs.laws.Scan.{letterOf, noWords, putOf}
-use Rattle.letters.specs.laws.Found.{wordsIn}
-use Rattle.letters.specs.laws.Put.{Gathered}
+use Rattle.letters.specs.computed.Scan.{letterOf, noWords}
+use Rattle.letters.specs.laws.Scan.{putOf}
+use Rattle.letters.specs.computed.Found.{wordsIn}
+use Rattle.letters.specs.computed.Put.{Gathered}
 use Rattle.letters.specs.Word.{oneWord}
 use Rattle.words.specs.declared.number.Number.{Number}
 use Rattle.words.specs.Meaning.{answerOf, notWords}

@@ -10,7 +10,8 @@ use Rattle.words.specs.Grammar.{Item, blank, word}
 use Rattle.letters.specs.Letter.{same}
 use Rattle.letters.specs.Word.{missingWord, oneWord, twiceWord, wordAt, wordsBy}
 use Rattle.words.specs.Meaning.{isMinus, magnitudeOf, Value, missing, one, twice, withRest, says, wordSaying}
-use Rattle.letters.specs.laws.Scan.{noWords, moreOf, putOf}
+use Rattle.letters.specs.computed.Scan.{noWords}
+use Rattle.letters.specs.laws.Scan.{moreOf, putOf}
 use Rattle.letters.specs.laws.Put.{at-by, words-same}
 
 -- ---- one word after another

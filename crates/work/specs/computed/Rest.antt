@@ -1,4 +1,4 @@
--- What is left of the block in work, for the contracts of inner functions, and the root that a machine's record keeps of it.
+-- What is left of the block in work, for the contracts of inner functions, and what they ask.
 use Prim.Native.Nat.{_≤_}
 use Rattle.plane.specs.declared.point.Point.{Point}
 use Rattle.circle.specs.Circle.{largestN}
@@ -15,8 +15,6 @@ abbrev pub Countable : (at : Point) → Work → Type 0
 Countable at Work.Nothing = Unit {0}
 Countable at (Work.Line l) = (l .done ≤ l .cycles) × (l .cycles ≤ 8000000)
 Countable at (Work.Arc a) = StandsOnArc a at
-
--- ---- the root of what is in work, by which the cycles left are known without taking one
 
 -- what the code asks: an arc whose N is small enough for the product
 abbrev pub Rooted : Work → Type 0

@@ -1,7 +1,7 @@
 -- What the tests of a line and of an arc in work say, and back.
 use mathlib.Core.Path.{_≡_}
 use mathlib.Core.Bool.{true}
-use Prim.Native.Nat.{ℕ, _≤_}
+use Prim.Native.Nat.{ℕ}
 use borrow.Author.Tests.{leb-true, le-leb}
 use Rattle.whole.specs.laws.Test.{both, joined}
 use Rattle.plane.specs.declared.point.Point.{Point}
@@ -14,11 +14,7 @@ use Rattle.line.specs.laws.Work.{LineAt, line-at, line-test, some-cycle}
 use Rattle.arc.specs.declared.arc.Arc.{Arc}
 use Rattle.arc.specs.laws.Work.{ArcAt, arc-at, arc-test}
 use Rattle.work.specs.computed.Work.{lineSound, arcSound}
-
--- a feed that the divider takes
-pub record Feed (q0 f : ℕ) : Type 0 where
-  pub some : 1 ≤ f
-  pub most : f ≤ q0
+use Rattle.work.specs.computed.Sound.{Feed}
 
 pub record LineWork (q0 : ℕ) (t : Travel) (at : Point) (l : Line) : Type 0 where
   pub start : Bounded t (l .start)

@@ -8,14 +8,14 @@ use Rattle.reader.specs.laws.Small.{pulses-fit}
 use Rattle.reader.proofs.command.coordinate_of.Statement.{statement}
 use Rattle.reader.proofs.command.coordinate_of.Tie as tie
 
-pulses-requires : tie.Need-pulses-requires
-pulses-requires c κs = search needs
+in-pulses-requires : tie.Need-in-pulses-requires
+in-pulses-requires c κs = search needs
 
 returns : tie.Need-returns
 returns c =
     let s = c .before .before in
     let fits : SFits w64 (inPulses (s .args .scale) (s .args .w)) = pulses-fit (s .args .scale) (s .args .w) (s .pre) in
-    rw (c .pulses .ensures, c .before .if1 .taken) (toZ-ofZ fits)
+    rw (c .in-pulses .ensures, c .before .if1 .taken) (toZ-ofZ fits)
 
 returns-2 : tie.Need-returns-2
 returns-2 c =
@@ -23,4 +23,4 @@ returns-2 c =
     rw (c .if1 .left) (toZ-ofZ here)
 
 pub coordinate-of-spec : {M : Type 1} → statement M
-coordinate-of-spec = tie.close (tie.spec pulses-requires returns returns-2)
+coordinate-of-spec = tie.close (tie.spec in-pulses-requires returns returns-2)

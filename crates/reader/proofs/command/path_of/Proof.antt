@@ -17,11 +17,11 @@ enum-told-2 c = search needs
 enum-known-m : tie.Need-enum-known-m
 enum-known-m c = search needs
 
-pulses-requires : tie.Need-pulses-requires
-pulses-requires c κs = search needs
+in-pulses-requires : tie.Need-in-pulses-requires
+in-pulses-requires c κs = search needs
 
-pulses-requires-2 : tie.Need-pulses-requires-2
-pulses-requires-2 c κs = search needs
+in-pulses-requires-2 : tie.Need-in-pulses-requires-2
+in-pulses-requires-2 c κs = search needs
 
 returns : tie.Need-returns
 returns c = rw (c .enum-told .given .1)
@@ -34,7 +34,7 @@ returns-3 c =
     let s = c .before .before .before .before .before .before .before in
     let i : SFits w64 (inPulses (s .args .scale) (s .args .ws .i)) = pulses-fit (s .args .scale) (s .args .ws .i) (s .pre .i) in
     let j : SFits w64 (inPulses (s .args .scale) (s .args .ws .j)) = pulses-fit (s .args .scale) (s .args .ws .j) (s .pre .j) in
-    rw (c .before .before .before .before .before .m .given .1, c .before .pulses .ensures, c .pulses2 .ensures, toZ-ofZ i, toZ-ofZ j)
+    rw (c .before .before .before .before .before .m .given .1, c .before .in-pulses .ensures, c .in-pulses2 .ensures, toZ-ofZ i, toZ-ofZ j)
 
 pub path-of-spec : {M : Type 1} → statement M
 path-of-spec =
@@ -43,8 +43,8 @@ path-of-spec =
     enum-told
     enum-told-2
     enum-known-m
-    pulses-requires
-    pulses-requires-2
+    in-pulses-requires
+    in-pulses-requires-2
     returns
     returns-2
     returns-3)

@@ -1,6 +1,6 @@
 -- `start` writes the definition's record.
 use borrow.Author.Needs.{needs}
-use Rattle.seek.specs.laws.Search.{searchFrom}
+use Rattle.seek.specs.computed.Search.{searchFrom}
 use Rattle.seek.proofs.Search.start.Statement.{statement}
 use Rattle.seek.proofs.Search.start.Tie as tie
 

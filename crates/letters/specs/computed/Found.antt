@@ -1,5 +1,4 @@
--- The words that the code has found, as sets and magnitudes. Nothing here is to be believed: `Put` proves that one word more is what
--- `putOf` says.
+-- Which letters have been found in a line, as the scan keeps them, and the words that they come to.
 use Prim.Native.Nat.{ℕ, _-_, _/_, _%_, _^_}
 use mathlib.Core.List.{List}
 use mathlib.Core.Bool.{Bool, cond}

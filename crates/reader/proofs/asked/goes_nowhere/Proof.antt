@@ -1,8 +1,8 @@
--- `stands_still` is right because only a straight line can end where it stands.
+-- `goes_nowhere` is right because only a straight line can end where it stands.
 use borrow.Author.Needs.{needs}
 use mathlib.Core.Path.{_∙_}
-use Rattle.reader.proofs.asked.stands_still.Statement.{statement}
-use Rattle.reader.proofs.asked.stands_still.Tie as tie
+use Rattle.reader.proofs.asked.goes_nowhere.Statement.{statement}
+use Rattle.reader.proofs.asked.goes_nowhere.Tie as tie
 
 enum-told : tie.Need-enum-told
 enum-told c = search needs
@@ -19,5 +19,5 @@ returns c = c .is-same .ensures ∙ rw (c .before .enum-told .given .1)
 returns-2 : tie.Need-returns-2
 returns-2 c = search needs
 
-pub stands-still-spec : {M : Type 1} → statement M
-stands-still-spec = tie.close (tie.spec enum-told is-same-requires enum-told-2 returns returns-2)
+pub goes-nowhere-spec : {M : Type 1} → statement M
+goes-nowhere-spec = tie.close (tie.spec enum-told is-same-requires enum-told-2 returns returns-2)
