@@ -2,10 +2,10 @@
  * what is printed. The earlier record may have other words: each side makes and loads its own. */
 #define _POSIX_C_SOURCE 199309L
 #include "verdaizka.h"
+#include "timing.h"
 
 #include <stdio.h>
 #include <stdlib.h>
-#include <time.h>
 
 enum { MOST_WORDS = 1024, MOST_ROUNDS = 999, BUFFER = 65536, CAPACITY = 300000, RADIUS = 500000 };
 
@@ -63,13 +63,6 @@ static uint8_t out[BUFFER];
 static volatile int64_t kept; /* so that no answer is computed in vain */
 
 /* Processor time in ns. */
-static double now(void)
-{
-    struct timespec t;
-    clock_gettime(CLOCK_PROCESS_CPUTIME_ID, &t);
-    return 1e9 * (double)t.tv_sec + (double)t.tv_nsec;
-}
-
 /* The line goes from 0 to its end, and each that waits back again. */
 static int64_t load(const struct side *s, vz_record *r, const struct work *w, int64_t feed, int back)
 {
@@ -115,18 +108,6 @@ static double timed(const struct side *s, const struct work *w)
     const double end = now();
     kept = sum;
     return (end - start) / (double)w->times;
-}
-
-static int by_size(const void *a, const void *b)
-{
-    double x = *(const double *)a, y = *(const double *)b;
-    return (x > y) - (x < y);
-}
-
-static double median(double *v, int n)
-{
-    qsort(v, (size_t)n, sizeof *v, by_size);
-    return v[n / 2];
 }
 
 int main(int argc, char **argv)

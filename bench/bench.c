@@ -5,34 +5,14 @@
  * bench do TABLE WORK SIDE TIMES   one work on one side, for a counter of instructions */
 #define _POSIX_C_SOURCE 199309L
 #include "works.h"
+#include "timing.h"
 
 #include <inttypes.h>
 #include <stdio.h>
 #include <stdlib.h>
 #include <string.h>
-#include <time.h>
 
 enum { MOST_ROUNDS = 999 };
-
-/* Processor time in ns: what other programs take of the machine does not count. */
-static double now(void)
-{
-    struct timespec t;
-    clock_gettime(CLOCK_PROCESS_CPUTIME_ID, &t);
-    return 1e9 * (double)t.tv_sec + (double)t.tv_nsec;
-}
-
-static int by_size(const void *a, const void *b)
-{
-    double x = *(const double *)a, y = *(const double *)b;
-    return (x > y) - (x < y);
-}
-
-static double median(double *v, int n)
-{
-    qsort(v, (size_t)n, sizeof *v, by_size);
-    return v[n / 2];
-}
 
 /* ns a unit of each side of each work, and the core's part of it. */
 static double times[MOST_WORKS][MOST_WAYS][MOST_ROUNDS], ratios[MOST_WORKS][MOST_WAYS][MOST_ROUNDS];
