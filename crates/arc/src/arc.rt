@@ -30,7 +30,7 @@ pub struct Arc {
     pub square: u64,
     pub turn: Turn,
     pub end: Point,
-    // Feed number, pulses per minute.
+    // Feed number, thousandths of a pulse per minute.
     pub feed: u64,
 }
 

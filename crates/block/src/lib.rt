@@ -16,6 +16,6 @@ pub struct Block {
     pub path: Path,
     // Absolute pulses.
     pub end: Point,
-    // Feed number, pulses per minute.
+    // Feed number, thousandths of a pulse per minute.
     pub feed: u64,
 }

@@ -17,3 +17,4 @@ pub mod Sums
 pub mod Order
 pub mod Runs
 pub mod Aggregate
+pub mod Unit

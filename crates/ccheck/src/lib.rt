@@ -1,5 +1,5 @@
 // The check of a job text for C, on 19 words of its own: "Each block is loaded once the one before has ended", so none ever waits, and the
-// record is that of a bench. What the check has come to stands in 8 words beside it. Words that are no sound record, or tell no progress,
+// record is that of a bench. What the check has come to stands in 9 words beside it. Words that are no sound record, or tell no progress,
 // get 9 and stay as they are.
 ghost use mathlib.Core.Path.{_≡_};
 ghost use Rattle.encoding.specs.Words.{settingsOf};
@@ -20,7 +20,7 @@ use progress::progress::encode_progress;
 #[no_mangle]
 pub extern "C" fn vz_check_start(
     bench: &mut [i64; 19],
-    progress: &mut [i64; 8],
+    progress: &mut [i64; 9],
     p: i64,
     w: i64,
     xlo: i64,
@@ -45,7 +45,7 @@ pub extern "C" fn vz_check_start(
 #[no_mangle]
 pub extern "C" fn vz_check_fill(
     bench: &mut [i64; 19],
-    progress: &mut [i64; 8],
+    progress: &mut [i64; 9],
     text: &[u8],
     out: &mut [u8],
     len: &mut u64,

@@ -1,7 +1,8 @@
--- 01, "Questions, and the number when the answer is no": load's questions, by the settings and the place where the block starts.
+-- 01, "Questions, and the number when the answer is no": load's questions, by the unit of feed numbers, the settings and the place where
+-- the block starts.
 use mathlib.Core.Path.{_≡_}
 use mathlib.Core.Logic.{_≢_}
-use Prim.Native.Nat.{_≤_}
+use Prim.Native.Nat.{ℕ, _≤_}
 use lib.IntN.{natAbs}
 use Rattle.plane.specs.declared.point.Point.{Point}
 use Rattle.circle.specs.declared.plane.Offset.{Offset}
@@ -12,13 +13,13 @@ use Rattle.block.specs.declared.Block.{Block}
 use Rattle.block.specs.declared.Path.{Path}
 use Rattle.block.specs.Block.{squareOf, arcOf}
 use Rattle.settings.specs.declared.Settings.{Settings}
-use Rattle.settings.specs.Settings.{capacityOf}
+use Rattle.settings.specs.Settings.{capacityAt}
 use Rattle.demands.specs.Asked.{Questions, none, question}
 use Rattle.demands.specs.Bench.{InTravel, FeedRight, VisitsInTravel}
 
--- "Is f in 1..q0? 11."
-abbrev pub BlockFeedRight : Settings → Block → Type 0
-BlockFeedRight s b = FeedRight (capacityOf s) (b .feed)
+-- "Is f in 1..q0? 11.", both in u-ths of a pulse per minute
+abbrev pub BlockFeedRight : (u : ℕ) → Settings → Block → Type 0
+BlockFeedRight u s b = FeedRight (capacityAt u s) (b .feed)
 
 -- "Is the end in travel? 12."
 abbrev pub EndInTravel : Settings → Block → Type 0
@@ -49,6 +50,6 @@ pathQuestions s start b (Path.Arc turn centre) =
     (question 15 (EndOnCircle start b centre) (question 16 (EveryVisitInTravel s start b turn centre) none))
 
 -- "Load, after 9, in this order"; Room is what 10 asks: whether there is room for the block
-abbrev pub blockQuestions : (Room : Type 0) → Settings → (start : Point) → Block → Questions
-blockQuestions Room s start b =
-    question 10 Room (question 11 (BlockFeedRight s b) (question 12 (EndInTravel s b) (pathQuestions s start b (b .path))))
+abbrev pub blockQuestions : (u : ℕ) (Room : Type 0) → Settings → (start : Point) → Block → Questions
+blockQuestions u Room s start b =
+    question 10 Room (question 11 (BlockFeedRight u s b) (question 12 (EndInTravel s b) (pathQuestions s start b (b .path))))

@@ -24,6 +24,7 @@ use Rattle.reader.specs.declared.«text_line».Read.{Read}
 use Rattle.textline.specs.declared.ReadLine.{ReadLine}
 use Rattle.reader.specs.Reader.{readerAfter}
 use Rattle.history.specs.Contracts.{Makes, Loads, Ticks, Holds, Releases, Stops, ReadsLine}
+use Rattle.settings.specs.Settings.{feedUnit}
 use Rattle.demands.specs.Asked.{AllYes}
 use Rattle.demands.specs.Bench.{settingsQuestions}
 use Rattle.demands.specs.Sound.{Sound}
@@ -33,11 +34,12 @@ use Rattle.demands.specs.Questions.{nextStart, lineBlock, makesBlock, li
 pub record LineTaken (k : Reader) (m : Machine) (l : Line) (r : ReadLine) : Type 0 where
   -- "A line without X, Y, I, J makes no block;" 02 §3: "a straight text line to that place makes no block": the machine stays. "G and F
   -- count from their own line until changed".
-  pub no-block : makesBlock k (m .bench .settings .scale) (nextStart m) l ≡ false
+  pub no-block : makesBlock feedUnit k (m .bench .settings .scale) (nextStart m) l ≡ false
       → r ≡ record { answer = Read.Nothing; reader = readerAfter k (l .words); machine = m }
   -- any other is a load of its block
-  pub block : makesBlock k (m .bench .settings .scale) (nextStart m) l ≡ true
-      → (a : Answered) × (bits : ℕ) × Loads m (lineBlock k (m .bench .settings .scale) (nextStart m) l) a × (a .answer ≡ Answer.Width bits)
+  pub block : makesBlock feedUnit k (m .bench .settings .scale) (nextStart m) l ≡ true
+      → (a : Answered) × (bits : ℕ) × Loads m (lineBlock feedUnit k (m .bench .settings .scale) (nextStart m) l) a
+      × (a .answer ≡ Answer.Width bits)
       × (r ≡ record { answer = Read.Loaded bits; reader = readerAfter k (l .words); machine = a .machine })
 
 pub record EveryCall : Type 0 where

@@ -118,18 +118,18 @@ MadeWords s before n after =
 
 -- ---- a line of a job text, with the G and F known in 2 words
 
--- an F that is known has 32 bits
-abbrev pub FeedOf32 : Feed → Type 0
-FeedOf32 Feed.Unknown = Unit {0}
-FeedOf32 (Feed.Known f) = f < 2 ^ 32
+-- an F as a text can write it: seven digits and three decimals
+abbrev pub FeedWritten : Feed → Type 0
+FeedWritten Feed.Unknown = Unit {0}
+FeedWritten (Feed.Known millimetres thousandths) = (millimetres < 10 ^ 7) × (thousandths < 1000)
 
 -- words that tell nothing known
 abbrev pub NotKnown : List ℤ → Type 0
-NotKnown ks = (k : Reader) → FeedOf32 (k .feed) → ¬ (ks ≡ encodeKnown k)
+NotKnown ks = (k : Reader) → FeedWritten (k .feed) → ¬ (ks ≡ encodeKnown k)
 
 pub record LineOnWords (before known : List ℤ) (line : RefT (List ℕ)) (n : ℤ) (after known′ : List ℤ) : Type 0 where
   -- read_line's own, and the words after it are again those of a sound record
-  pub own : (m : Machine) → Carries before m → (k : Reader) → FeedOf32 (k .feed) → known ≡ encodeKnown k
+  pub own : (m : Machine) → Carries before m → (k : Reader) → FeedWritten (k .feed) → known ≡ encodeKnown k
       → (r : ReadLine) × ((κs : Lfts 1) → ReadsLine κs k m line r) × (n ≡ readNumber (r .answer)) × Carries after (r .machine)
       × (after ≡ over (encodeOf (r .machine)) before) × (known′ ≡ encodeKnown (r .reader))
   pub others : NoRecord before ⊎ NotKnown known → (n ≡ negsuc 8) × (after ≡ before) × (known′ ≡ known)

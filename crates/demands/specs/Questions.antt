@@ -8,6 +8,7 @@ use lib.ListN.{length}
 use Rattle.plane.specs.declared.point.Point.{Point}
 use Rattle.block.specs.declared.Block.{Block}
 use Rattle.settings.specs.declared.Settings.{Settings}
+use Rattle.settings.specs.Settings.{feedUnit}
 use Rattle.machine.specs.declared.Machine.{Machine}
 use Rattle.machine.specs.Machine.{startOf}
 use Rattle.letters.specs.declared.letter.Letter.{Letter}
@@ -18,7 +19,7 @@ use Rattle.words.specs.declared.line.Line.{Line}
 use Rattle.words.specs.Grammar.{LineOfWords}
 use Rattle.reader.specs.declared.Motion.{Motion}
 use Rattle.reader.specs.declared.Reader.{Reader}
-use Rattle.reader.specs.Reader.{readerAfter, endStands, centreStands, moving, motionKnown, feedKnown, isArc, blockOf}
+use Rattle.reader.specs.Reader.{readerAfter, endStands, centreStands, moving, motionKnown, feedKnown, isArc, blockAt}
 use Rattle.reader.specs.Reader.{goesNowhere}
 use Rattle.demands.specs.Asked.{Questions, none, question, andThen}
 use Rattle.demands.specs.Block.{blockQuestions}
@@ -44,7 +45,7 @@ abbrev pub nextStart : Machine → Point
 nextStart m = startOf (m .bench) (m .queue)
 
 abbrev pub loadQuestions : Machine → Block → Questions
-loadQuestions m b = soundQuestion m (blockQuestions (FewerWaiting m) (m .bench .settings) (nextStart m) b)
+loadQuestions m b = soundQuestion m (blockQuestions feedUnit (FewerWaiting m) (m .bench .settings) (nextStart m) b)
 
 -- ---- a text line; l is what its bytes mean, after the G and F known with it
 
@@ -85,10 +86,11 @@ wordQuestions after scale bytes l =
     (question 36 (MotionAndFeedKnown after (l .words))
     (question 37 (CentreStands (after .motion) (l .words)) none))))))
 
--- ---- the block of a text line; k is the G and F known before it. "G and F count from their own line"
+-- ---- the block of a text line, its feed number in u-ths of a pulse per minute: by 02 §4 u is 1,000, by 01 it was 1. k is the G and F
+-- known before it. "G and F count from their own line"
 
-abbrev pub lineBlock : Reader → (scale : ℕ) → (start : Point) → Line → Block
-lineBlock k scale start l = blockOf scale (readerAfter k (l .words)) (l .words) start
+abbrev pub lineBlock : (u : ℕ) → Reader → (scale : ℕ) → (start : Point) → Line → Block
+lineBlock u k scale start l = blockAt u scale (readerAfter k (l .words)) (l .words) start
 
 -- "A line without X, Y, I, J makes no block; nor does a straight line to the point where it stands, and then 10 to 13 are not put." 02 §3:
 -- "a straight text line to that place makes no block", the place where its block would start
@@ -97,19 +99,19 @@ isBlock true false = true
 isBlock true true = false
 isBlock false stays = false
 
-abbrev pub makesBlock : Reader → (scale : ℕ) → (start : Point) → Line → Bool
-makesBlock k scale start l = let b = lineBlock k scale start l in isBlock (moving (l .words)) (goesNowhere (b .end) start (b .path))
+abbrev pub makesBlock : (u : ℕ) → Reader → (scale : ℕ) → (start : Point) → Line → Bool
+makesBlock u k scale start l = let b = lineBlock u k scale start l in isBlock (moving (l .words)) (goesNowhere (b .end) start (b .path))
 
 abbrev pub ifBlock : (makes : Bool) → Questions → Questions
 ifBlock true qs = qs
 ifBlock false qs = none
 
 -- 31 to 37. "Then load's questions."
-abbrev pub textQuestions : (Room : Type 0) → Reader → Settings → (start : Point) → (bytes : List ℕ) → Line → Questions
-textQuestions Room k s start bytes l =
+abbrev pub textQuestions : (u : ℕ) (Room : Type 0) → Reader → Settings → (start : Point) → (bytes : List ℕ) → Line → Questions
+textQuestions u Room k s start bytes l =
     andThen (wordQuestions (readerAfter k (l .words)) (s .scale) bytes l)
-    (ifBlock (makesBlock k (s .scale) start l) (blockQuestions Room s start (lineBlock k (s .scale) start l)))
+    (ifBlock (makesBlock u k (s .scale) start l) (blockQuestions u Room s start (lineBlock u k (s .scale) start l)))
 
 -- "Any call on a record: is it sound? 9."
 abbrev pub lineQuestions : Reader → Machine → (bytes : List ℕ) → Line → Questions
-lineQuestions k m bytes l = soundQuestion m (textQuestions (FewerWaiting m) k (m .bench .settings) (nextStart m) bytes l)
+lineQuestions k m bytes l = soundQuestion m (textQuestions feedUnit (FewerWaiting m) k (m .bench .settings) (nextStart m) bytes l)

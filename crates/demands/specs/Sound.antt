@@ -14,6 +14,7 @@ use Rattle.work.specs.Work.{cyclesLeft, endOf}
 use Rattle.work.specs.Work.{rootIn}
 use Rattle.settings.specs.declared.Settings.{Settings}
 use Rattle.machine.specs.declared.Machine.{Machine}
+use Rattle.settings.specs.Settings.{feedUnit}
 use Rattle.demands.specs.Asked.{AllYes}
 use Rattle.demands.specs.Bench.{BenchSound}
 use Rattle.demands.specs.Block.{blockQuestions}
@@ -22,7 +23,7 @@ use Rattle.demands.specs.Block.{blockQuestions}
 -- fewer than 16 wait, had a yes for every one of 16 at most.
 abbrev pub AcceptedInTurn : Settings → (start : Point) → List Block → Type 0
 AcceptedInTurn s start [] = Unit {0}
-AcceptedInTurn s start (b ∷ later) = AllYes (blockQuestions (Unit {0}) s start b) × AcceptedInTurn s (endAfter start b) later
+AcceptedInTurn s start (b ∷ later) = AllYes (blockQuestions feedUnit (Unit {0}) s start b) × AcceptedInTurn s (endAfter start b) later
 
 -- each keeps its own root
 abbrev pub RootsKept : (start : Point) → List Waiting → Type 0

@@ -22,7 +22,7 @@ use Rattle.job.specs.declared.Check.{Check}
 use Rattle.job.specs.declared.Filled.{Filled}
 use Rattle.job.specs.Text.{linesOf}
 use Rattle.job.specs.Job.{Made, End}
-use Rattle.job.specs.computed.Job.{jobOf}
+use Rattle.job.specs.computed.Job.{jobAt, jobOf}
 use Rattle.job.specs.Listing.{jobListing}
 use Rattle.job.specs.Check.{isOver}
 use Rattle.job.proofs.Check.start.Reads as start-reads
@@ -33,32 +33,33 @@ use Rattle.demands.specs.Bench.{settingsQuestions}
 use Rattle.demands.specs.Questions.{lineBlock, makesBlock, textQuestions}
 
 -- ---- the lines of a text, from number n on, read at a point with a G and an F known, mean these blocks, and end so. "Each block is loaded
--- once the one before has ended": it starts at the point, and nothing is in work then, so that 10 always has a yes.
+-- once the one before has ended": it starts at the point, and nothing is in work then, so that 10 always has a yes. Feed numbers are in
+-- u-ths of a pulse per minute.
 
-pub data LinesMean (s : Settings) : (n : ℕ) (at : Point) (known : Reader) → List (List ℕ) → List Made → End → Type 0 where
-  over : {n : ℕ} {at : Point} {k : Reader} → LinesMean s n at k [] [] End.complete
+pub data LinesMean (u : ℕ) (s : Settings) : (n : ℕ) (at : Point) (known : Reader) → List (List ℕ) → List Made → End → Type 0 where
+  over : {n : ℕ} {at : Point} {k : Reader} → LinesMean u s n at k [] [] End.complete
   -- "At a refusal the rows so far stand", and no line after it is read
   refused : {n : ℕ} {at : Point} {k : Reader} {bytes : List ℕ} {lines : List (List ℕ)} (l : Line) → Means bytes l → (number : ℕ)
-      → FirstNo (textQuestions (Unit {0}) k s at bytes l) number
-      → LinesMean s n at k (bytes ∷ lines) [] (End.refused n number)
+      → FirstNo (textQuestions u (Unit {0}) k s at bytes l) number
+      → LinesMean u s n at k (bytes ∷ lines) [] (End.refused n number)
   -- "G and F count from their own line until changed"
   nothing : {n : ℕ} {at : Point} {k : Reader} {bytes : List ℕ} {lines : List (List ℕ)} {made : List Made} {end : End} (l : Line)
       → Means bytes l
-      → AllYes (textQuestions (Unit {0}) k s at bytes l) → makesBlock k (s .scale) at l ≡ false
-      → LinesMean s (n + 1) at (readerAfter k (l .words)) lines made end
-      → LinesMean s n at k (bytes ∷ lines) made end
+      → AllYes (textQuestions u (Unit {0}) k s at bytes l) → makesBlock u k (s .scale) at l ≡ false
+      → LinesMean u s (n + 1) at (readerAfter k (l .words)) lines made end
+      → LinesMean u s n at k (bytes ∷ lines) made end
   block : {n : ℕ} {at : Point} {k : Reader} {bytes : List ℕ} {lines : List (List ℕ)} {made : List Made} {end : End} (l : Line)
       → Means bytes l
-      → AllYes (textQuestions (Unit {0}) k s at bytes l) → makesBlock k (s .scale) at l ≡ true
-      → LinesMean s (n + 1) (lineBlock k (s .scale) at l .end) (readerAfter k (l .words)) lines made end
-      → LinesMean s n at k (bytes ∷ lines) (record { textLine = n; start = at; block = lineBlock k (s .scale) at l } ∷ made) end
+      → AllYes (textQuestions u (Unit {0}) k s at bytes l) → makesBlock u k (s .scale) at l ≡ true
+      → LinesMean u s (n + 1) (lineBlock u k (s .scale) at l .end) (readerAfter k (l .words)) lines made end
+      → LinesMean u s n at k (bytes ∷ lines) (record { textLine = n; start = at; block = lineBlock u k (s .scale) at l } ∷ made) end
 
 -- what a text means. "A fresh machine stands at (0, 0)", and nothing is known before its first line.
-pub data TextMeans (s : Settings) (text : List ℕ) : List Made → End → Type 0 where
+pub data TextMeans (u : ℕ) (s : Settings) (text : List ℕ) : List Made → End → Type 0 where
   -- "is the text at most 65,536 bytes (asked once, line 1)? 30."
-  long : 65536 < length text → TextMeans s text [] (End.refused 1 30)
+  long : 65536 < length text → TextMeans u s text [] (End.refused 1 30)
   read : {made : List Made} {end : End} → length text ≤ 65536
-      → LinesMean s 1 (record { x = pos 0; y = pos 0 }) unknown (linesOf text) made end → TextMeans s text made end
+      → LinesMean u s 1 (record { x = pos 0; y = pos 0 }) unknown (linesOf text) made end → TextMeans u s text made end
 
 -- the cycles that the listing shows of a block: of an arc those of its walk to the end
 abbrev pub EveryCounted : List Made → Type 0
@@ -98,9 +99,9 @@ pub data RowsOut (text : List ℕ) (c : Check) : List ℕ → Check → Type 0 w
       → now lent ≡ text → FillsCheck κs d lent out out′ f → RowsOut text c (bytes ++ take (f .len) (now out′)) (f .check)
 
 pub record EveryText : Type 0 where
-  -- `jobOf` is what a text means, and it means nothing else
-  pub means : (s : Settings) (text : List ℕ) (made : List Made) (end : End)
-      → TextMeans s text made end ↔ (jobOf s text ≡ record { blocks = made; end = end })
+  -- `jobAt` is what a text means by the unit u, and it means nothing else; `jobOf` is that by 02 §4's
+  pub means : (u : ℕ) (s : Settings) (text : List ℕ) (made : List Made) (end : End)
+      → TextMeans u s text made end ↔ (jobAt u s text ≡ record { blocks = made; end = end })
   pub counts : (s : Settings) (text : List ℕ) → EveryCounted (jobOf s text .blocks)
   -- 160 bytes hold every row
   pub fill : (κs : Lfts 2) (c : Check) (text out out′ : RefT (List ℕ)) (f : Filled) → FillsCheck κs c text out out′ f

@@ -12,6 +12,7 @@ pub mod Calls
 pub mod Claims
 pub mod Texts
 pub mod TickBytes
+pub mod Before
 pub mod Carried
 pub mod CheckFromC
 pub mod FromC

@@ -4,6 +4,7 @@ ghost use Rattle.history.specs.Figure.{EveryFigure};
 ghost use Rattle.history.specs.Look.{EveryLook, EveryLookOn, EveryLookSum};
 ghost use Rattle.demands.specs.Answers.{EveryAnswer};
 ghost use Rattle.demands.specs.Arcs.{EveryArc};
+ghost use Rattle.demands.specs.Before.{EveryWholeFeed};
 ghost use Rattle.demands.specs.Calls.{EveryCall};
 ghost use Rattle.demands.specs.FromC.{EveryCallFromC};
 ghost use Rattle.demands.specs.Lines.{EveryLine};
@@ -80,6 +81,11 @@ pub fn every_look_sum()
 // Request 1: ahead of s + t is ahead of t from the record ahead of s, for any record.
 pub fn every_look_on()
     ensures { λ _. ⌜ EveryLookOn ⌝ }
+{}
+
+// Request 4: jobs whose F words have no point give the same pulses on the same ticks as before.
+pub fn every_whole_feed()
+    ensures { λ _. ⌜ EveryWholeFeed ⌝ }
 {}
 
 // The demands from C: its calls are the machine's.

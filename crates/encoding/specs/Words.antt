@@ -17,9 +17,9 @@ use Rattle.encoding.specs.declared.encode.WorkWords.{WorkWords}
 
 -- the number of this layout; it grows whenever the words of a record change or one comes to mean something else, so that a record saved
 -- under another one is refused. 2: 02 §2 counts the remainder by charges, a thousandfold of what it was. 3: 02 §3 lets blocks wait, whose
--- words crate `record` puts behind these
+-- words crate `record` puts behind these. 4: 02 §4 counts feed numbers and the remainder in thousandths of what they were
 abbrev pub abi : ℤ
-abi = pos 3
+abi = pos 4
 
 -- a count as a word; -1 where no word holds it, as in no sound record
 unfoldable pub wordOf : ℕ → ℤ

@@ -9,7 +9,7 @@ use line::line::Line;
 use work::Work;
 
 // Word 0, the number of the layout, of these words and of those of a machine with a queue.
-pub const ABI: i64 = 3;
+pub const ABI: i64 = 4;
 
 // Words 1 to 10: the settings, the position, the mark and the remainder.
 pub struct Head {

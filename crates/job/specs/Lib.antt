@@ -1,7 +1,8 @@
--- To be believed, in this order: Text, Job, Listing, Check. What the code computes, or asks of its callers: computed. Proved: laws.
+-- To be believed, in this order: Text, Job, Listing, Check, Unit. What the code computes, or asks of its callers: computed. Proved: laws.
 pub mod Text
 pub mod Job
 pub mod Listing
 pub mod Check
+pub mod Unit
 pub mod computed
 pub mod laws

@@ -6,3 +6,4 @@ pub mod Asks
 pub mod Rows
 pub mod Reached
 pub mod Listing
+pub mod Unit

@@ -142,6 +142,7 @@ impl Check {
         let tally = self.tally;
         let reader = tally.reader;
         let bench = tally.bench;
+        let ticks = tally.ticks;
         let point = bench.at;
         let work = bench.work;
         match work {
@@ -153,7 +154,7 @@ impl Check {
                     lines: tally.lines,
                     blocks: tally.blocks,
                     cycles: tally.cycles,
-                    ticks: tally.ticks,
+                    ticks: ticks,
                 };
                 Check {
                     stage: stage,

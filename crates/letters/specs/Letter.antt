@@ -7,7 +7,7 @@ use Rattle.letters.specs.declared.letter.Letter.{Letter}
 use Rattle.letters.specs.declared.letter.Letter.the-variants.{N, G, F, X, Y, I, J}
 
 -- 01: "A word is N, G or F with 1 to 7 digits, or X, Y, I, J with an optional sign, 1 to 7 digits and optionally a point with 1 to 3
--- digits, in millimetres." The letters, and their bytes:
+-- digits, in millimetres." 02 §4: "F may take a point with 1 to 3 digits." The letters, and their bytes:
 abbrev pub letters : List Letter
 letters = N ∷ G ∷ F ∷ X ∷ Y ∷ I ∷ J ∷ []
 
@@ -30,11 +30,11 @@ takesSign Y = true
 takesSign I = true
 takesSign J = true
 
--- "and optionally a point"
+-- "and optionally a point"; 02 §4: F too
 abbrev pub takesPoint : Letter → Bool
 takesPoint N = false
 takesPoint G = false
-takesPoint F = false
+takesPoint F = true
 takesPoint X = true
 takesPoint Y = true
 takesPoint I = true

@@ -34,7 +34,7 @@ pub fn takes_point(l: Letter) -> bool
     match l {
         Letter::N => false,
         Letter::G => false,
-        Letter::F => false, // whole millimetres a minute
+        Letter::F => true,
         Letter::X => true,
         Letter::Y => true,
         Letter::I => true,

@@ -27,7 +27,7 @@ use whole::sign::join;
 pub struct Line {
     pub start: Point,
     pub end: Point,
-    // Feed number, pulses per minute.
+    // Feed number, thousandths of a pulse per minute.
     pub feed: u64,
     // Cycles that the line takes (document 01's q); kept so that no root is taken after the load.
     pub cycles: u64,

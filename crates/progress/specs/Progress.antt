@@ -1,5 +1,5 @@
--- A check's progress as 8 words beside its bench's, signed numbers of 64 bits: the stage, where the next line begins in the text,
--- the G and the F known, and the lines, blocks, cycles and ticks so far.
+-- A check's progress as 9 words beside its bench's, signed numbers of 64 bits: the stage, where the next line begins in the text,
+-- the G and the F known, and the lines, blocks, cycles and ticks so far, the ticks in two words.
 use mathlib.Core.Bool.{cond}
 use mathlib.Core.List.{List, [], _∷_}
 use Prim.Native.Nat.{ℕ}
@@ -12,6 +12,7 @@ use Rattle.job.specs.declared.Check.{Check}
 use Rattle.encoding.specs.Words.{wordOf, countOf, at}
 use Rattle.progress.specs.declared.progress.Progress.{Progress}
 use Rattle.progress.specs.Known.{knownOf, readerOf}
+use Rattle.progress.specs.Long.{longWords, longRead}
 
 -- ---- progress as words
 
@@ -29,12 +30,14 @@ progressOf c =
       lines = wordOf (c .tally .lines);
       blocks = wordOf (c .tally .blocks);
       cycles = wordOf (c .tally .cycles);
-      ticks = wordOf (c .tally .ticks);
+      ticks = longWords (c .tally .ticks);
     }
 
 -- the order of the words
 abbrev pub progressWords : Progress → List ℤ
-progressWords p = p .stage ∷ p .at ∷ p .known .motion ∷ p .known .feed ∷ p .lines ∷ p .blocks ∷ p .cycles ∷ p .ticks ∷ []
+progressWords p =
+    p .stage ∷ p .at ∷ p .known .motion ∷ p .known .feed ∷ p .lines ∷ p .blocks ∷ p .cycles
+    ∷ p .ticks .low ∷ p .ticks .high ∷ []
 
 unfoldable pub encodeProgress : Check → List ℤ
 encodeProgress c = progressWords (progressOf c)
@@ -52,7 +55,7 @@ tallyOf m p =
       lines = countOf (p .lines);
       blocks = countOf (p .blocks);
       cycles = countOf (p .cycles);
-      ticks = countOf (p .ticks);
+      ticks = longRead (p .ticks);
     }
 
 abbrev pub checkOf : Bench → Progress → Check
@@ -67,7 +70,7 @@ progressIn ws =
       lines = at ws 4;
       blocks = at ws 5;
       cycles = at ws 6;
-      ticks = at ws 7;
+      ticks = record { low = at ws 7; high = at ws 8 };
     }
 
 -- the check at this bench that the words tell, if they are one's progress at all

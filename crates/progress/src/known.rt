@@ -5,6 +5,7 @@ ghost use Rattle.progress.specs.computed.Known.{decodeKnown};
 ghost use Rattle.progress.specs.computed.Right.{knownRight};
 use encoding::encode::turn_word;
 use encoding::number::count;
+use encoding::number::word;
 use plane::travel::Range;
 use plane::travel::within;
 use reader::Feed;
@@ -33,7 +34,9 @@ fn feed_word(feed: Feed) -> i64
 {
     match feed {
         Feed::Unknown => -1,
-        Feed::Known(f) => f as i64,
+        Feed::Known(millimetres, thousandths) => {
+            word(millimetres as u64 * 1_000 + thousandths as u64)
+        }
     }
 }
 
@@ -61,7 +64,7 @@ pub struct DecodedKnown {
     pub reader: Reader,
 }
 
-// Known feeds have 32 bits.
+// As a text can write it: seven digits and three decimals.
 fn feed_of(word: i64) -> Feed
     ensures { λ r. ⌜ r ≡ feedRead word ⌝ }
 {
@@ -70,8 +73,8 @@ fn feed_of(word: i64) -> Feed
         return Feed::Unknown;
     }
     let f = p.magnitude;
-    if f < 4_294_967_296 {
-        return Feed::Known(f as u32);
+    if f < 10_000_000_000 {
+        return Feed::Known((f / 1_000) as u32, (f % 1_000) as u32);
     }
     Feed::Unknown
 }
@@ -91,7 +94,7 @@ pub fn known_right(k: Known) -> bool
     let motions = Range { lower: 0, upper: 3 };
     let feeds = Range {
         lower: -1,
-        upper: 4_294_967_295,
+        upper: 9_999_999_999,
     };
     if !within(motions, k.motion) {
         return false;

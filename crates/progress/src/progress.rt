@@ -1,4 +1,4 @@
-// A check's progress as 8 words, and back. `specs/Progress.antt` says which word is what.
+// A check's progress as 9 words, and back. `specs/Progress.antt` says which word is what.
 ghost use mathlib.Core.Path.{_≡_};
 ghost use Rattle.progress.specs.Progress.{stageWord, progressOf, progressWords, encodeProgress, stageOf, tallyOf, checkOf};
 ghost use Rattle.progress.specs.Progress.{progressIn};
@@ -8,6 +8,10 @@ use crate::known::Known;
 use crate::known::known_of;
 use crate::known::known_right;
 use crate::known::reader_of;
+use crate::long::LongWords;
+use crate::long::long_of;
+use crate::long::long_right;
+use crate::long::long_words;
 use bench::Bench;
 use encoding::number::count;
 use encoding::number::is_count;
@@ -25,7 +29,7 @@ pub struct Progress {
     pub lines: i64,
     pub blocks: i64,
     pub cycles: i64,
-    pub ticks: i64,
+    pub ticks: LongWords,
 }
 
 fn stage_word(stage: Stage) -> i64
@@ -45,6 +49,8 @@ fn progress_of(c: Check) -> Progress
     let tally = c.tally;
     let reader = tally.reader;
     let known = known_of(reader);
+    let counted = tally.ticks;
+    let ticks = long_words(counted);
     Progress {
         stage: stage_word(stage),
         at: word(c.at as u64),
@@ -52,15 +58,16 @@ fn progress_of(c: Check) -> Progress
         lines: word(tally.lines),
         blocks: word(tally.blocks),
         cycles: word(tally.cycles),
-        ticks: word(tally.ticks),
+        ticks: ticks,
     }
 }
 
 // The words in their order.
-fn in_order(p: Progress) -> [i64; 8]
+fn in_order(p: Progress) -> [i64; 9]
     ensures { λ r. ⌜ r ≡ progressWords p ⌝ }
 {
     let known = p.known;
+    let ticks = p.ticks;
     [
         p.stage,
         p.at,
@@ -69,11 +76,12 @@ fn in_order(p: Progress) -> [i64; 8]
         p.lines,
         p.blocks,
         p.cycles,
-        p.ticks,
+        ticks.low,
+        ticks.high,
     ]
 }
 
-pub fn encode_progress(c: Check) -> [i64; 8]
+pub fn encode_progress(c: Check) -> [i64; 9]
     ensures { λ r. ⌜ r ≡ encodeProgress c ⌝ }
 {
     in_order(progress_of(c))
@@ -97,12 +105,16 @@ fn stage_of(n: u64) -> Stage
     Stage::Header
 }
 
-fn progress_in(words: [i64; 8]) -> Progress
+fn progress_in(words: [i64; 9]) -> Progress
     ensures { λ r. ⌜ r ≡ progressIn words ⌝ }
 {
     let known = Known {
         motion: words[2],
         feed: words[3],
+    };
+    let ticks = LongWords {
+        low: words[7],
+        high: words[8],
     };
     Progress {
         stage: words[0],
@@ -111,7 +123,7 @@ fn progress_in(words: [i64; 8]) -> Progress
         lines: words[4],
         blocks: words[5],
         cycles: words[6],
-        ticks: words[7],
+        ticks: ticks,
     }
 }
 
@@ -120,13 +132,15 @@ fn tally_of(m: Bench, p: Progress) -> Tally
 {
     let known = p.known;
     let reader = reader_of(known);
+    let told = p.ticks;
+    let ticks = long_of(told);
     Tally {
         reader: reader,
         bench: m,
         lines: count(p.lines),
         blocks: count(p.blocks),
         cycles: count(p.cycles),
-        ticks: count(p.ticks),
+        ticks: ticks,
     }
 }
 
@@ -156,7 +170,8 @@ fn counts_right(p: Progress) -> bool
     if !is_count(p.cycles) {
         return false;
     }
-    is_count(p.ticks)
+    let ticks = p.ticks;
+    long_right(ticks)
 }
 
 fn progress_right(p: Progress) -> bool
@@ -173,7 +188,7 @@ fn progress_right(p: Progress) -> bool
     counts_right(p)
 }
 
-pub fn decode_progress(m: Bench, words: [i64; 8]) -> DecodedProgress
+pub fn decode_progress(m: Bench, words: [i64; 9]) -> DecodedProgress
     ensures { λ r. ⌜ r ≡ decodeProgress m words ⌝ }
 {
     let p = progress_in(words);

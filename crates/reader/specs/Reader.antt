@@ -1,6 +1,6 @@
 -- 01, Questions, "Job text": what a line of words asks of the machine.
 use mathlib.Core.Bool.{Bool, true, false, cond, _||_}
-use Prim.Native.Nat.{ℕ, _*_, _/_}
+use Prim.Native.Nat.{ℕ, _+_, _*_, _/_, _%_}
 use lib.Dec.{eqb}
 use lib.IntN.{ℤ}
 use Rattle.whole.specs.Sign.{signed}
@@ -30,8 +30,9 @@ motionOf g = cond (eqb g 1) Motion.Line (cond (eqb g 2) (Motion.Arc Turn.Clockwi
 abbrev pub motionAfter : Motion → Word → Motion
 motionAfter m g = cond (g .stands) (motionOf (g .magnitude)) m
 
+-- a word is in thousandths of a millimetre per minute; kept are whole millimetres and thousandths of one
 abbrev pub feedAfter : Feed → Word → Feed
-feedAfter f w = cond (w .stands) (Feed.Known (w .magnitude)) f
+feedAfter f w = cond (w .stands) (Feed.Known (w .magnitude / 1000) (w .magnitude % 1000)) f
 
 abbrev pub readerAfter : Reader → Words → Reader
 readerAfter k ws = record { motion = motionAfter (k .motion) (ws .g); feed = feedAfter (k .feed) (ws .f) }
@@ -57,7 +58,7 @@ motionKnown (Motion.Arc turn) = true
 
 abbrev pub feedKnown : Feed → Bool
 feedKnown Feed.Unknown = false
-feedKnown (Feed.Known f) = true
+feedKnown (Feed.Known millimetres thousandths) = true
 
 abbrev pub isArc : Motion → Bool
 isArc Motion.Unknown = false
@@ -80,17 +81,18 @@ pathOf p Motion.Unknown ws = Path.Line
 pathOf p Motion.Line ws = Path.Line
 pathOf p (Motion.Arc turn) ws = Path.Arc turn (record { x = inPulses p (ws .i); y = inPulses p (ws .j) })
 
--- 01, Feed divider: "The block's feed number f is pulses per minute: millimetres per minute times p."
-abbrev pub feedNumber : (p : ℕ) → Feed → ℕ
-feedNumber p Feed.Unknown = 0
-feedNumber p (Feed.Known f) = f * p
+-- 01, Feed divider: "The block's feed number f is pulses per minute: millimetres per minute times p." In u-ths of a pulse per minute it is
+-- u times as much: 01 has u 1, and 02 §4 ("The feed number becomes thousandths of a pulse per minute") u 1,000
+abbrev pub feedNumberAt : (u p : ℕ) → Feed → ℕ
+feedNumberAt u p Feed.Unknown = 0
+feedNumberAt u p (Feed.Known millimetres thousandths) = (millimetres * 1000 + thousandths) * p * u / 1000
 
-unfoldable pub blockOf : (p : ℕ) → Reader → Words → (at : Point) → Block
-blockOf p k ws at =
+unfoldable pub blockAt : (u p : ℕ) → Reader → Words → (at : Point) → Block
+blockAt u p k ws at =
     record {
       path = pathOf p (k .motion) ws;
       end = record { x = coordinate p (ws .x) (at .x); y = coordinate p (ws .y) (at .y) };
-      feed = feedNumber p (k .feed);
+      feed = feedNumberAt u p (k .feed);
     }
 
 -- "a straight line to the point where it stands"; an arc to its start is a full turn

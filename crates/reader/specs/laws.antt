@@ -1,3 +1,4 @@
+pub mod Feed
 pub mod Small
 pub mod Asked
 pub mod TextLine

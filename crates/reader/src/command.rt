@@ -1,9 +1,10 @@
 // The G and F known after a line, and the block that a line asks for.
 ghost use mathlib.Core.Path.{_≡_};
 ghost use Prim.Native.Nat.{_<_, _^_, _≤_};
-ghost use Rattle.reader.specs.Reader.{motionOf, motionAfter, feedAfter, readerAfter, inPulses, coordinate, pathOf, feedNumber};
-ghost use Rattle.reader.specs.Reader.{blockOf};
+ghost use Rattle.reader.specs.Reader.{motionOf, motionAfter, feedAfter, readerAfter, inPulses, coordinate, pathOf, feedNumberAt};
+ghost use Rattle.reader.specs.Reader.{blockAt};
 ghost use Rattle.reader.specs.computed.Small.{Small, SmallWords};
+ghost use Rattle.settings.specs.Settings.{feedUnit};
 use crate::Feed;
 use crate::Motion;
 use crate::Reader;
@@ -42,17 +43,17 @@ fn motion_after(m: Motion, g: Word) -> Motion
 }
 
 fn feed_after(f: Feed, w: Word) -> Feed
-    requires { ⌜ w .magnitude < 10 ^ 7 ⌝ }
+    requires { ⌜ w .magnitude < 10 ^ 10 ⌝ }
     ensures { λ r. ⌜ r ≡ feedAfter f w ⌝ }
 {
     if w.stands {
-        return Feed::Known(w.magnitude as u32);
+        return Feed::Known((w.magnitude / 1_000) as u32, (w.magnitude % 1_000) as u32);
     }
     f
 }
 
 pub fn reader_after(k: Reader, ws: Words) -> Reader
-    requires { ⌜ ws .f .magnitude < 10 ^ 7 ⌝ }
+    requires { ⌜ ws .f .magnitude < 10 ^ 10 ⌝ }
     ensures { λ r. ⌜ r ≡ readerAfter k ws ⌝ }
 {
     let g = ws.g;
@@ -106,19 +107,22 @@ fn path_of(scale: u64, m: Motion, ws: Words) -> Path
     }
 }
 
+// In thousandths of a pulse per minute.
 fn feed_number(scale: u64, f: Feed) -> u64
     requires { ⌜ scale ≤ 1000 ⌝ }
-    ensures { λ r. ⌜ r ≡ feedNumber scale f ⌝ }
+    ensures { λ r. ⌜ r ≡ feedNumberAt feedUnit scale f ⌝ }
 {
     match f {
         Feed::Unknown => 0,
-        Feed::Known(n) => n as u64 * scale,
+        Feed::Known(millimetres, thousandths) => {
+            (millimetres as u64 * 1_000 + thousandths as u64) * scale
+        }
     }
 }
 
 pub fn block_of(scale: u64, k: Reader, ws: Words, at: Point) -> Block
     requires { ⌜ (scale ≤ 1000) × SmallWords scale ws ⌝ }
-    ensures { λ r. ⌜ r ≡ blockOf scale k ws at ⌝ }
+    ensures { λ r. ⌜ r ≡ blockAt feedUnit scale k ws at ⌝ }
 {
     let m = k.motion;
     let f = k.feed;

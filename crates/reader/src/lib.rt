@@ -25,8 +25,8 @@ pub enum Motion {
 
 pub enum Feed {
     Unknown,
-    // Millimetres per minute.
-    Known(u32),
+    // Millimetres per minute, and thousandths of one.
+    Known(u32, u32),
 }
 
 pub struct Reader {

@@ -96,7 +96,7 @@ fn feed_known(f: Feed) -> bool
 {
     match f {
         Feed::Unknown => false,
-        Feed::Known(_) => true,
+        Feed::Known(_, _) => true,
     }
 }
 

@@ -1,3 +1,4 @@
 pub mod Buffer
+pub mod Long
 pub mod Numbers
 pub mod Puts

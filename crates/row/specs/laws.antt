@@ -1,4 +1,5 @@
 pub mod Decimal
+pub mod Long
 pub mod Lines
 pub mod Buffer
 pub mod Puts

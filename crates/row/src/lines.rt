@@ -1,10 +1,12 @@
 // The four lines of the listing, each whole, from a place of a lent buffer on. Where the buffer is too short, it stays as it is.
+use crate::long::LongCount;
 use crate::push;
 ghost use mathlib.Core.Path.{_≡_};
 ghost use Prim.Native.Nat.{_+_, _-_};
 ghost use lib.Dec.{leb};
 ghost use Rattle.row.specs.Lines.{kindLetter, headerLine, blockLine, totalLine, refusedLine};
 ghost use Rattle.row.specs.computed.Buffer.{lineRoom, bufferAfter, placeAfter};
+ghost use Rattle.row.specs.computed.Long.{longOf};
 
 // 160 bytes hold every line of the listing: none takes more than 128.
 pub const ROOM: usize = 160;
@@ -88,9 +90,9 @@ pub fn block(
 }
 
 // The last line of a job that was read to its end.
-pub fn total(out: &mut [u8], at: usize, blocks: u64, cycles: u64, ticks: u64) -> Place
-    ensures buffer { λ r. ⌜ now (out .exit) ≡ bufferAfter (totalLine blocks cycles ticks) (now (out .entry)) at ⌝ }
-    ensures place { λ r. ⌜ r ≡ placeAfter (totalLine blocks cycles ticks) (now (out .entry)) at ⌝ }
+pub fn total(out: &mut [u8], at: usize, blocks: u64, cycles: u64, ticks: LongCount) -> Place
+    ensures buffer { λ r. ⌜ now (out .exit) ≡ bufferAfter (totalLine blocks cycles (longOf ticks)) (now (out .entry)) at ⌝ }
+    ensures place { λ r. ⌜ r ≡ placeAfter (totalLine blocks cycles (longOf ticks)) (now (out .entry)) at ⌝ }
 {
     if left(out.len(), at) < ROOM {
         return Place::NoRoom;
@@ -98,7 +100,7 @@ pub fn total(out: &mut [u8], at: usize, blocks: u64, cycles: u64, ticks: u64) ->
     let at1 = push::text(out, at, b"total ");
     let at2 = push::number(out, at1, blocks, BLANK);
     let at3 = push::number(out, at2, cycles, BLANK);
-    let next = push::number(out, at3, ticks, LF);
+    let next = push::long(out, at3, ticks, LF);
     Place::Next(next)
 }
 

@@ -1,10 +1,13 @@
 // Bytes, texts and numbers put into a buffer from a place on. Each answers the next place; each caller shows that there is room.
+use crate::long::LOW_LIMIT;
+use crate::long::LongCount;
 use whole::sign;
 ghost use mathlib.Core.Path.{_≡_};
 ghost use mathlib.Core.List.{_++_, _∷_, []};
 ghost use Prim.Native.Nat.{_+_, _≤_, _<_};
 ghost use lib.ListN.{length};
 ghost use Rattle.row.specs.Decimal.{decimal, signedDecimal};
+ghost use Rattle.row.specs.computed.Long.{longOf, lastDigits};
 ghost use Rattle.row.specs.computed.Puts.{Puts};
 
 const MINUS: u8 = 45;
@@ -81,6 +84,38 @@ pub fn number(out: &mut [u8], at: usize, n: u64, end: u8) -> usize
     ensures { λ r. ⌜ Puts (decimal n ++ (end ∷ [])) 21 (now (out .entry)) at (now (out .exit)) r ⌝ }
 {
     let last = digits(out, at, n);
+    byte(out, last, end)
+}
+
+// The last eighteen digits of n, zeros too, from the last to the first: those of m are still to be written, in the places before i.
+fn eighteen(out: &mut [u8], at: usize, n: u64) -> usize
+    requires { ⌜ at + 18 ≤ length (now out) ⌝ }
+    ensures { λ r. ⌜ Puts (lastDigits 18 n) 18 (now (out .entry)) at (now (out .exit)) r ⌝ }
+{
+    let end = at + 18;
+    let mut m = n;
+    let mut i = end;
+    while at < i {
+        i -= 1;
+        let d = (m % 10) as u8;
+        out[i] = ZERO + d;
+        m = m / 10;
+    }
+    end
+}
+
+// A count in two parts and the byte that ends its field; a low part of 10^18 or more carries into the high one.
+pub fn long(out: &mut [u8], at: usize, n: LongCount, end: u8) -> usize
+    requires { ⌜ at + 39 ≤ length (now out) ⌝ }
+    ensures { λ r. ⌜ Puts (decimal (longOf n) ++ (end ∷ [])) 39 (now (out .entry)) at (now (out .exit)) r ⌝ }
+{
+    let high = n.high as u64 + n.low / LOW_LIMIT;
+    let low = n.low % LOW_LIMIT;
+    if high == 0 {
+        return number(out, at, low, end);
+    }
+    let first = digits(out, at, high);
+    let last = eighteen(out, first, low);
     byte(out, last, end)
 }
 

@@ -68,12 +68,15 @@ pub fn settings_no(s: Settings) -> u64
     0
 }
 
+// Feed numbers are thousandths of a pulse per minute: 60,000 of them are a pulse per second.
+const CAPACITY_PER_HERTZ: u64 = 60_000;
+
 // q0, the capacity of the feed divider, of settings that have been tested.
 pub fn capacity(s: Settings) -> u64
     requires { ⌜ settingsNo s ≡ 0 ⌝ }
     ensures { λ r. ⌜ r ≡ capacityOf s ⌝ }
 {
-    60 * s.clock
+    CAPACITY_PER_HERTZ * s.clock
 }
 
 // p 50, w 5,000 and the widest travel: what a refused make hands back, and what the programs take.

@@ -6,9 +6,8 @@ ghost use Prim.Native.Nat.{_≤_};
 ghost use lib.ListN.{length};
 ghost use Rattle.bench.specs.computed.Bench.{soundOf};
 ghost use Rattle.words.specs.computed.Scan.{firstLine};
-ghost use Rattle.row.specs.Lines.{totalLine};
 ghost use Rattle.row.specs.computed.Buffer.{lineRoom, hasRoom, bufferAfter, placeAfter};
-ghost use Rattle.tally.specs.computed.Tally.{Gives, countsRight, kindOf, placeAfterRow, tallyFrom, blockListed};
+ghost use Rattle.tally.specs.computed.Tally.{Gives, countsRight, kindOf, placeAfterRow, tallyFrom, blockListed, totalOf};
 ghost use Rattle.tally.specs.computed.Tally.{Reads, bytesRead, unreadOf, passedOf};
 use bench::Bench;
 use finish::finish;
@@ -19,6 +18,8 @@ use reader::text_line::read_first;
 use row::lines::Kind;
 use row::lines::Place;
 use row::lines::has_room;
+use row::long::LOW_LIMIT;
+use row::long::LongCount;
 use work::Work;
 
 // A text has no more lines than bytes.
@@ -28,7 +29,7 @@ const MOST_LINES: u64 = LONGEST_TEXT as u64;
 const MOST_BLOCK_CYCLES: u64 = 8_000_000;
 
 // nor more ticks.
-pub const MOST_BLOCK_TICKS: u64 = 11_280_000_000_000;
+pub const MOST_BLOCK_TICKS: u64 = 11_280_000_000_000_000;
 
 pub struct Tally {
     pub reader: Reader,
@@ -39,7 +40,7 @@ pub struct Tally {
     // Totals of the blocks so far.
     pub blocks: u64,
     pub cycles: u64,
-    pub ticks: u64,
+    pub ticks: LongCount,
 }
 
 // What a text line gives: the place after its row in the buffer, the same where it makes no block, and whether the listing is over with it.
@@ -77,13 +78,14 @@ impl Tally {
         ensures { λ r. ⌜ r ≡ tallyFrom bench ⌝ }
     {
         let reader = Reader::start();
+        let ticks = LongCount::zero();
         Tally {
             reader: reader,
             bench: bench,
             lines: 0,
             blocks: 0,
             cycles: 0,
-            ticks: 0,
+            ticks: ticks,
         }
     }
 
@@ -100,7 +102,11 @@ impl Tally {
         if MOST_BLOCK_CYCLES * self.lines < self.cycles {
             return false;
         }
-        self.ticks <= MOST_BLOCK_TICKS * self.lines
+        let ticks = self.ticks;
+        if self.lines < ticks.high as u64 {
+            return false;
+        }
+        ticks.low < LOW_LIMIT
     }
 
     // Nothing read, and nothing written.
@@ -120,13 +126,14 @@ impl Tally {
         requires { ⌜ countsRight self ≡ true ⌝ }
         ensures { λ r. ⌜ r ≡ passedOf self reader bench bytes at ⌝ }
     {
+        let ticks = self.ticks;
         let tally = Tally {
             reader: reader,
             bench: bench,
             lines: self.lines + 1,
             blocks: self.blocks,
             cycles: self.cycles,
-            ticks: self.ticks,
+            ticks: ticks,
         };
         Listed {
             next: at,
@@ -167,13 +174,15 @@ impl Tally {
             end.y,
             bits,
         );
+        let before = self.ticks;
+        let ticks = before.plus(done.ticks);
         let tally = Tally {
             reader: reader,
             bench: bench,
             lines: lines,
             blocks: blocks,
             cycles: self.cycles + done.cycles,
-            ticks: self.ticks + done.ticks,
+            ticks: ticks,
         };
         Listed {
             next: next_place(place, at),
@@ -219,11 +228,11 @@ impl Tally {
 
     // The last row of a job that was read to its end.
     pub fn total(self, out: &mut [u8], at: usize) -> Place
-        ensures buffer { λ r. ⌜ now (out .exit) ≡ bufferAfter (totalLine (self .blocks) (self .cycles) (self .ticks)) (now
-            (out .entry)) at ⌝ }
-        ensures place { λ r. ⌜ r ≡ placeAfter (totalLine (self .blocks) (self .cycles) (self .ticks)) (now (out .entry)) at ⌝ }
-        ensures short { λ r. ⌜ length (totalLine (self .blocks) (self .cycles) (self .ticks)) ≤ lineRoom ⌝ }
+        ensures buffer { λ r. ⌜ now (out .exit) ≡ bufferAfter (totalOf self) (now (out .entry)) at ⌝ }
+        ensures place { λ r. ⌜ r ≡ placeAfter (totalOf self) (now (out .entry)) at ⌝ }
+        ensures short { λ r. ⌜ length (totalOf self) ≤ lineRoom ⌝ }
     {
-        row::lines::total(out, at, self.blocks, self.cycles, self.ticks)
+        let ticks = self.ticks;
+        row::lines::total(out, at, self.blocks, self.cycles, ticks)
     }
 }

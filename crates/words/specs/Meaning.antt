@@ -20,7 +20,8 @@ abbrev pub number : List ℕ → ℕ
 number [] = 0
 number (d ∷ ds) = d * 10 ^ length ds + number ds
 
--- 01: "1 to 7 digits and optionally a point with 1 to 3 digits, in millimetres." X12.5 is 12,500 thousandths, N12 is 12.
+-- 01: "1 to 7 digits and optionally a point with 1 to 3 digits, in millimetres." X12.5 is 12,500 thousandths, N12 is 12; F0.75
+-- is 750 (02 §4).
 abbrev pub magnitudeOf : Letter → (whole decimals : List ℕ) → ℕ
 magnitudeOf l w f = number w * unitOf l + number f * 10 ^ (3 - length f)
 

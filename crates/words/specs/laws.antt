@@ -8,3 +8,4 @@ pub mod Run
 pub mod Scanning
 pub mod Examples
 pub mod Meaning
+pub mod Whole

@@ -62,7 +62,8 @@ pub data Row : Type 0 where
   gives : (q0 f r C tick : ℕ) → Row
   -- the cycles of a block from (0, 0) are charged this, one by one
   charged : Block → (charges : List ℕ) → Row
-  -- at q0 300,000 the working ticks of a block from (0, 0), begun at remainder r, give these bytes, to its end, and leave this remainder
+  -- at q0 300,000,000 the working ticks of a block from (0, 0), begun at remainder r, give these bytes, to its end, and leave this
+  -- remainder
   ticked : Block → (r : ℕ) (bytes : List ℕ) (left : ℕ) → Row
 
 -- the points of a line from (0, 0): n of them, the first after cycle c
@@ -132,7 +133,7 @@ sameNumbers (n ∷ ns) (m ∷ ms) = eqb n m && sameNumbers ns ms
 
 -- so many ticks of the block, at most to its end
 abbrev pub stripFrom : Block → (r n : ℕ) → Strip
-stripFrom b r n = let o = at (pos 0) (pos 0) in stripOf 300000 n o r (workAlong o b (b .path))
+stripFrom b r n = let o = at (pos 0) (pos 0) in stripOf 300000000 n o r (workAlong o b (b .path))
 
 -- blocks loaded one after the other
 unfoldable pub loaded : Machine → List Block → Machine
@@ -187,7 +188,7 @@ abbrev pub halfTurn : Arc
 halfTurn = record { centre = at (pos 0) (pos 5); square = 25; turn = Counterclockwise; end = at (pos 0) (pos 10); feed = 1 }
 
 abbrev pub corner : List Block
-corner = lineBy (at (pos 1) (pos 0)) 200000 ∷ lineBy (at (pos 1) (pos 1)) 200000 ∷ lineBy (at (pos 0) (pos 1)) 200000 ∷ []
+corner = lineBy (at (pos 1) (pos 0)) 200000000 ∷ lineBy (at (pos 1) (pos 1)) 200000000 ∷ lineBy (at (pos 0) (pos 1)) 200000000 ∷ []
 
 unfoldable pub table : List Row
 table =
@@ -224,29 +225,35 @@ table =
     ∷ arc 25 Clockwise (offset (pos 0) (pos 5)) (offset (pos 5) (pos 0))
     (offset (pos 1) (pos 5) ∷ offset (pos 2) (pos 5) ∷ offset (pos 3) (pos 4) ∷ offset (pos 4) (pos 3) ∷ offset (pos 5) (pos 2) ∷ offset
     (pos 5) (pos 1) ∷ offset (pos 5) (pos 0) ∷ [])
-    -- "q0 300,000, r 0, k 1: f 150,000 ends on tick 2, 149,999 on tick 3.": one cycle, charged 1,000
-    ∷ ends 300000 150000 0 1000 1 2
-    ∷ ends 300000 149999 0 1000 1 3
-    ∷ gives 300000 150000 0 1000 2
-    ∷ gives 300000 149999 0 1000 3
+    -- "q0 300,000, r 0, k 1: f 150,000 ends on tick 2, 149,999 on tick 3.": one cycle, charged 1,000. 02 §4: "In 01's worked tick case q0
+    -- and f count a thousandfold.", and a thousandth of a pulse less than half of q0 takes a third tick too
+    ∷ ends 300000000 150000000 0 1000 1 2
+    ∷ ends 300000000 149999000 0 1000 1 3
+    ∷ ends 300000000 149999999 0 1000 1 3
+    ∷ gives 300000000 150000000 0 1000 2
+    ∷ gives 300000000 149999000 0 1000 3
+    -- "f equal to q0 accepted; q0 + 1 gives 11."
+    ∷ load 1000000 (lineBy (at (pos 1) (pos 0)) 300000000) 0
+    ∷ load 1000000 (lineBy (at (pos 1) (pos 0)) 300000001) 11
     -- 02 §2. The first arc of N 25 again, seen from its start: of its seven steps the third, fourth and fifth are diagonal. C = 4 × 1,000 +
-    -- 3 × 1,414 = 8,242. At f 150,000, half of q0, a tick adds 500 q0; the sums of charges, 1,000, 2,000, 3,414, 4,828, 6,242, 7,242,
+    -- 3 × 1,414 = 8,242. At f 150,000,000, half of q0, a tick adds 500 q0; the sums of charges, 1,000, 2,000, 3,414, 4,828, 6,242, 7,242,
     -- 8,242, are reached on the ticks 2, 4, 7, 10, 13, 15, 17, and 17 × 500 - 8,242 = 258 q0 are left.
-    ∷ charged (quarter 150000) (1000 ∷ 1000 ∷ 1414 ∷ 1414 ∷ 1414 ∷ 1000 ∷ 1000 ∷ [])
-    ∷ ends 300000 150000 0 8242 7 17
-    ∷ gives 300000 150000 0 8242 17
-    ∷ ticked (quarter 150000) 0
-    (0 ∷ 20 ∷ 0 ∷ 20 ∷ 0 ∷ 0 ∷ 22 ∷ 0 ∷ 0 ∷ 22 ∷ 0 ∷ 0 ∷ 22 ∷ 0 ∷ 18 ∷ 0 ∷ 50 ∷ []) 77400000
+    ∷ charged (quarter 150000000) (1000 ∷ 1000 ∷ 1414 ∷ 1414 ∷ 1414 ∷ 1000 ∷ 1000 ∷ [])
+    ∷ ends 300000000 150000000 0 8242 7 17
+    ∷ gives 300000000 150000000 0 8242 17
+    ∷ ticked (quarter 150000000) 0
+    (0 ∷ 20 ∷ 0 ∷ 20 ∷ 0 ∷ 0 ∷ 22 ∷ 0 ∷ 0 ∷ 22 ∷ 0 ∷ 0 ∷ 22 ∷ 0 ∷ 18 ∷ 0 ∷ 50 ∷ []) 77400000000
     -- The line (1, 1): its first cycle sends a pulse on both axes, its second none, and each is charged 1,000.
     ∷ charged (lineTo (at (pos 1) (pos 1))) (1000 ∷ 1000 ∷ [])
-    ∷ ticked (lineBy (at (pos 1) (pos 1)) 150000) 0 (0 ∷ 21 ∷ 0 ∷ 48 ∷ []) 0
+    ∷ ticked (lineBy (at (pos 1) (pos 1)) 150000000) 0 (0 ∷ 21 ∷ 0 ∷ 48 ∷ []) 0
     -- The line (3, 0) at f = q0, with a remainder of 1,400 q0, which is sound but which no history leaves: 1,400 + 1,000 × 2 would pay its
     -- 3,000 on tick 2, but a tick does one cycle at most, so it ends on tick 3, and 1,400 q0 are left.
-    ∷ gives 300000 300000 420000000 3000 2
-    ∷ ends 300000 300000 420000000 3000 3 3
-    ∷ ticked (lineBy (at (pos 3) (pos 0)) 300000) 420000000 (17 ∷ 17 ∷ 49 ∷ []) 420000000
-    -- 02 §3. Lines of one pulse each, right, up and left, at f 200,000: a tick adds 200 M, and a cycle is due at 300 M. The first ends on
-    -- tick 2 with 100 M left; with these the second reaches its 300 M on its first tick, and nothing is left for the third.
+    ∷ gives 300000000 300000000 420000000000 3000 2
+    ∷ ends 300000000 300000000 420000000000 3000 3 3
+    ∷ ticked (lineBy (at (pos 3) (pos 0)) 300000000) 420000000000 (17 ∷ 17 ∷ 49 ∷ []) 420000000000
+    -- 02 §3. Lines of one pulse each, right, up and left, at f 200,000,000, two thirds of q0: a tick adds 2 × 10^11, and a cycle is due at
+    -- 3 × 10^11. The first ends on tick 2 with 10^11 left; with these the second reaches its due on its first tick, and nothing is left for
+    -- the third.
     ∷ queued corner [] (at (pos 0) (pos 0)) 2 3
     ∷ queued corner (0 ∷ 49 ∷ []) (at (pos 1) (pos 0)) 1 2
     ∷ queued corner (0 ∷ 49 ∷ 52 ∷ []) (at (pos 1) (pos 1)) 0 1

@@ -18,7 +18,7 @@ use Rattle.work.specs.Work.{isNothing}
 use Rattle.work.specs.computed.Work.{advanceOf}
 use Rattle.run.specs.computed.Run.{Strip, stripOf, written}
 use Rattle.settings.specs.declared.Settings.{Settings}
-use Rattle.settings.specs.Settings.{capacityOf, standardSettings}
+use Rattle.settings.specs.Settings.{feedUnit, capacityOf, standardSettings}
 use Rattle.settings.specs.computed.Settings.{settingsNo}
 use Rattle.bench.specs.declared.Bench.{Bench}
 use Rattle.bench.specs.declared.Answer.{Answer}
@@ -91,7 +91,8 @@ module _ (m : Machine) (b : Block) where
 
   pub load-verdict : Verdict (loadQuestions m b) load-number
   load-verdict =
-      asked (soundOf m) 8 (sound-is m) (λ _. block-verdict (m .bench .settings) (nextStart m) b (ltb (m .queue .len) 16) (fewer-is m))
+      asked (soundOf m) 8 (sound-is m)
+      (λ _. block-verdict (m .bench .settings) (nextStart m) b feedUnit (ltb (m .queue .len) 16) (fewer-is m))
 
   load-by : (sound : Bool) (n : ℕ) → cond sound (loadWith m b n) (answers (Answer.Refused 9) m) ≡ loadWith m b (ask sound n 9)
   load-by true n = refl

@@ -24,7 +24,7 @@ use Rattle.block.specs.laws.Begin.{offset-right, square-some, square-most, star
 use Rattle.work.specs.declared.Work.{Work}
 use Rattle.work.specs.Work.{isNothing}
 use Rattle.settings.specs.declared.Settings.{Settings}
-use Rattle.settings.specs.Settings.{capacityOf}
+use Rattle.settings.specs.Settings.{capacityAt}
 use Rattle.work.specs.laws.Left.{nothing-is}
 use Rattle.demands.specs.Block.{CentreRight, EndOnCircle, pathQuestions, blockQuestions}
 use Rattle.demands.specs.laws.Asked.{Verdict, asked, none-asked}
@@ -65,11 +65,11 @@ module _ (s : Settings) (start : Point) (b : Block) where
       asked (visitsInside (s .travel) (arcAfter a start) (arcCycles a start)) 15 (visits-is (s .travel) a start here there)
       (λ _. none-asked)))
 
-  pub block-verdict : {Room : Type 0} (room : Bool) → (room ≡ true) ↔ Room
-      → Verdict (blockQuestions Room s start b) (loadNo (capacityOf s) (s .travel) room start b)
+  pub block-verdict : {Room : Type 0} (u : ℕ) (room : Bool) → (room ≡ true) ↔ Room
+      → Verdict (blockQuestions u Room s start b) (loadNo (capacityAt u s) (s .travel) room start b)
   unfolding loadNo
-  block-verdict room is =
+  block-verdict u room is =
       asked room 9 is (λ _.
-      asked (feedRight (capacityOf s) (b .feed)) 10 (in-range 1 (capacityOf s) (b .feed)) (λ _.
+      asked (feedRight (capacityAt u s) (b .feed)) 10 (in-range 1 (capacityAt u s) (b .feed)) (λ _.
       asked (insideOf (s .travel) (b .end)) 11 (in-travel (s .travel) (b .end)) (λ _.
       path-verdict (b .path))))

@@ -3,7 +3,7 @@ use mathlib.Core.Path.{_≡_, refl, sym, ap, subst, _∙_}
 use mathlib.Core.Logic.{_⊎_, inl, inr}
 use mathlib.Core.Bool.{Bool, true, false, cond, _&&_}
 use mathlib.Core.List.{List, []}
-use Prim.Native.Nat.{ℕ, zero, suc, _^_, _≤_, _<_}
+use Prim.Native.Nat.{ℕ, zero, suc, _/_, _%_, _^_, _≤_, _<_}
 use borrow.Author.Tests.{leb-true, leb-false, le-leb, ltb-true}
 use lib.Dec.{leb, ltb}
 use native.Mathlib.Omega.{arith}
@@ -15,6 +15,7 @@ use Rattle.block.specs.declared.Block.{Block}
 use Rattle.queue.specs.Queue.{emptyQueue}
 use Rattle.run.specs.computed.Run.{written}
 use Rattle.settings.specs.declared.Settings.{Settings}
+use Rattle.settings.specs.Settings.{feedUnit}
 use Rattle.settings.specs.computed.Settings.{settingsNo}
 use Rattle.bench.specs.declared.Answer.{Answer}
 use Rattle.bench.specs.declared.Tick.{Tick}
@@ -69,13 +70,13 @@ use Rattle.demands.specs.Asked.{AllYes}
 use Rattle.demands.specs.Questions.{nextStart, lineQuestions, makesBlock, lineBlock}
 use Rattle.demands.specs.Answers.{readReply}
 use Rattle.demands.specs.FromC.{Own, Carries, NoRecord, OnWords, RunOnWords, TickedWords, LookOnWords, MadeWords}
-use Rattle.demands.specs.FromC.{FeedOf32, NotKnown, LineOnWords, EveryCallFromC}
+use Rattle.demands.specs.FromC.{FeedWritten, NotKnown, LineOnWords, EveryCallFromC}
 use Rattle.demands.specs.laws.Sound.{sound-is}
 use Rattle.demands.specs.laws.Answers.{load-answers, tick-answers, run-answers}
 use Rattle.demands.specs.laws.TextLine.{line-answers, line-taken}
 use Rattle.demands.specs.laws.Carried.{carries-sound, carries-it, carried, carries-told, unsound-words}
 use Rattle.demands.specs.laws.Carried.{run-blanks}
-use Rattle.job.specs.computed.Listing.{listingOf}
+use Rattle.job.specs.computed.Listing.{listingAt}
 use Rattle.demands.specs.laws.CheckFromC.{started, from-words, check-fills, no-check-fills}
 
 -- ---- the calls
@@ -334,28 +335,29 @@ made-words s before n after h =
 -- ---- a line of a job text
 
 -- what is known, and its words
-feed-32 : (z : ℤ) → FeedOf32 (feedRead z)
-feed-32 (negsuc n) = tt
-feed-32 (pos f) = by (ltb f (2 ^ 32)) refl
+feed-written : (z : ℤ) → FeedWritten (feedRead z)
+feed-written (negsuc n) = tt
+feed-written (pos f) = by (ltb f (10 ^ 10)) refl
   where
-    by : (small : Bool) → ltb f (2 ^ 32) ≡ small → FeedOf32 (cond small (Feed.Known f) Feed.Unknown)
-    by true e = ltb-true f (2 ^ 32) e
+    by : (small : Bool) → ltb f (10 ^ 10) ≡ small → FeedWritten (cond small (Feed.Known (f / 1000) (f % 1000)) Feed.Unknown)
+    by true e = let few = ltb-true f (10 ^ 10) e in (omega arith, omega arith)
     by false e = tt
 
 known-words : (ks : List ℤ) → decodeKnown ks .ok ≡ true → ks ≡ encodeKnown (decodeKnown ks .reader)
 unfolding decodeKnown
 known-words ks t = same-true ks (encodeKnown (readerOf (knownIn ks))) t
 
-known-told : (ks : List ℤ) (k : Reader) → FeedOf32 (k .feed) → ks ≡ encodeKnown k → decodeKnown ks ≡ record { ok = true; reader = k }
+known-told : (ks : List ℤ) (k : Reader) → FeedWritten (k .feed) → ks ≡ encodeKnown k → decodeKnown ks ≡ record { ok = true; reader = k }
 known-told ks k f e = ap decodeKnown e ∙ known-decode k (fits (k .feed) f)
   where
-    fits : (f : Feed) → FeedOf32 f → FeedFits f
+    fits : (f : Feed) → FeedWritten f → FeedFits f
     fits Feed.Unknown h = h
-    fits (Feed.Known n) h = h
+    fits (Feed.Known m t) h = h
 
 nothing-known : (ks : List ℤ) → NotKnown ks → decodeKnown ks .ok ≡ false
 unfolding decodeKnown
-nothing-known ks none = refuted (decodeKnown ks .ok) (λ t. none (decodeKnown ks .reader) (feed-32 (knownIn ks .feed)) (known-words ks t))
+nothing-known ks none =
+    refuted (decodeKnown ks .ok) (λ t. none (decodeKnown ks .reader) (feed-written (knownIn ks .feed)) (known-words ks t))
 
 -- a width that was answered, and whether one was
 abbrev bitsOf : Read → ℕ
@@ -371,7 +373,7 @@ isLoaded (Read.Refused number) = 0
 -- a line whose answer is a width has loaded a block of that width
 loaded-width : (k : Reader) (m : Machine) (line : RefT (List ℕ)) {bits : ℕ} → readLineOf k m (now line) .answer ≡ Read.Loaded bits
     → bits < 2 ^ 63
-loaded-width k m line {bits} e = by (makesBlock k (m .bench .settings .scale) (nextStart m) l) refl
+loaded-width k m line {bits} e = by (makesBlock feedUnit k (m .bench .settings .scale) (nextStart m) l) refl
   where
     l : Line
     l = meaningOf (now line)
@@ -385,12 +387,12 @@ loaded-width k m line {bits} e = by (makesBlock k (m .bench .settings .scale) (n
     all : AllYes (lineQuestions k m (now line) l)
     all = line-answers ([], tt) k m line r refl l (meaning-means (now line)) .accepted .0 not-refused
 
-    by : (block : Bool) → makesBlock k (m .bench .settings .scale) (nextStart m) l ≡ block → bits < 2 ^ 63
+    by : (block : Bool) → makesBlock feedUnit k (m .bench .settings .scale) (nextStart m) l ≡ block → bits < 2 ^ 63
     by true b =
         let t = line-taken ([], tt) k m line r refl l (meaning-means (now line)) all .block b in
         let width = ap bitsOf (sym (ap (λ (x : ReadLine). x .answer) (t .4)) ∙ e) in
         subst (λ (w : ℕ). w < 2 ^ 63) width
-        (width-word m (sound-is m .1 (all .0)) (lineBlock k (m .bench .settings .scale) (nextStart m) l)
+        (width-word m (sound-is m .1 (all .0)) (lineBlock feedUnit k (m .bench .settings .scale) (nextStart m) l)
         (ap (λ (x : Answered). x .answer) (sym (t .2)) ∙ t .3))
     by false b =
         let t = line-taken ([], tt) k m line r refl l (meaning-means (now line)) all .no-block b in
@@ -476,7 +478,7 @@ module _ (before known : List ℤ) (line : RefT (List ℕ)) (n : ℤ) (after kno
 -- ---- the claim
 
 pub every-call-from-c : EveryCallFromC
-unfolding listingOf
+unfolding listingAt
 every-call-from-c =
     record {
       make = λ κs words words′ p w xlo xhi ylo yhi n h. made-words _ (now words) n (now words′) h;

@@ -14,7 +14,7 @@ use Rattle.block.specs.computed.Chain.{chainAccepted}
 use Rattle.queue.specs.declared.Waiting.{Waiting}
 use Rattle.queue.specs.computed.Queue.{rootsRight}
 use Rattle.settings.specs.declared.Settings.{Settings}
-use Rattle.settings.specs.Settings.{capacityOf}
+use Rattle.settings.specs.Settings.{feedUnit, capacityOf}
 use Rattle.machine.specs.declared.Machine.{Machine}
 use Rattle.machine.specs.Machine.{toDo}
 use Rattle.machine.specs.computed.Machine.{soundOf}
@@ -31,7 +31,7 @@ accepted-is : (s : Settings) (start : Point) (l : List Block)
 unfolding chainAccepted
 accepted-is s start [] = (λ e. tt, λ a. refl)
 accepted-is s start (b ∷ l) =
-    let first = passed (block-verdict s start b true (λ e. tt, λ u. refl)) in
+    let first = passed (block-verdict s start b feedUnit true (λ e. tt, λ u. refl)) in
     let later = accepted-is s (endAfter start b) l in (
       λ e. let r = both {a = eqb (loadNo (capacityOf s) (s .travel) true start b) 0} e in (first .0 (eqb-true _ 0 (r .0)), later .0 (r .1)),
       λ a. joined (eq-eqb _ 0 (first .1 (a .0))) (later .1 (a .1)),

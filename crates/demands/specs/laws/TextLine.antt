@@ -16,7 +16,7 @@ use Rattle.block.specs.declared.Block.{Block}
 use Rattle.whole.specs.Ask.{ask}
 use Rattle.block.specs.Questions.{loadNo}
 use Rattle.settings.specs.declared.Settings.{Settings}
-use Rattle.settings.specs.Settings.{capacityOf}
+use Rattle.settings.specs.Settings.{feedUnit, capacityAt, capacityOf}
 use Rattle.machine.specs.declared.Machine.{Machine}
 use Rattle.machine.specs.computed.Machine.{soundOf}
 use Rattle.machine.specs.computed.Calls.{loadWith, loadOf}
@@ -32,7 +32,7 @@ use Rattle.reader.specs.declared.Reader.{Reader}
 use Rattle.reader.specs.declared.asked.ToLoad.{ToLoad}
 use Rattle.reader.specs.declared.«text_line».Read.{Read}
 use Rattle.reader.specs.computed.Reader.{longestLine, motionRight, onPulse, allOnPulse, allKnown, centreRight, lineNo}
-use Rattle.reader.specs.Reader.{readerAfter, endStands, centreStands, moving, isArc, blockOf}
+use Rattle.reader.specs.Reader.{readerAfter, endStands, centreStands, moving, isArc, blockAt}
 use Rattle.reader.specs.computed.Asked.{askedWith, askedOf}
 use Rattle.reader.specs.Reader.{goesNowhere}
 use Rattle.textline.specs.declared.ReadLine.{ReadLine}
@@ -169,22 +169,22 @@ block-asked true false v = v
 block-asked true true v = none-asked
 block-asked false stays v = none-asked
 
-pub text-verdict : {Room : Type 0} (room : Bool) → (room ≡ true) ↔ Room → (k : Reader) (s : Settings) (start : Point) (bytes : List ℕ)
-    (l : Line) → Means bytes l
-    → (let b = lineBlock k (s .scale) start l in
-    Verdict (textQuestions Room k s start bytes l)
+pub text-verdict : {Room : Type 0} (u : ℕ) (room : Bool) → (room ≡ true) ↔ Room → (k : Reader) (s : Settings) (start : Point)
+    (bytes : List ℕ) (l : Line) → Means bytes l
+    → (let b = lineBlock u k (s .scale) start l in
+    Verdict (textQuestions u Room k s start bytes l)
     (orElse (lineNo (s .scale) (readerAfter k (l .words)) (length bytes) l)
-    (blockNumber (moving (l .words)) (goesNowhere (b .end) start (b .path)) (loadNo (capacityOf s) (s .travel) room start b))))
-text-verdict room is k s start bytes l means =
-    let b = lineBlock k (s .scale) start l in
+    (blockNumber (moving (l .words)) (goesNowhere (b .end) start (b .path)) (loadNo (capacityAt u s) (s .travel) room start b))))
+text-verdict u room is k s start bytes l means =
+    let b = lineBlock u k (s .scale) start l in
     then-asked (word-verdict (readerAfter k (l .words)) (s .scale) bytes l means)
-    (block-asked (moving (l .words)) (goesNowhere (b .end) start (b .path)) (block-verdict s start b room is))
+    (block-asked (moving (l .words)) (goesNowhere (b .end) start (b .path)) (block-verdict s start b u room is))
 
 -- ---- the answer
 
 module _ (k k′ : Reader) (m : Machine) (ws : Words) where
   abbrev b : Block
-  b = blockOf (m .bench .settings .scale) k′ ws (nextStart m)
+  b = blockAt feedUnit (m .bench .settings .scale) k′ ws (nextStart m)
 
   abbrev loadNumber : ℕ
   loadNumber = loadNo (capacityOf (m .bench .settings)) (m .bench .settings .travel) (ltb (m .queue .len) 16) (nextStart m) b
@@ -232,7 +232,7 @@ unfolding askedOf
 line-answers κs k m bytes r h l means =
     rw (h ∙ read-means k m (now bytes) l means)
     (by (soundOf m) refl
-    (asked (soundOf m) 8 (sound-is m) (λ _. text-verdict _ (fewer-is m) k (m .bench .settings) (nextStart m) (now bytes) l means)))
+    (asked (soundOf m) 8 (sound-is m) (λ _. text-verdict feedUnit _ (fewer-is m) k (m .bench .settings) (nextStart m) (now bytes) l means)))
   where
     ws : Words
     ws = l .words
@@ -319,7 +319,7 @@ line-taken κs k m bytes r h l means all =
     sound = sound-is m .1 (all .0)
 
     none : orElse number (blockNumber moves stays load) ≡ 0
-    none = passed (text-verdict _ (fewer-is m) k (m .bench .settings) (nextStart m) (now bytes) l means) .1 (all .1)
+    none = passed (text-verdict feedUnit _ (fewer-is m) k (m .bench .settings) (nextStart m) (now bytes) l means) .1 (all .1)
 
     is : r ≡ lineBy k k′ m ws number moves stays load
     is =

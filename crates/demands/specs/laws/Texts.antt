@@ -16,7 +16,7 @@ use Rattle.block.specs.Block.{arcOf}
 use Rattle.block.specs.laws.Begin.{offset-right, start-on}
 use Rattle.block.specs.Questions.{loadNo}
 use Rattle.settings.specs.declared.Settings.{Settings}
-use Rattle.settings.specs.Settings.{capacityOf}
+use Rattle.settings.specs.Settings.{feedUnit, capacityAt}
 use Rattle.book.specs.Ledger.{CountedAlong}
 use Rattle.book.specs.laws.Counts.{counted-arc}
 use Rattle.words.specs.declared.line.Line.{Line}
@@ -30,9 +30,9 @@ use Rattle.reader.specs.Reader.{goesNowhere}
 use Rattle.job.specs.declared.Stage.{Stage}
 use Rattle.job.specs.declared.Check.{Check}
 use Rattle.job.specs.Text.{linesOf}
-use Rattle.job.specs.computed.Job.{Asks, loadAsks, wordsAsk, lineAsks, readOn, jobFrom, jobOf}
+use Rattle.job.specs.computed.Job.{Asks, loadAsks, wordsAsk, lineAsks, readOn, jobFromAt, jobAt}
 use Rattle.job.specs.Job.{Made, End, Job}
-use Rattle.job.specs.computed.Listing.{listingOf}
+use Rattle.job.specs.computed.Listing.{listingAt}
 use Rattle.job.specs.Check.{stageOver, isOver}
 use Rattle.job.specs.computed.Check.{restAt, restOf}
 use Rattle.job.specs.laws.Asks.{asks-means}
@@ -49,33 +49,33 @@ use Rattle.demands.specs.laws.TextLine.{blockNumber, text-verdict}
 -- ---- one line
 
 -- what a line asks, by its questions
-data Says (s : Settings) (at : Point) (k : Reader) (bytes : List ℕ) (l : Line) : Asks → Type 0 where
-  refuses : (number : ℕ) → FirstNo (textQuestions (Unit {0}) k s at bytes l) number → Says s at k bytes l (Asks.refuses number)
-  nothing : AllYes (textQuestions (Unit {0}) k s at bytes l) → makesBlock k (s .scale) at l ≡ false
-      → Says s at k bytes l (Asks.nothing (readerAfter k (l .words)))
-  makes : AllYes (textQuestions (Unit {0}) k s at bytes l) → makesBlock k (s .scale) at l ≡ true
-      → Says s at k bytes l (Asks.makes (readerAfter k (l .words)) (lineBlock k (s .scale) at l))
+data Says (u : ℕ) (s : Settings) (at : Point) (k : Reader) (bytes : List ℕ) (l : Line) : Asks → Type 0 where
+  refuses : (number : ℕ) → FirstNo (textQuestions u (Unit {0}) k s at bytes l) number → Says u s at k bytes l (Asks.refuses number)
+  nothing : AllYes (textQuestions u (Unit {0}) k s at bytes l) → makesBlock u k (s .scale) at l ≡ false
+      → Says u s at k bytes l (Asks.nothing (readerAfter k (l .words)))
+  makes : AllYes (textQuestions u (Unit {0}) k s at bytes l) → makesBlock u k (s .scale) at l ≡ true
+      → Says u s at k bytes l (Asks.makes (readerAfter k (l .words)) (lineBlock u k (s .scale) at l))
 
 -- they settle it
-says-once : (s : Settings) (at : Point) (k : Reader) (bytes : List ℕ) (l : Line) {a c : Asks} → Says s at k bytes l a
-    → Says s at k bytes l c → a ≡ c
-says-once s at k bytes l (Says.refuses n f) (Says.refuses m g) =
-    ap Asks.refuses (first-once (textQuestions (Unit {0}) k s at bytes l) n m f g)
-says-once s at k bytes l (Says.refuses n f) (Says.nothing y e) = absurd (not-both (textQuestions (Unit {0}) k s at bytes l) n y f)
-says-once s at k bytes l (Says.refuses n f) (Says.makes y e) = absurd (not-both (textQuestions (Unit {0}) k s at bytes l) n y f)
-says-once s at k bytes l (Says.nothing y e) (Says.refuses n f) = absurd (not-both (textQuestions (Unit {0}) k s at bytes l) n y f)
-says-once s at k bytes l (Says.nothing y e) (Says.nothing z g) = refl
-says-once s at k bytes l (Says.nothing y e) (Says.makes z g) = absurd (false≢true (sym e ∙ g))
-says-once s at k bytes l (Says.makes y e) (Says.refuses n f) = absurd (not-both (textQuestions (Unit {0}) k s at bytes l) n y f)
-says-once s at k bytes l (Says.makes y e) (Says.nothing z g) = absurd (true≢false (sym e ∙ g))
-says-once s at k bytes l (Says.makes y e) (Says.makes z g) = refl
+says-once : (u : ℕ) (s : Settings) (at : Point) (k : Reader) (bytes : List ℕ) (l : Line) {a c : Asks} → Says u s at k bytes l a
+    → Says u s at k bytes l c → a ≡ c
+says-once u s at k bytes l (Says.refuses n f) (Says.refuses m g) =
+    ap Asks.refuses (first-once (textQuestions u (Unit {0}) k s at bytes l) n m f g)
+says-once u s at k bytes l (Says.refuses n f) (Says.nothing y e) = absurd (not-both (textQuestions u (Unit {0}) k s at bytes l) n y f)
+says-once u s at k bytes l (Says.refuses n f) (Says.makes y e) = absurd (not-both (textQuestions u (Unit {0}) k s at bytes l) n y f)
+says-once u s at k bytes l (Says.nothing y e) (Says.refuses n f) = absurd (not-both (textQuestions u (Unit {0}) k s at bytes l) n y f)
+says-once u s at k bytes l (Says.nothing y e) (Says.nothing z g) = refl
+says-once u s at k bytes l (Says.nothing y e) (Says.makes z g) = absurd (false≢true (sym e ∙ g))
+says-once u s at k bytes l (Says.makes y e) (Says.refuses n f) = absurd (not-both (textQuestions u (Unit {0}) k s at bytes l) n y f)
+says-once u s at k bytes l (Says.makes y e) (Says.nothing z g) = absurd (true≢false (sym e ∙ g))
+says-once u s at k bytes l (Says.makes y e) (Says.makes z g) = refl
 
-module _ (s : Settings) (at : Point) (k : Reader) (bytes : List ℕ) (l : Line) (means : Means bytes l) where
+module _ (u : ℕ) (s : Settings) (at : Point) (k : Reader) (bytes : List ℕ) (l : Line) (means : Means bytes l) where
   abbrev after : Reader
   after = readerAfter k (l .words)
 
   abbrev b : Block
-  b = lineBlock k (s .scale) at l
+  b = lineBlock u k (s .scale) at l
 
   -- what the line asks, by its numbers
   abbrev asksBy : (number : ℕ) (moves stays : Bool) (load : ℕ) → Asks
@@ -83,81 +83,81 @@ module _ (s : Settings) (at : Point) (k : Reader) (bytes : List ℕ) (l : Line) 
   asksBy zero moves stays load = cond moves (cond stays (Asks.nothing after) (loadAsks after b load)) (Asks.nothing after)
 
   asks-are : (number : ℕ)
-      → wordsAsk s at after (l .words) number ≡ asksBy number (moving (l .words)) (goesNowhere (b .end) at (b .path))
-      (loadNo (capacityOf s) (s .travel) true at b)
+      → wordsAsk u s at after (l .words) number ≡ asksBy number (moving (l .words)) (goesNowhere (b .end) at (b .path))
+      (loadNo (capacityAt u s) (s .travel) true at b)
   asks-are zero = refl
   asks-are (suc number) = refl
 
-  says-by : (number : ℕ) (moves stays : Bool) (load : ℕ) → makesBlock k (s .scale) at l ≡ isBlock moves stays
-      → Verdict (textQuestions (Unit {0}) k s at bytes l) (orElse number (blockNumber moves stays load))
-      → Says s at k bytes l (asksBy number moves stays load)
+  says-by : (number : ℕ) (moves stays : Bool) (load : ℕ) → makesBlock u k (s .scale) at l ≡ isBlock moves stays
+      → Verdict (textQuestions u (Unit {0}) k s at bytes l) (orElse number (blockNumber moves stays load))
+      → Says u s at k bytes l (asksBy number moves stays load)
   says-by (suc number) moves stays load e v = Says.refuses (suc number) (v .told)
   says-by zero true true load e v = Says.nothing (v .told) e
   says-by zero true false zero e v = Says.makes (v .told) e
   says-by zero true false (suc load) e v = Says.refuses (suc load) (v .told)
   says-by zero false stays load e v = Says.nothing (v .told) e
 
-  line-says : Says s at k bytes l (lineAsks s at k bytes)
+  line-says : Says u s at k bytes l (lineAsks u s at k bytes)
   line-says =
       let number = lineNo (s .scale) after (length bytes) l in
       let moves = moving (l .words) in
       let stays = goesNowhere (b .end) at (b .path) in
-      subst (Says s at k bytes l) (sym (asks-means s at k bytes l means ∙ asks-are number))
-      (says-by number moves stays (loadNo (capacityOf s) (s .travel) true at b) refl
-      (text-verdict true (λ _. tt, λ _. refl) k s at bytes l means))
+      subst (Says u s at k bytes l) (sym (asks-means u s at k bytes l means ∙ asks-are number))
+      (says-by number moves stays (loadNo (capacityAt u s) (s .travel) true at b) refl
+      (text-verdict u true (λ _. tt, λ _. refl) k s at bytes l means))
 
 -- ---- the lines of a text
 
-module _ (s : Settings) (n : ℕ) (at : Point) (k : Reader) (bytes : List ℕ) (lines : List (List ℕ)) where
+module _ (u : ℕ) (s : Settings) (n : ℕ) (at : Point) (k : Reader) (bytes : List ℕ) (lines : List (List ℕ)) where
   abbrev Rest : Type 0
-  Rest = (at : Point) (k : Reader) → (let j = jobFrom s (n + 1) at k lines in LinesMean s (n + 1) at k lines (j .blocks) (j .end))
+  Rest = (at : Point) (k : Reader) → (let j = jobFromAt u s (n + 1) at k lines in LinesMean u s (n + 1) at k lines (j .blocks) (j .end))
 
-  line-means-job : Rest → (l : Line) → Means bytes l → (a : Asks) → Says s at k bytes l a
-      → (let j = readOn n at a (λ at′ k′. jobFrom s (n + 1) at′ k′ lines) in LinesMean s n at k (bytes ∷ lines) (j .blocks) (j .end))
+  line-means-job : Rest → (l : Line) → Means bytes l → (a : Asks) → Says u s at k bytes l a
+      → (let j = readOn n at a (λ at′ k′. jobFromAt u s (n + 1) at′ k′ lines) in LinesMean u s n at k (bytes ∷ lines) (j .blocks) (j .end))
   line-means-job rest l means _ (Says.refuses number f) = LinesMean.refused l means number f
   line-means-job rest l means _ (Says.nothing y e) = LinesMean.nothing l means y e (rest at (readerAfter k (l .words)))
   line-means-job rest l means _ (Says.makes y e) =
-      LinesMean.block l means y e (rest (lineBlock k (s .scale) at l .end) (readerAfter k (l .words)))
+      LinesMean.block l means y e (rest (lineBlock u k (s .scale) at l .end) (readerAfter k (l .words)))
 
-lines-mean : (s : Settings) (n : ℕ) (at : Point) (k : Reader) (lines : List (List ℕ))
-    → (let j = jobFrom s n at k lines in LinesMean s n at k lines (j .blocks) (j .end))
-unfolding jobFrom
-lines-mean s n at k [] = LinesMean.over
-lines-mean s n at k (bytes ∷ lines) =
-    line-means-job s n at k bytes lines (λ at k. lines-mean s (n + 1) at k lines) (meaningOf bytes) (meaning-means bytes)
-    (lineAsks s at k bytes)
-    (line-says s at k bytes (meaningOf bytes) (meaning-means bytes))
+lines-mean : (u : ℕ) (s : Settings) (n : ℕ) (at : Point) (k : Reader) (lines : List (List ℕ))
+    → (let j = jobFromAt u s n at k lines in LinesMean u s n at k lines (j .blocks) (j .end))
+unfolding jobFromAt
+lines-mean u s n at k [] = LinesMean.over
+lines-mean u s n at k (bytes ∷ lines) =
+    line-means-job u s n at k bytes lines (λ at k. lines-mean u s (n + 1) at k lines) (meaningOf bytes) (meaning-means bytes)
+    (lineAsks u s at k bytes)
+    (line-says u s at k bytes (meaningOf bytes) (meaning-means bytes))
 
 -- no other job
-lines-once : (s : Settings) {n : ℕ} {at : Point} {k : Reader} {lines : List (List ℕ)} {made : List Made} {end : End}
-    → LinesMean s n at k lines made end
-    → jobFrom s n at k lines ≡ record { blocks = made; end = end }
-unfolding jobFrom
-lines-once s LinesMean.over = refl
-lines-once s {at = at} {k = k} (LinesMean.refused {bytes = bytes} l means number f) =
-    rw (says-once s at k bytes l (line-says s at k bytes l means) (Says.refuses number f))
-lines-once s {at = at} {k = k} (LinesMean.nothing {bytes = bytes} l means y e later) =
-    rw (says-once s at k bytes l (line-says s at k bytes l means) (Says.nothing y e)) (lines-once s later)
-lines-once s {at = at} {k = k} (LinesMean.block {bytes = bytes} l means y e later) =
-    rw (says-once s at k bytes l (line-says s at k bytes l means) (Says.makes y e), lines-once s later)
+lines-once : (u : ℕ) (s : Settings) {n : ℕ} {at : Point} {k : Reader} {lines : List (List ℕ)} {made : List Made} {end : End}
+    → LinesMean u s n at k lines made end
+    → jobFromAt u s n at k lines ≡ record { blocks = made; end = end }
+unfolding jobFromAt
+lines-once u s LinesMean.over = refl
+lines-once u s {at = at} {k = k} (LinesMean.refused {bytes = bytes} l means number f) =
+    rw (says-once u s at k bytes l (line-says u s at k bytes l means) (Says.refuses number f))
+lines-once u s {at = at} {k = k} (LinesMean.nothing {bytes = bytes} l means y e later) =
+    rw (says-once u s at k bytes l (line-says u s at k bytes l means) (Says.nothing y e)) (lines-once u s later)
+lines-once u s {at = at} {k = k} (LinesMean.block {bytes = bytes} l means y e later) =
+    rw (says-once u s at k bytes l (line-says u s at k bytes l means) (Says.makes y e), lines-once u s later)
 
-module _ (s : Settings) (text : List ℕ) where
-  text-means : (let j = jobOf s text in TextMeans s text (j .blocks) (j .end))
-  unfolding jobOf
+module _ (u : ℕ) (s : Settings) (text : List ℕ) where
+  text-means : (let j = jobAt u s text in TextMeans u s text (j .blocks) (j .end))
+  unfolding jobAt
   text-means = by (leb (length text) longestText) refl
     where
       by : (short : Bool) → leb (length text) longestText ≡ short
-          → (let j = cond short (jobFrom s 1 (record { x = pos 0; y = pos 0 }) unknown (linesOf text))
+          → (let j = cond short (jobFromAt u s 1 (record { x = pos 0; y = pos 0 }) unknown (linesOf text))
           (record { blocks = []; end = End.refused 1 30 }) in
-          TextMeans s text (j .blocks) (j .end))
+          TextMeans u s text (j .blocks) (j .end))
       by true e = TextMeans.read (leb-true (length text) longestText e)
-          (lines-mean s 1 (record { x = pos 0; y = pos 0 }) unknown (linesOf text))
+          (lines-mean u s 1 (record { x = pos 0; y = pos 0 }) unknown (linesOf text))
       by false e = TextMeans.long (leb-false (length text) longestText e)
 
-  text-once : {made : List Made} {end : End} → TextMeans s text made end → jobOf s text ≡ record { blocks = made; end = end }
-  unfolding jobOf
+  text-once : {made : List Made} {end : End} → TextMeans u s text made end → jobAt u s text ≡ record { blocks = made; end = end }
+  unfolding jobAt
   text-once (TextMeans.long h) = rw (lt-leb (length text) longestText h)
-  text-once (TextMeans.read h lines) = rw (le-leb (length text) longestText h) (lines-once s lines)
+  text-once (TextMeans.read h lines) = rw (le-leb (length text) longestText h) (lines-once u s lines)
 
 -- ---- the listing
 
@@ -193,30 +193,30 @@ path-counted s start b (Path.Arc turn centre) all =
     let right = offset-right centre (centre-is centre .1 (all .0)) in
     counted-arc start b turn centre (on-circle-to _ _ (start-on start centre right) .circle) (all .1 .0)
 
-lines-counted : (s : Settings) {n : ℕ} {at : Point} {k : Reader} {lines : List (List ℕ)} {made : List Made} {end : End}
-    → LinesMean s n at k lines made end → EveryCounted made
-lines-counted s LinesMean.over = tt
-lines-counted s (LinesMean.refused l means number f) = tt
-lines-counted s (LinesMean.nothing l means y e later) = lines-counted s later
-lines-counted s {at = at} {k = k} (LinesMean.block {bytes = bytes} l means y e later) =
-    let b = lineBlock k (s .scale) at l in
+lines-counted : (u : ℕ) (s : Settings) {n : ℕ} {at : Point} {k : Reader} {lines : List (List ℕ)} {made : List Made} {end : End}
+    → LinesMean u s n at k lines made end → EveryCounted made
+lines-counted u s LinesMean.over = tt
+lines-counted u s (LinesMean.refused l means number f) = tt
+lines-counted u s (LinesMean.nothing l means y e later) = lines-counted u s later
+lines-counted u s {at = at} {k = k} (LinesMean.block {bytes = bytes} l means y e later) =
+    let b = lineBlock u k (s .scale) at l in
     let words = wordQuestions (readerAfter k (l .words)) (s .scale) bytes l in
-    let yes-all = block-yes words (makesBlock k (s .scale) at l) (blockQuestions (Unit {0}) s at b) e y in
-    (path-counted s at b (b .path) (yes-all .1 .1 .1), lines-counted s later)
+    let yes-all = block-yes words (makesBlock u k (s .scale) at l) (blockQuestions u (Unit {0}) s at b) e y in
+    (path-counted s at b (b .path) (yes-all .1 .1 .1), lines-counted u s later)
 
-text-counted : (s : Settings) (text : List ℕ) {made : List Made} {end : End} → TextMeans s text made end → EveryCounted made
-text-counted s text (TextMeans.long h) = tt
-text-counted s text (TextMeans.read h lines) = lines-counted s lines
+text-counted : (u : ℕ) (s : Settings) (text : List ℕ) {made : List Made} {end : End} → TextMeans u s text made end → EveryCounted made
+text-counted u s text (TextMeans.long h) = tt
+text-counted u s text (TextMeans.read h lines) = lines-counted u s lines
 
 pub every-text : EveryText
-unfolding listingOf
+unfolding listingAt
 every-text =
     record {
-      means = λ s text made end. (
-        text-once s text,
-        λ e. subst (λ (j : Job). TextMeans s text (j .blocks) (j .end)) e (text-means s text),
+      means = λ u s text made end. (
+        text-once u s text,
+        λ e. subst (λ (j : Job). TextMeans u s text (j .blocks) (j .end)) e (text-means u s text),
       );
-      counts = λ s text. text-counted s text (text-means s text);
+      counts = λ s text. text-counted feedUnit s text (text-means feedUnit s text);
       fill = λ κs c text out out′ f h. record { fits = h .room; later = h .later; progress = h .onward };
       listing = λ s pass c e text bytes d rows.
           record {

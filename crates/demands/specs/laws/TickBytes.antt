@@ -26,7 +26,7 @@ use Rattle.machine.specs.Machine.{machineOf}
 use Rattle.machine.specs.Calls.{answers}
 use Rattle.machine.specs.laws.Alone.{alone, alone-sound, next-alone, load-alone}
 use Rattle.run.specs.laws.Strip.{end-tick}
-use Rattle.finish.specs.computed.Finish.{lastTickOf}
+use Rattle.finish.specs.computed.Finish.{lastTickOf, finishOf}
 use Rattle.finish.specs.declared.Finished.{Finished}
 use Rattle.finish.specs.laws.Record.{AtWork, AtRest, at-work, finishes, ticks-most}
 use Rattle.finish.specs.laws.Loaded.{loaded-at-work}
@@ -35,7 +35,7 @@ use Rattle.reader.specs.declared.«text_line».ReadLine.{ReadLine}
 use Rattle.reader.specs.computed.Reader.{longestText}
 use Rattle.reader.specs.Reader.{unknown}
 use Rattle.job.specs.Text.{linesOf}
-use Rattle.job.specs.computed.Job.{Asks, readOn, jobFrom, jobOf}
+use Rattle.job.specs.computed.Job.{Asks, readOn, jobFromAt, jobAt, jobFrom, jobOf}
 use Rattle.job.specs.Job.{Made, End}
 use Rattle.job.specs.computed.Check.{enough}
 use Rattle.job.specs.computed.Check.{unless}
@@ -47,25 +47,31 @@ use Rattle.stream.specs.computed.Stream.{runThen, isRefused, bytesFrom, tickByt
 use Rattle.stream.specs.laws.Pieces.{runs, still-idle, nothing-left}
 use Rattle.stream.specs.laws.Told.{stream-tells, bytes-told}
 use Rattle.demands.specs.Runs.{TicksTo}
-use Rattle.demands.specs.TickBytes.{BlocksTick, JobBytes, BytesOut, EveryTickByte}
+use Rattle.demands.specs.Texts.{FrontOf}
+use Rattle.demands.specs.TickBytes.{BlocksTick, JobBytes, StartsStream, BytesOut, EveryTickByte}
 use Rattle.demands.specs.laws.Bench.{settings-pass}
 use Rattle.demands.specs.laws.Runs.{strip-counts, strip-ticks}
 
 -- ---- a run to the block's end, tick by tick
 
 -- at a machine in which none waits
-record ToEnd (m : Bench) (x : Run) : Type 0 where
-  ticks : TicksTo (alone m) (x .bytes) (alone (x .ran .bench))
-  many : length (x .bytes) ≡ lastTickOf m
+pub record ToEnd (m : Bench) (x : Run) : Type 0 where
+  pub ticks : TicksTo (alone m) (x .bytes) (alone (x .ran .bench))
+  pub many : length (x .bytes) ≡ lastTickOf m
+  pub finishes : length (x .bytes) ≡ finishOf m .ticks
 
-run-to-end : (m : Bench) → AtWork m → ToEnd m (runOf m enough enough)
+pub run-to-end : (m : Bench) → AtWork m → ToEnd m (runOf m enough enough)
 unfolding machineOf
 run-to-end m a =
     let c = strip-counts enough (lastTickOf m) (at-work a) (end-tick (at-work a)) in
     let finished = ap (λ (f : Finished). f .ticks) (finishes m a) in
     let ticks = strip-ticks enough (alone m) (alone-sound m ∙ a .sound) a in
     subst (ToEnd m) (sym (runs m a enough enough))
-    (record { ticks = subst (TicksTo (alone m) _) (next-alone _) ticks; many = omega (arith, c .ticks, ticks-most m, finished) })
+    (record {
+      ticks = subst (TicksTo (alone m) _) (next-alone _) ticks;
+      many = omega (arith, c .ticks, ticks-most m, finished);
+      finishes = omega (arith, c .ticks, ticks-most m, finished);
+    })
 
 -- ---- the blocks of a job
 
@@ -104,13 +110,13 @@ by-line m n k ls i rest (Read-as.makes known b ok) =
 by-line m n k ls i rest (Read-as.refuses number) = BlocksTick.none
 
 lines-tick : (ls : List (List ℕ)) → Ticked ls
-unfolding bytesFrom jobFrom
+unfolding bytesFrom jobFromAt
 lines-tick [] n m k i = BlocksTick.none
 lines-tick (l ∷ ls) n m k i = by-line m n k ls i (lines-tick ls) (line-asks m k (i .sound) (i .idle) l)
 
 text-ticks : (s : Settings) → settingsNo s ≡ 0 → (text : List ℕ)
     → BlocksTick (alone (freshOf s)) (jobOf s text .blocks) (tickBytesOf s text)
-unfolding tickBytesOf jobOf freshOf
+unfolding tickBytesOf jobAt freshOf
 text-ticks s passed text = by (leb (length text) longestText)
   where
     by : (short : Bool)
@@ -140,6 +146,16 @@ job-bytes s passed text =
     let c = bytes-told s passed text in
     record { blocks = text-ticks s passed text; ticks = c .ticks; cycles = c .cycles }
 
+-- what a stream that began at a fresh machine has handed out
+pub stream-front : (s : Settings) (t : Stream) → StartsStream (freshOf s) t → (text bytes : List ℕ) (u : Stream) → BytesOut text t bytes u
+    → FrontOf (tickBytesOf s text) bytes (u .over ≡ true)
+stream-front s t e text bytes u out =
+    record {
+      rest = restOf u text;
+      front = bytes-rest out ∙ ap (λ (t : Stream). restOf t text) e ∙ stream-tells s text;
+      all = over-rest u text;
+    }
+
 pub every-tick-byte : EveryTickByte
 every-tick-byte =
     record {
@@ -147,11 +163,6 @@ every-tick-byte =
       bytes = λ s pass t e text. (
         tickBytesOf s text,
         job-bytes s (settings-pass s .1 pass) text,
-        λ bytes u out.
-            record {
-              rest = restOf u text;
-              front = bytes-rest out ∙ ap (λ (t : Stream). restOf t text) e ∙ stream-tells s text;
-              all = over-rest u text;
-            },
+        stream-front s t e text,
       );
     }

@@ -74,7 +74,7 @@ work-back Work.Nothing s = refl
 work-back (Work.Line l) s = rw (count-word (s .feed), count-word (s .cycles), count-word (s .done))
 work-back (Work.Arc a) s = arc-back a s (a .turn)
 
-pub small : {q0 : ℕ} (t : Travel) (at : Point) (w : Work) → q0 ≤ 1200000 → workSound q0 t at w ≡ true → Small w
+pub small : {q0 : ℕ} (t : Travel) (at : Point) (w : Work) → q0 ≤ 1200000000 → workSound q0 t at w ≡ true → Small w
 unfolding workSound
 small t at Work.Nothing most e = tt
 small t at (Work.Line l) most e =

@@ -24,7 +24,7 @@ use Rattle.history.specs.Look.{onlyTicks, Foretold, EveryLook, EveryLook
 use Rattle.history.specs.laws.Claim.{every-history, stays-sound}
 
 -- a history and then another are one
-joined : {m k m′ : Machine} {cs ds : List Call} {rs ss : List Reply} → History m cs rs k → History k ds ss m′
+pub joined : {m k m′ : Machine} {cs ds : List Call} {rs ss : List Reply} → History m cs rs k → History k ds ss m′
     → History m (cs ++ ds) (rs ++ ss) m′
 joined History.ends u = u
 joined (History.loads b r h t) u = History.loads b r h (joined t u)

@@ -6,7 +6,8 @@ use Prim.Native.Nat.{ℕ, _+_, _-_, _*_, _^_, _≤_, _<_}
 use lib.Dec.{leb}
 use lib.ListN.{length, take, drop}
 use Rattle.row.specs.computed.Buffer.{lineRoom, placed}
-use Rattle.row.specs.Lines.{headerLine, totalLine, refusedLine}
+use Rattle.row.specs.computed.Long.{lowLimit}
+use Rattle.row.specs.Lines.{headerLine, refusedLine}
 use Rattle.work.specs.Work.{isNothing}
 use Rattle.bench.specs.declared.Bench.{Bench}
 use Rattle.bench.specs.computed.Bench.{soundOf}
@@ -14,7 +15,7 @@ use Rattle.settings.specs.declared.Settings.{Settings}
 use Rattle.reader.specs.computed.Reader.{longestText}
 use Rattle.reader.specs.declared.Feed.{Feed}
 use Rattle.tally.specs.declared.Tally.{Tally}
-use Rattle.tally.specs.computed.Tally.{mostBlockCycles, mostBlockTicks, listedOf}
+use Rattle.tally.specs.computed.Tally.{mostBlockCycles, mostBlockTicks, listedOf, totalOf}
 use Rattle.tally.specs.computed.Tally.{tallyFrom as tallyStart}
 use Rattle.job.specs.declared.Stage.{Stage}
 use Rattle.job.specs.declared.Check.{Check}
@@ -35,7 +36,7 @@ unless false rest = rest
 
 -- the rows of these text lines, and the last line of the listing
 unfoldable pub rowsFrom : Tally → (lines : List (List ℕ)) → List ℕ
-rowsFrom t [] = totalLine (t .blocks) (t .cycles) (t .ticks)
+rowsFrom t [] = totalOf t
 rowsFrom t (l ∷ ls) = let g = listedOf t l in g .bytes ++ unless (g .over) (rowsFrom (g .tally) ls)
 
 -- 01: "is the text at most 65,536 bytes (asked once, line 1)? 30."
@@ -54,11 +55,11 @@ restOf c text = restAt (c .stage) c text
 abbrev pub Lists : Settings → Check → Type 0
 Lists s c = (text : List ℕ) → restOf c text ≡ listingOf s text
 
--- ---- what every check keeps that a start reaches, whatever the texts: so its numbers fit in 63 bits
+-- ---- what every check keeps that a start reaches, whatever the texts: so its numbers fit in words
 
 abbrev pub FeedSmall : Feed → Type 0
 FeedSmall Feed.Unknown = Unit {0}
-FeedSmall (Feed.Known f) = f < 10 ^ 7
+FeedSmall (Feed.Known millimetres thousandths) = (millimetres < 10 ^ 7) × (thousandths < 1000)
 
 -- the machine is sound and at rest, and the counts are some that the lines of a text and one more can make
 pub record Reached (at : ℕ) (t : Tally) : Type 0 where
@@ -70,7 +71,8 @@ pub record Reached (at : ℕ) (t : Tally) : Type 0 where
   pub lines : t .lines ≤ longestText + 1
   pub blocks : t .blocks ≤ t .lines
   pub cycles : t .cycles ≤ mostBlockCycles * t .lines
-  pub ticks : t .ticks ≤ mostBlockTicks * t .lines
+  pub high : t .ticks .high ≤ t .lines
+  pub low : t .ticks .low < lowLimit
 
 abbrev pub Keeps : (before after : Check) → Type 0
 Keeps c d = Reached (c .at) (c .tally) → Reached (d .at) (d .tally)

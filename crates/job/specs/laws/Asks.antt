@@ -18,14 +18,14 @@ use Rattle.work.specs.Work.{isNothing, begunOf}
 use Rattle.bench.specs.declared.Bench.{Bench}
 use Rattle.bench.specs.declared.Answered.{Answered}
 use Rattle.settings.specs.declared.Settings.{Settings}
-use Rattle.settings.specs.Settings.{capacityOf}
+use Rattle.settings.specs.Settings.{feedUnit, capacityOf}
 use Rattle.bench.specs.computed.Bench.{soundOf}
 use Rattle.bench.specs.computed.Calls.{taking, loadWith, loadOf}
 use Rattle.reader.specs.declared.Reader.{Reader}
 use Rattle.reader.specs.declared.asked.ToLoad.{ToLoad}
 use Rattle.reader.specs.declared.«text_line».Read.{Read}
 use Rattle.reader.specs.declared.«text_line».ReadLine.{ReadLine}
-use Rattle.reader.specs.Reader.{readerAfter, moving, blockOf}
+use Rattle.reader.specs.Reader.{readerAfter, moving, blockAt}
 use Rattle.reader.specs.computed.Reader.{lineNo}
 use Rattle.reader.specs.computed.Asked.{blockAsked, askedWith, askedOf}
 use Rattle.reader.specs.Reader.{goesNowhere}
@@ -58,7 +58,7 @@ module _ (m : Bench) (k : Reader) (sound : soundOf m ≡ true) (idle : isNothing
       (Read-as.makes k′ b e)
   load-asks k′ b (suc n) e = Read-as.refuses (suc n)
 
-  block-asks : (k′ : Reader) (b : Block) → Read-as m k (blockAsks (m .settings) (m .at) k′ b) (takes k k′ m (blockAsked (m .at) b))
+  block-asks : (k′ : Reader) (b : Block) → Read-as m k (blockAsks feedUnit (m .settings) (m .at) k′ b) (takes k k′ m (blockAsked (m .at) b))
   block-asks k′ b = by (goesNowhere (b .end) (m .at) (b .path))
     where
       by : (stays : Bool) → Read-as m k (cond stays (Asks.nothing k′)
@@ -68,17 +68,18 @@ module _ (m : Bench) (k : Reader) (sound : soundOf m ≡ true) (idle : isNothing
       by false = rw (load-is m sound idle b) (load-asks k′ b (loadNo (capacityOf (m .settings)) (m .settings .travel) true (m .at) b) refl)
 
   words-ask : (k′ : Reader) (ws : Words) (number : ℕ)
-      → Read-as m k (wordsAsk (m .settings) (m .at) k′ ws number) (takenOf k m (askedWith (m .settings .scale) k k′ (m .at) ws number))
+      → Read-as m k (wordsAsk feedUnit (m .settings) (m .at) k′ ws number)
+      (takenOf k m (askedWith (m .settings .scale) k k′ (m .at) ws number))
   words-ask k′ ws zero = by (moving ws)
     where
-      by : (moves : Bool) → Read-as m k (cond moves (blockAsks (m .settings) (m .at) k′ (blockOf (m .settings .scale) k′ ws (m .at)))
-          (Asks.nothing k′))
-          (takes k k′ m (cond moves (blockAsked (m .at) (blockOf (m .settings .scale) k′ ws (m .at))) ToLoad.Nothing))
-      by true = block-asks k′ (blockOf (m .settings .scale) k′ ws (m .at))
+      by : (moves : Bool) → Read-as m k
+          (cond moves (blockAsks feedUnit (m .settings) (m .at) k′ (blockAt feedUnit (m .settings .scale) k′ ws (m .at))) (Asks.nothing k′))
+          (takes k k′ m (cond moves (blockAsked (m .at) (blockAt feedUnit (m .settings .scale) k′ ws (m .at))) ToLoad.Nothing))
+      by true = block-asks k′ (blockAt feedUnit (m .settings .scale) k′ ws (m .at))
       by false = Read-as.nothing k′
   words-ask k′ ws (suc n) = Read-as.refuses (suc n)
 
-  pub line-asks : (line : List ℕ) → Read-as m k (lineAsks (m .settings) (m .at) k line) (readLineOf k m line)
+  pub line-asks : (line : List ℕ) → Read-as m k (lineAsks feedUnit (m .settings) (m .at) k line) (readLineOf k m line)
   unfolding lineAsks readLineOf askedOf
   line-asks line =
       let l = meaningOf line in
@@ -86,7 +87,7 @@ module _ (m : Bench) (k : Reader) (sound : soundOf m ≡ true) (idle : isNothing
       rw sound (words-ask k′ (l .words) (lineNo (m .settings .scale) k′ (length line) l))
 
 -- ---- what a line asks, by the meaning that the grammar gives it: any answer that `Means` allows, and there is only one
-pub asks-means : (s : Settings) (at : Point) (k : Reader) (line : List ℕ) (l : Line) → Means line l
-    → (let k′ = readerAfter k (l .words) in lineAsks s at k line ≡ wordsAsk s at k′ (l .words) (lineNo (s .scale) k′ (length line) l))
+pub asks-means : (u : ℕ) (s : Settings) (at : Point) (k : Reader) (line : List ℕ) (l : Line) → Means line l
+    → (let k′ = readerAfter k (l .words) in lineAsks u s at k line ≡ wordsAsk u s at k′ (l .words) (lineNo (s .scale) k′ (length line) l))
 unfolding lineAsks
-asks-means s at k line l means = rw (means-unique line (meaningOf line) l (meaning-means line) means)
+asks-means u s at k line l means = rw (means-unique line (meaningOf line) l (meaning-means line) means)

@@ -21,9 +21,9 @@ use Rattle.reader.specs.Reader.{unknown}
 use Rattle.tally.specs.computed.Tally.{tallyFrom as tallyStart}
 use Rattle.job.specs.Text.{lineOr, linesOf}
 use Rattle.job.specs.Job.{Made, End}
-use Rattle.job.specs.computed.Job.{jobFrom, jobOf}
+use Rattle.job.specs.computed.Job.{jobAt, jobFrom}
 use Rattle.job.specs.Listing.{rows, lastLine}
-use Rattle.job.specs.computed.Listing.{listingOf}
+use Rattle.job.specs.computed.Listing.{listingAt, listingOf}
 use Rattle.job.specs.computed.Check.{checkFrom, rowsFrom, restOf}
 use Rattle.job.specs.laws.Ended.{Low}
 use Rattle.job.specs.laws.Rows.{lastAfter, total-same, lists}
@@ -52,7 +52,7 @@ last-is q0 ms (End.refused n number) = refl
 
 -- from a machine made fresh
 pub listing-is : (s : Settings) → settingsNo s ≡ 0 → (text : List ℕ) → restOf (checkFrom (freshOf s)) text ≡ listingOf s text
-unfolding restOf checkFrom tallyStart listingOf jobOf freshOf rows
+unfolding restOf checkFrom tallyStart listingAt jobAt freshOf rows
 listing-is s passed text = ap (λ (rest : List ℕ). headerLine ++ rest) (by (leb (length text) longestText) refl)
   where
     by : (short : Bool) → leb (length text) longestText ≡ short
@@ -63,7 +63,7 @@ listing-is s passed text = ap (λ (rest : List ℕ). headerLine ++ rest) (by (le
     by true e =
         let j = jobFrom s 1 (record { x = pos 0; y = pos 0 }) unknown (linesOf text) in
         lists (linesOf text) (tallyStart (freshOf s)) (fresh-rests s passed) (fresh-low s passed)
-        (record { lines = omega arith; blocks = omega arith; cycles = omega arith; ticks = omega arith })
+        (record { lines = omega arith; blocks = omega arith; cycles = omega arith; high = omega arith; low = omega arith })
         (omega (arith, lines-few text, leb-true (length text) longestText e))
         ∙ ap (λ (last : List ℕ). rows 1 (j .blocks) ++ last) (last-is (capacityOf s) (j .blocks) (j .end))
     by false e = refl

@@ -2,12 +2,13 @@
 use mathlib.Core.Path.{_≡_, refl}
 use mathlib.Core.Bool.{Bool, true, false, cond}
 use mathlib.Core.List.{List}
-use Prim.Native.Nat.{ℕ, zero, suc, _+_, _^_, _≤_, _<_}
+use Prim.Native.Nat.{ℕ, zero, suc, _+_, _/_, _%_, _^_, _≤_, _<_}
 use native.Mathlib.Omega.{arith}
 use lib.ListN.{length}
 use Rattle.letters.specs.declared.word.Word.{Word}
 use Rattle.letters.specs.declared.word.Words.{Words}
 use Rattle.words.specs.computed.Meaning.{meaningOf}
+use Rattle.row.specs.laws.Long.{plus-adds}
 use Rattle.bench.specs.declared.Bench.{Bench}
 use Rattle.bench.specs.declared.Answer.{Answer}
 use Rattle.bench.specs.computed.Bench.{soundOf}
@@ -32,7 +33,7 @@ use Rattle.tally.specs.laws.Counts.{Counts, counts}
 use Rattle.tally.specs.laws.Read.{listed, not-listed}
 use Rattle.job.specs.computed.Job.{Asks}
 use Rattle.job.specs.computed.Check.{FeedSmall, Reached}
-use Rattle.job.specs.laws.Ended.{ended, ended-rests}
+use Rattle.job.specs.laws.Ended.{endedOf, ended, ended-rests}
 use Rattle.job.specs.laws.Asks.{Read-as, line-asks}
 
 pub start-reached : {m : Bench} → AtRest m → Reached 0 (tallyStart m)
@@ -47,16 +48,17 @@ start-reached i =
       lines = omega arith;
       blocks = omega arith;
       cycles = omega arith;
-      ticks = omega arith;
+      high = omega arith;
+      low = omega arith;
     }
 
--- ---- the F that is known has seven digits
+-- ---- the F that is known has seven digits and three decimals
 
-feed-after : (f : Feed) (w : Word) → w .magnitude < 10 ^ 7 → FeedSmall f → FeedSmall (feedAfter f w)
+feed-after : (f : Feed) (w : Word) → w .magnitude < 10 ^ 10 → FeedSmall f → FeedSmall (feedAfter f w)
 feed-after f w h known = by (w .stands)
   where
-    by : (stands : Bool) → FeedSmall (cond stands (Feed.Known (w .magnitude)) f)
-    by true = h
+    by : (stands : Bool) → FeedSmall (cond stands (Feed.Known (w .magnitude / 1000) (w .magnitude % 1000)) f)
+    by true = (omega arith, omega arith)
     by false = known
 
 module _ (k k′ : Reader) (m : Bench) (before : FeedSmall (k .feed)) (after : FeedSmall (k′ .feed)) where
@@ -110,7 +112,8 @@ module _ (t : Tally) {at next : ℕ} (r : Reached at t) (near : next ≤ longest
         lines = r .lines;
         blocks = r .blocks;
         cycles = r .cycles;
-        ticks = r .ticks;
+        high = r .high;
+        low = r .low;
       }
 
   by-line : Counts t → {a : Asks} {x : ReadLine} → Read-as (t .bench) (t .reader) a x → FeedSmall (x .reader .feed)
@@ -126,13 +129,15 @@ module _ (t : Tally) {at next : ℕ} (r : Reached at t) (near : next ≤ longest
         lines = omega (arith, c .lines);
         blocks = omega (arith, c .blocks);
         cycles = omega (arith, c .cycles);
-        ticks = omega (arith, c .ticks);
+        high = omega (arith, c .high);
+        low = c .low;
       }
   by-line c (Read-as.makes known b ok) f =
       let e = ended (t .bench) rests b ok in
       let i = ended-rests (t .bench) rests b ok in
       let few = rw e at (cycles-most (loadOf (t .bench) b .bench)) in
       let short = rw e at (ticks-most (loadOf (t .bench) b .bench)) in
+      let adds = plus-adds (t .ticks) (endedOf (t .bench) b .ticks) (c .low) (omega arith) in
       rw e
       (record {
         sound = i .sound;
@@ -143,7 +148,8 @@ module _ (t : Tally) {at next : ℕ} (r : Reached at t) (near : next ≤ longest
         lines = omega (arith, c .lines);
         blocks = omega (arith, c .blocks);
         cycles = omega (arith, c .cycles);
-        ticks = omega (arith, c .ticks);
+        high = omega (arith, c .high, adds .carried);
+        low = adds .low;
       })
   by-line c (Read-as.refuses number) f = stays
 

@@ -9,6 +9,8 @@ use Rattle.block.specs.declared.Block.{Block}
 use Rattle.block.specs.declared.Path.{Path}
 use Rattle.block.specs.Block.{blockWidth}
 use Rattle.row.specs.Lines.{totalLine, refusedLine}
+use Rattle.row.specs.computed.Long.{longOf, plusOf}
+use Rattle.row.specs.laws.Long.{Adds, plus-adds}
 use Rattle.work.specs.Work.{workAlong, begunOf}
 use Rattle.settings.specs.Settings.{capacityOf}
 use Rattle.bench.specs.Bench.{movedOf}
@@ -22,7 +24,7 @@ use Rattle.tally.specs.declared.Tally.{Tally}
 use Rattle.tally.specs.computed.Tally.{kindOf, listedWith, blockListed}
 use Rattle.tally.specs.laws.Counts.{Counts, counts-test}
 use Rattle.tally.specs.laws.Read.{listed}
-use Rattle.job.specs.computed.Job.{Asks, readOn, jobFrom}
+use Rattle.job.specs.computed.Job.{Asks, readOn, jobFromAt, jobFrom}
 use Rattle.job.specs.Job.{Made, End, Job}
 use Rattle.job.specs.Listing.{pathKind, madeLine, rows, allCycles, allTicks}
 use Rattle.job.specs.computed.Check.{rowsFrom, unless}
@@ -35,7 +37,7 @@ lastAfter blocks cycles ticks q0 r ms End.complete = totalLine (blocks + length 
 lastAfter blocks cycles ticks q0 r ms (End.refused n number) = refusedLine n number
 
 abbrev pub lastOf : Tally → List Made → End → List ℕ
-lastOf t = lastAfter (t .blocks) (t .cycles) (t .ticks) (capacityOf (t .bench .settings)) (t .bench .remainder)
+lastOf t = lastAfter (t .blocks) (t .cycles) (longOf (t .ticks)) (capacityOf (t .bench .settings)) (t .bench .remainder)
 
 abbrev pub listingAfter : Tally → Job → List ℕ
 listingAfter t j = rows (t .blocks + 1) (j .blocks) ++ lastOf t (j .blocks) (j .end)
@@ -58,8 +60,7 @@ module _ (t : Tally) (k : Reader) (b : Block) (i : AtRest (t .bench)) (low : Low
         lines = t .lines + 1;
         blocks = t .blocks + 1;
         cycles = t .cycles + f .cycles;
-        ticks =
-            t .ticks + f .ticks;
+        ticks = plusOf (t .ticks) (f .ticks);
       }
 
   kind-loaded : kindOf (loadOf (t .bench) b .bench .work) ≡ pathKind (b .path)
@@ -75,29 +76,39 @@ module _ (t : Tally) (k : Reader) (b : Block) (i : AtRest (t .bench)) (low : Low
   unfolding blockListed movedOf
   block-given = rw (ended (t .bench) i b ok, kind-loaded)
 
+  ticks-added : Counts t → Adds (t .ticks) (endedOf (t .bench) b .ticks) (next .ticks)
+  ticks-added c =
+      let short = rw (ended (t .bench) i b ok) at (ticks-most (loadOf (t .bench) b .bench)) in
+      plus-adds (t .ticks) (endedOf (t .bench) b .ticks) (c .low) (omega arith)
+
   counted : Counts t → t .lines + 1 ≤ longestText → Counts next
   counted c most =
-      let e = ended (t .bench) i b ok in
-      let few = rw e at (cycles-most (loadOf (t .bench) b .bench)) in
-      let short = rw e at (ticks-most (loadOf (t .bench) b .bench)) in
-      record { lines = omega arith; blocks = omega (arith, c .blocks); cycles = omega (arith, c .cycles); ticks = omega (arith, c .ticks) }
+      let few = rw (ended (t .bench) i b ok) at (cycles-most (loadOf (t .bench) b .bench)) in
+      record {
+        lines = omega arith;
+        blocks = omega (arith, c .blocks);
+        cycles = omega (arith, c .cycles);
+        high = omega (arith, c .high, ticks-added c .carried);
+        low = ticks-added c .low;
+      }
 
-  last-next : (ms : List Made) (end : End) → lastOf next ms end ≡ lastOf t (made ∷ ms) end
+  last-next : Counts t → (ms : List Made) (end : End) → lastOf next ms end ≡ lastOf t (made ∷ ms) end
   unfolding allCycles allTicks movedOf
-  last-next ms End.complete =
+  last-next c ms End.complete =
+      let sum = ticks-added c .sum in
       let many = ended-ticks (t .bench) i b ok low in
       let left = ap (λ (r : ℕ). allTicks (capacityOf (t .bench .settings)) r ms) (ended-left (t .bench) i b ok low) in
       total-same (omega arith) (omega arith) (omega arith)
-  last-next ms (End.refused n number) = refl
+  last-next c ms (End.refused n number) = refl
 
-  listed-next : (j : Job) → madeLine (t .blocks + 1) made ++ listingAfter next j ≡ listingAfter t (record {
+  listed-next : Counts t → (j : Job) → madeLine (t .blocks + 1) made ++ listingAfter next j ≡ listingAfter t (record {
     blocks =
         made ∷ j .blocks;
     end = j .end;
   })
   unfolding rows
-  listed-next j =
-      rw (last-next (j .blocks) (j .end))
+  listed-next c j =
+      rw (last-next c (j .blocks) (j .end))
       (sym (append-assoc (madeLine (t .blocks + 1) made) (rows (t .blocks + 1 + 1) (j .blocks)) (lastOf t (made ∷ j .blocks) (j .end))))
 
 -- ---- any line
@@ -114,16 +125,22 @@ by-line : (t : Tally) (ls : List (List ℕ)) → AtRest (t .bench) → Low (t .b
 unfolding rows movedOf
 by-line t ls i low c most rest (Read-as.nothing k) =
     rest (record { reader = k; bench = t .bench; lines = t .lines + 1; blocks = t .blocks; cycles = t .cycles; ticks = t .ticks }) i low
-    (record { lines = omega arith; blocks = omega (arith, c .blocks); cycles = omega (arith, c .cycles); ticks = omega (arith, c .ticks) })
+    (record {
+      lines = omega arith;
+      blocks = omega (arith, c .blocks);
+      cycles = omega (arith, c .cycles);
+      high = omega (arith, c .high);
+      low = c .low;
+    })
     (omega arith)
 by-line t ls i low c most rest (Read-as.makes k b ok) =
     let j = ended-rests (t .bench) i b ok in
     let later = rest (next t k b i low ok) j (ended-low (t .bench) i b ok low) (counted t k b i low ok c (omega arith)) (omega arith) in
-    rw (block-given t k b i low ok, later) (listed-next t k b i low ok (jobFrom (t .bench .settings) (t .lines + 1 + 1) (b .end) k ls))
+    rw (block-given t k b i low ok, later) (listed-next t k b i low ok c (jobFrom (t .bench .settings) (t .lines + 1 + 1) (b .end) k ls))
 by-line t ls i low c most rest (Read-as.refuses n) = append-nil (refusedLine (t .lines + 1) n)
 
 pub lists : (ls : List (List ℕ)) (t : Tally) → Lists ls t
-unfolding rowsFrom jobFrom rows allCycles allTicks
+unfolding rowsFrom jobFromAt rows allCycles allTicks
 lists [] t i low c most = total-same (omega arith) (omega arith) (omega arith)
 lists (l ∷ ls) t i low c most =
     rw (listed t l (counts-test t c) {r = readLineOf (t .reader) (t .bench) l} refl)

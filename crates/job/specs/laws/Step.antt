@@ -9,10 +9,10 @@ use lib.Seq.{drop-drop}
 use borrow.Author.Tests.{le-leb, lt-leb}
 use Rattle.row.specs.declared.lines.Place.{Place}
 use Rattle.row.specs.computed.Buffer.{lineRoom, hasRoom, placed, bufferAfter, placeAfter}
-use Rattle.row.specs.Lines.{headerLine, totalLine, refusedLine}
+use Rattle.row.specs.Lines.{headerLine, refusedLine}
 use Rattle.row.specs.laws.Buffer.{header-short, refused-short}
 use Rattle.tally.specs.declared.Listed.{Listed}
-use Rattle.tally.specs.computed.Tally.{Gives, placeAfterRow, listedOf, readOf, bytesRead}
+use Rattle.tally.specs.computed.Tally.{Gives, placeAfterRow, totalOf, listedOf, readOf, bytesRead}
 use Rattle.tally.specs.laws.Read.{written, goes-on}
 use Rattle.reader.specs.computed.Reader.{longestText}
 use Rattle.job.specs.declared.Stage.{Stage}
@@ -73,11 +73,11 @@ module _ (c : Check) (text old : List ℕ) (at : ℕ) {new : List ℕ} where
 
     module _ (short : length text ≤ longestText) where
       pub step-total : {p : Place}
-          → (let line = totalLine (c .tally .blocks) (c .tally .cycles) (c .tally .ticks) in
+          → (let line = totalOf (c .tally) in
           length line ≤ lineRoom → length text ≤ c .at → Wrote line old at p new → Steps c text old at (lastOf c (placeAfterRow p at)) new)
       unfolding restOf rowsFrom linesOf
       step-total few end w =
-          last-written (totalLine (c .tally .blocks) (c .tally .cycles) (c .tally .ticks)) few w
+          last-written (totalOf (c .tally)) few w
           (rw (lines, le-leb (length text) longestText short, drop-of-length-le text end))
 
       module _ {l : Listed} (room : hasRoom old at ≡ true) (more : c .at < length text)

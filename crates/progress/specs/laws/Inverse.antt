@@ -1,7 +1,7 @@
 -- Words and checks, exactly: a check that fits is told by its bench and the words of its progress, and so is what is known.
 use mathlib.Core.Path.{_≡_, refl}
 use mathlib.Core.Bool.{true}
-use Prim.Native.Nat.{_^_, _<_}
+use Prim.Native.Nat.{_+_, _*_, _/_, _%_, _^_, _<_}
 use native.Mathlib.Omega.{arith}
 use borrow.Author.Tests.{lt-ltb}
 use Rattle.circle.specs.declared.plane.Turn.{Turn}
@@ -16,6 +16,7 @@ use Rattle.job.specs.computed.Check.{FeedSmall, Reached}
 use Rattle.encoding.specs.Words.{countOf}
 use Rattle.encoding.specs.laws.Record.{count-word}
 use Rattle.encoding.specs.laws.Same.{same-self}
+use Rattle.progress.specs.laws.Long.{long-back}
 use Rattle.progress.specs.Known.{motionWord, feedWord, encodeKnown, feedRead}
 use Rattle.progress.specs.computed.Known.{decodeKnown}
 use Rattle.progress.specs.Progress.{stageWord, encodeProgress, stageOf, checkIn}
@@ -23,7 +24,7 @@ use Rattle.progress.specs.computed.Progress.{decodeProgress}
 
 abbrev pub FeedFits : Feed → Type 0
 FeedFits Feed.Unknown = Unit {0}
-FeedFits (Feed.Known f) = f < 2 ^ 32
+FeedFits (Feed.Known millimetres thousandths) = (millimetres < 10 ^ 7) × (thousandths < 1000)
 
 -- a check whose numbers are words
 pub record Fits (c : Check) : Type 0 where
@@ -33,7 +34,8 @@ pub record Fits (c : Check) : Type 0 where
   pub lines : c .tally .lines < 2 ^ 63
   pub blocks : c .tally .blocks < 2 ^ 63
   pub cycles : c .tally .cycles < 2 ^ 63
-  pub ticks : c .tally .ticks < 2 ^ 63
+  pub low : c .tally .ticks .low < 2 ^ 63
+  pub high : c .tally .ticks .high < 2 ^ 32
 
 stage-back : (s : Stage) → stageOf (countOf (stageWord s)) ≡ s
 stage-back Stage.Header = refl
@@ -48,7 +50,11 @@ motion-back (Motion.Arc Turn.Counterclockwise) = refl
 
 feed-back : (f : Feed) → FeedFits f → feedRead (feedWord f) ≡ f
 feed-back Feed.Unknown h = refl
-feed-back (Feed.Known f) h = rw (lt-ltb f (2 ^ 32) h)
+feed-back (Feed.Known m t) h =
+    let f = m * 1000 + t in
+    let whole : f / 1000 ≡ m = omega (arith, h .1) in
+    let rest : f % 1000 ≡ t = omega (arith, h .1) in
+    rw (lt-ltb f (10 ^ 10) (omega (arith, h .0, h .1)), whole, rest)
 
 -- ---- what is known
 
@@ -69,7 +75,7 @@ check-back c f =
       count-word (f .lines),
       count-word (f .blocks),
       count-word (f .cycles),
-      count-word (f .ticks),
+      long-back (c .tally .ticks) (f .low) (f .high),
     )
 
 pub progress-decode : (c : Check) → Fits c → decodeProgress (c .tally .bench) (encodeProgress c) ≡ record { ok = true; check = c }
@@ -83,7 +89,7 @@ ReachedCheck c = Reached (c .at) (c .tally)
 
 feed-fits : (f : Feed) → FeedSmall f → FeedFits f
 feed-fits Feed.Unknown h = tt
-feed-fits (Feed.Known f) h = omega arith
+feed-fits (Feed.Known m t) h = h
 
 pub reached-fits : (c : Check) → ReachedCheck c → Fits c
 reached-fits c r =
@@ -94,5 +100,6 @@ reached-fits c r =
       lines = omega (arith, r .lines);
       blocks = omega (arith, r .lines, r .blocks);
       cycles = omega (arith, r .lines, r .cycles);
-      ticks = omega (arith, r .lines, r .ticks);
+      low = omega (arith, r .low);
+      high = omega (arith, r .lines, r .high);
     }

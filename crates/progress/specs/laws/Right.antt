@@ -10,9 +10,7 @@ use lib.ListN.{length}
 use mir.Syntax.{w64}
 use mir.Val.{SFits}
 use borrow.Author.Tests.{lt-ltb, ltb-true}
-use Rattle.whole.specs.laws.Order.{_≼_, leZ-true, ≼-leZ}
 use Rattle.whole.specs.laws.Test.{both, joined, same-test}
-use Rattle.plane.specs.declared.travel.Range.{Range}
 use Rattle.plane.specs.Travel.{withinOf}
 use Rattle.circle.specs.declared.plane.Turn.{Turn}
 use Rattle.reader.specs.declared.Motion.{Motion}
@@ -29,17 +27,9 @@ use Rattle.progress.specs.declared.progress.Progress.{Progress}
 use Rattle.progress.specs.Known.{motionWord, feedWord, knownOf, encodeKnown, feedRead, readerOf}
 use Rattle.progress.specs.computed.Known.{knownIn}
 use Rattle.progress.specs.Progress.{stageWord, progressOf, progressWords, encodeProgress, stageOf, checkOf, progressIn, checkIn}
+use Rattle.progress.specs.laws.Number.{range-to, range-of, feedIn}
+use Rattle.progress.specs.laws.Long.{long-again, long-right}
 use Rattle.progress.specs.computed.Right.{stages, motions, feeds, knownRight, countWordsRight, progressRight}
-
--- ---- ranges
-
-range-to : (r : Range) (z : ℤ) → withinOf r z ≡ true → (r .lower ≼ z) × (z ≼ r .upper)
-unfolding withinOf
-range-to r z t = let b = both t in (leZ-true (r .lower) z (b .0), leZ-true z (r .upper) (b .1))
-
-range-of : (r : Range) (z : ℤ) → r .lower ≼ z → z ≼ r .upper → withinOf r z ≡ true
-unfolding withinOf
-range-of r z low high = joined (≼-leZ (r .lower) z low) (≼-leZ z (r .upper) high)
 
 -- ---- one word
 
@@ -72,16 +62,17 @@ motion-right (Motion.Arc Turn.Clockwise) = refl
 motion-right (Motion.Arc Turn.Counterclockwise) = refl
 
 feed-again : (z : ℤ) → withinOf feeds z ≡ true → feedWord (feedRead z) ≡ z
-feed-again (pos f) t = rw (lt-ltb f (2 ^ 32) (omega (arith, range-to feeds (pos f) t .1)))
+feed-again (pos f) t =
+    rw (lt-ltb f (10 ^ 10) (omega (arith, range-to feeds (pos f) t .1))) (ap pos (omega arith))
 feed-again (negsuc zero) t = refl
 feed-again (negsuc (suc n)) t = absurd (omega (arith, range-to feeds (negsuc (suc n)) t .0))
 
 -- a feed that the words tell
 feed-right : (z : ℤ) → feedWord (feedRead z) ≡ z → withinOf feeds z ≡ true
-feed-right (pos f) = by (ltb f (2 ^ 32)) refl
+feed-right (pos f) = by (ltb f (10 ^ 10)) refl
   where
-    by : (small : Bool) → ltb f (2 ^ 32) ≡ small → feedWord (cond small (Feed.Known f) Feed.Unknown) ≡ pos f → withinOf feeds (pos f) ≡ true
-    by true s e = range-of feeds (pos f) (omega arith) (omega (arith, ltb-true f (2 ^ 32) s))
+    by : (small : Bool) → ltb f (10 ^ 10) ≡ small → feedWord (cond small (feedIn f) Feed.Unknown) ≡ pos f → withinOf feeds (pos f) ≡ true
+    by true s e = range-of feeds (pos f) (omega arith) (omega (arith, ltb-true f (10 ^ 10) s))
     by false s e = cc
 feed-right (negsuc n) = λ e. rw (← e) (range-of feeds (negsuc 0) (omega arith) (omega arith))
 
@@ -114,7 +105,7 @@ pub record Fits (p : Progress) : Type 0 where
   pub lines : SFits w64 (p .lines)
   pub blocks : SFits w64 (p .blocks)
   pub cycles : SFits w64 (p .cycles)
-  pub ticks : SFits w64 (p .ticks)
+  pub ticks : SFits w64 (p .ticks .low)
 
 module _ (m : Bench) (p : Progress) where
   progress-again : Fits p → progressRight p ≡ true → progressOf (checkOf m p) ≡ p
@@ -133,7 +124,7 @@ module _ (m : Bench) (p : Progress) where
         count-again (p .lines) (f .lines) (l .0),
         count-again (p .blocks) (f .blocks) (b .0),
         count-again (p .cycles) (f .cycles) (c .0),
-        count-again (p .ticks) (f .ticks) (c .1),
+        long-again (p .ticks) (f .ticks) (c .1),
       )
 
   progress-right : progressOf (checkOf m p) ≡ p → progressRight p ≡ true
@@ -146,12 +137,12 @@ module _ (m : Bench) (p : Progress) where
       (joined (count-right (p .lines) (ap (λ (q : Progress). q .lines) e))
       (joined (count-right (p .blocks) (ap (λ (q : Progress). q .blocks) e))
       (joined (count-right (p .cycles) (ap (λ (q : Progress). q .cycles) e))
-      (count-right (p .ticks) (ap (λ (q : Progress). q .ticks) e)))))))
+      (long-right (p .ticks) (ap (λ (q : Progress). q .ticks) e)))))))
 
-pub progress-same : (m : Bench) (ws : List ℤ) → length ws ≡ 8 → Fits (progressIn ws)
+pub progress-same : (m : Bench) (ws : List ℤ) → length ws ≡ 9 → Fits (progressIn ws)
     → progressRight (progressIn ws) ≡ sameWords ws (encodeProgress (checkIn m ws))
 unfolding encodeProgress checkIn
 progress-same m ws all f =
     same-test
-    (λ t. sym (same-words (each 8 ws all ∙ ap progressWords (sym (progress-again m (progressIn ws) f t)))))
+    (λ t. sym (same-words (each 9 ws all ∙ ap progressWords (sym (progress-again m (progressIn ws) f t)))))
     (λ t. progress-right m (progressIn ws) (sym (ap progressIn (same-true ws (encodeProgress (checkIn m ws)) t))))

@@ -6,11 +6,12 @@ use Prim.Native.Nat.{ℕ, zero, suc}
 use Rattle.plane.specs.declared.point.Point.{Point}
 use Rattle.block.specs.declared.Block.{Block}
 use Rattle.letters.specs.declared.word.Words.{Words}
+use Rattle.settings.specs.Settings.{feedUnit}
 use Rattle.words.specs.declared.line.Line.{Line}
 use Rattle.reader.specs.declared.Reader.{Reader}
 use Rattle.reader.specs.declared.asked.ToLoad.{ToLoad}
 use Rattle.reader.specs.declared.asked.Asked.{Asked}
-use Rattle.reader.specs.Reader.{readerAfter, moving, blockOf}
+use Rattle.reader.specs.Reader.{readerAfter, moving, blockAt}
 use Rattle.reader.specs.computed.Reader.{lineNo}
 use Rattle.reader.specs.Reader.{goesNowhere}
 use mathlib.Core.Bool.{cond}
@@ -28,7 +29,7 @@ blockAsked place b = cond (goesNowhere (b .end) place (b .path)) ToLoad.Nothing 
 
 -- "A line without X, Y, I, J makes no block"; "A refused line leaves the known G and F .. as before it."
 abbrev pub askedWith : (p : ℕ) → (before after : Reader) → (place : Point) → Words → (number : ℕ) → Asked
-askedWith p k k′ place ws zero = asked (cond (moving ws) (blockAsked place (blockOf p k′ ws place)) ToLoad.Nothing) k′
+askedWith p k k′ place ws zero = asked (cond (moving ws) (blockAsked place (blockAt feedUnit p k′ ws place)) ToLoad.Nothing) k′
 askedWith p k k′ place ws (suc n) = asked (ToLoad.Refused (suc n)) k
 
 -- a line of so many bytes, which say this; what is known after it, unless load refuses the block

@@ -19,4 +19,4 @@ pub record Writable (ws : Words) : Type 0 where
   pub y : ws .y .magnitude < 10 ^ 10
   pub i : ws .i .magnitude < 10 ^ 10
   pub j : ws .j .magnitude < 10 ^ 10
-  pub f : ws .f .magnitude < 10 ^ 7
+  pub f : ws .f .magnitude < 10 ^ 10

@@ -109,7 +109,7 @@ root-most at (Work.Arc a) c = omega (arith, quarter-bound (a .square) (seenFrom 
 block-root : (start : Point) (b : Block) → Accepted start b → rootOf start b ≤ 8000000
 block-root start b a = omega (arith, begun-root start b, root-most start (begunOf start b .work) (begun-countable a))
 
-places-small : (q0 : ℕ) (t : Travel) → q0 ≤ 1200000 → Wide t → (from : Point) (l : List Waiting) → insideOf t from ≡ true
+places-small : (q0 : ℕ) (t : Travel) → q0 ≤ 1200000000 → Wide t → (from : Point) (l : List Waiting) → insideOf t from ≡ true
     → chainAccepted q0 t from (blocksOf l) ≡ true → rootsRight from l ≡ true → AllSmall l
 places-small q0 t most w from [] i a r = tt
 places-small q0 t most w from (x ∷ l) i a r =

@@ -1,5 +1,5 @@
 -- For programs that write lines into a buffer: every line fits, and what the buffer holds after one.
-use Prim.Native.Nat.{ℕ, _+_, _≤_}
+use Prim.Native.Nat.{ℕ, _+_, _^_, _≤_, _<_}
 use mathlib.Core.Path.{_≡_, sym, ap, _∙_}
 use mathlib.Core.List.{List, _++_, append-assoc}
 use native.Mathlib.Omega.{arith}
@@ -10,7 +10,9 @@ use mir.Syntax.{w64}
 use mir.Val.{Fits, SFits}
 use Rattle.row.specs.declared.lines.Kind.{Kind}
 use Rattle.row.specs.Lines.{headerLine, blockLine, totalLine, refusedLine}
+use Rattle.row.specs.declared.long.LongCount.{LongCount}
 use Rattle.row.specs.computed.Buffer.{lineRoom, placed}
+use Rattle.row.specs.computed.Long.{longOf}
 use Rattle.row.specs.laws.Lines.{block-length, total-length, refused-length}
 
 -- ---- there is room for every line
@@ -23,9 +25,9 @@ pub block-short : (block textLine : ℕ) (kind : Kind) (cycles : ℕ) (x y : ℤ
     → length (blockLine block textLine kind cycles x y bits) ≤ lineRoom
 block-short block textLine kind cycles x y bits b l c p q w = omega (arith, block-length block textLine kind cycles x y bits b l c p q w)
 
-pub total-short : (blocks cycles ticks : ℕ) → Fits w64 blocks → Fits w64 cycles → Fits w64 ticks
-    → length (totalLine blocks cycles ticks) ≤ lineRoom
-total-short blocks cycles ticks b c t = omega (arith, total-length blocks cycles ticks b c t)
+pub total-short : (blocks cycles : ℕ) (ticks : LongCount) → Fits w64 blocks → Fits w64 cycles → ticks .low < 2 ^ 64 → ticks .high < 2 ^ 32
+    → length (totalLine blocks cycles (longOf ticks)) ≤ lineRoom
+total-short blocks cycles ticks b c l h = omega (arith, total-length blocks cycles (longOf ticks) b c (omega arith))
 
 pub refused-short : (textLine number : ℕ) → Fits w64 textLine → Fits w64 number → length (refusedLine textLine number) ≤ lineRoom
 refused-short textLine number l n = omega (arith, refused-length textLine number l n)

@@ -73,7 +73,7 @@ digits-least =
     by-digits (λ n. 1 ≤ length (decimal n)) (λ n h. omega (arith, length-small n h)) (λ n h rest. omega (arith, length-large n h))
 
 -- a number below 10 ^ (k + 1) has k + 1 digits at most
-digits-below : (n k : ℕ) → n < 10 ^ suc k → length (decimal n) ≤ suc k
+pub digits-below : (n k : ℕ) → n < 10 ^ suc k → length (decimal n) ≤ suc k
 digits-below =
     by-digits (λ n. (k : ℕ) → n < 10 ^ suc k → length (decimal n) ≤ suc k) (λ n h k l. omega (arith, length-small n h)) large
   where

@@ -1,5 +1,5 @@
 -- The lines of the listing: none takes more than 128 bytes.
-use Prim.Native.Nat.{ℕ, _+_, _≤_}
+use Prim.Native.Nat.{ℕ, _+_, _^_, _≤_, _<_}
 use mathlib.Core.Path.{_≡_, _∙_}
 use mathlib.Core.List.{List, [], _∷_}
 use native.Mathlib.Omega.{arith}
@@ -9,7 +9,7 @@ use mir.Syntax.{w64}
 use mir.Val.{Fits, SFits}
 use Rattle.row.specs.declared.lines.Kind.{Kind}
 use Rattle.row.specs.Lines.{line, blockLine, totalLine, refusedLine}
-use Rattle.row.specs.laws.Decimal.{digits-most, signed-most}
+use Rattle.row.specs.laws.Decimal.{digits-below, digits-most, signed-most}
 
 -- each field and the byte after it
 abbrev widths : List (List ℕ) → ℕ
@@ -27,10 +27,10 @@ block-length block textLine kind cycles x y bits b l c p q w =
     rw line-length
     (omega (arith, digits-most block b, digits-most textLine l, digits-most cycles c, signed-most x p, signed-most y q, digits-most bits w))
 
-pub total-length : (blocks cycles ticks : ℕ) → Fits w64 blocks → Fits w64 cycles → Fits w64 ticks
-    → length (totalLine blocks cycles ticks) ≤ 69
+pub total-length : (blocks cycles ticks : ℕ) → Fits w64 blocks → Fits w64 cycles → ticks < 10 ^ 30
+    → length (totalLine blocks cycles ticks) ≤ 79
 total-length blocks cycles ticks b c t =
-    rw line-length (omega (arith, digits-most blocks b, digits-most cycles c, digits-most ticks t))
+    rw line-length (omega (arith, digits-most blocks b, digits-most cycles c, digits-below ticks 29 t))
 
 pub refused-length : (textLine number : ℕ) → Fits w64 textLine → Fits w64 number → length (refusedLine textLine number) ≤ 55
 refused-length textLine number l n = rw line-length (omega (arith, digits-most textLine l, digits-most number n))

@@ -23,7 +23,7 @@ use Rattle.reader.specs.computed.Reader.{longestText}
 use Rattle.reader.specs.Reader.{unknown}
 use Rattle.job.specs.Text.{linesOf}
 use Rattle.job.specs.Job.{Made, End}
-use Rattle.job.specs.computed.Job.{Asks, readOn, jobFrom, jobOf}
+use Rattle.job.specs.computed.Job.{Asks, readOn, jobFromAt, jobAt, jobFrom, jobOf}
 use Rattle.job.specs.computed.Check.{enough}
 use Rattle.job.specs.laws.Ended.{Accepted, endedOf, ended-rests, ended-run}
 use Rattle.job.specs.laws.Listing.{fresh-rests}
@@ -102,14 +102,14 @@ by-line blocks lines n m k ls i rest (Read-as.makes known b ok) =
 by-line blocks lines n m k ls i rest (Read-as.refuses number) = tt
 
 lines-listed : (ls : List (List ℕ)) → Listing ls
-unfolding seekFrom jobFrom
+unfolding seekFrom jobFromAt
 lines-listed [] blocks lines n m k i = tt
 lines-listed (l ∷ ls) blocks lines n m k i = by-line blocks lines n m k ls i (lines-listed ls) (line-asks m k (i .sound) (i .idle) l)
 
 -- of a whole text
 pub seek-listed : (s : Settings) → settingsNo s ≡ 0 → (text : List ℕ) (n : ℕ)
     → (let a = seekOf s text n in Among (a .found) 0 (a .block) (a .line) (jobOf s text .blocks))
-unfolding seekOf jobOf makeOf freshOf
+unfolding seekOf jobAt makeOf freshOf
 seek-listed s passed text n = rw passed (by (leb (length text) longestText))
   where
     by : (short : Bool)

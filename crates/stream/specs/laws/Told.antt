@@ -26,7 +26,7 @@ use Rattle.reader.specs.computed.Reader.{longestText}
 use Rattle.reader.specs.Reader.{unknown}
 use Rattle.job.specs.Text.{linesOf}
 use Rattle.job.specs.Job.{Made, End}
-use Rattle.job.specs.computed.Job.{Asks, readOn, jobFrom, jobOf}
+use Rattle.job.specs.computed.Job.{Asks, readOn, jobFromAt, jobAt, jobFrom, jobOf}
 use Rattle.job.specs.computed.Check.{enough}
 use Rattle.job.specs.computed.Check.{unless}
 use Rattle.job.specs.Listing.{allCycles, allTicks}
@@ -90,13 +90,13 @@ by-line m n k ls i low rest (Read-as.makes known b ok) =
 by-line m n k ls i low rest (Read-as.refuses number) = none (capacityOf (m .settings)) (m .remainder)
 
 lines-told : (ls : List (List ℕ)) → Told ls
-unfolding bytesFrom jobFrom
+unfolding bytesFrom jobFromAt
 lines-told [] n m k i low = none (capacityOf (m .settings)) (m .remainder)
 lines-told (l ∷ ls) n m k i low = by-line m n k ls i low (lines-told ls) (line-asks m k (i .sound) (i .idle) l)
 
 -- of a whole text, from a machine made fresh
 pub bytes-told : (s : Settings) → settingsNo s ≡ 0 → (text : List ℕ) → Counts (capacityOf s) 0 (jobOf s text .blocks) (tickBytesOf s text)
-unfolding tickBytesOf jobOf freshOf
+unfolding tickBytesOf jobAt freshOf
 bytes-told s passed text = by (leb (length text) longestText)
   where
     by : (short : Bool)

@@ -3,12 +3,13 @@ use mathlib.Core.Path.{_≡_}
 use mathlib.Core.Bool.{Bool, true, false, cond, not, _&&_}
 use mathlib.Core.List.{List, []}
 use Prim.Native.Nat.{ℕ, _+_, _*_, _≤_}
-use lib.Dec.{leb}
+use lib.Dec.{leb, ltb}
 use lib.ListN.{length}
 use Rattle.row.specs.declared.lines.Kind.{Kind}
 use Rattle.row.specs.declared.lines.Place.{Place}
 use Rattle.row.specs.computed.Buffer.{lineRoom, hasRoom, placed}
-use Rattle.row.specs.Lines.{blockLine, refusedLine}
+use Rattle.row.specs.computed.Long.{lowLimit, longOf, noneCounted, plusOf}
+use Rattle.row.specs.Lines.{blockLine, totalLine, refusedLine}
 use Rattle.work.specs.declared.Work.{Work}
 use Rattle.bench.specs.declared.Bench.{Bench}
 use Rattle.finish.specs.computed.Finish.{finishOf}
@@ -22,7 +23,7 @@ use Rattle.tally.specs.declared.Listed.{Listed}
 
 -- nothing known, nothing read
 unfoldable pub tallyFrom : Bench → Tally
-tallyFrom m = record { reader = unknown; bench = m; lines = 0; blocks = 0; cycles = 0; ticks = 0 }
+tallyFrom m = record { reader = unknown; bench = m; lines = 0; blocks = 0; cycles = 0; ticks = noneCounted }
 
 -- what a text line gives: the bytes of its row, whether the listing is over, and the tally after it
 pub record RowGiven : Type 0 where
@@ -46,15 +47,17 @@ placeAfterRow Place.NoRoom at = at
 abbrev pub mostBlockCycles : ℕ
 mostBlockCycles = 8000000
 
--- nor more ticks: its charges are at most 9,400,000,000, q0 is at most 1,200,000, and a tick adds at least 1,000
+-- nor more ticks: its charges are at most 9,400,000,000, q0 is at most 1,200,000,000, and a tick adds at least 1,000
 abbrev pub mostBlockTicks : ℕ
-mostBlockTicks = 11280000000000
+mostBlockTicks = 11280000000000000
 
--- a text has no more lines than bytes, so its totals fit in 64 bits
+-- A text has no more lines than bytes, so its cycles fit in 64 bits. Its ticks need not, so they are a long count: a block adds less than
+-- 10^18 and carries at most one, so the high part is at most the lines.
 unfoldable pub countsRight : Tally → Bool
 countsRight t =
     leb (t .lines) longestText
-    && (leb (t .blocks) (t .lines) && (leb (t .cycles) (mostBlockCycles * t .lines) && leb (t .ticks) (mostBlockTicks * t .lines)))
+    && (leb (t .blocks) (t .lines)
+    && (leb (t .cycles) (mostBlockCycles * t .lines) && (leb (t .ticks .high) (t .lines) && ltb (t .ticks .low) lowLimit)))
 
 abbrev pub kindOf : Work → Kind
 kindOf Work.Nothing = Kind.Line
@@ -74,7 +77,7 @@ blockListed t k m bits =
         lines = t .lines + 1;
         blocks = t .blocks + 1;
         cycles = t .cycles + f .cycles;
-        ticks = t .ticks + f .ticks;
+        ticks = plusOf (t .ticks) (f .ticks);
       };
     }
 
@@ -89,6 +92,10 @@ listedWith t k m Read.Nothing =
     }
 listedWith t k m (Read.Loaded bits) = blockListed t k m bits
 listedWith t k m (Read.Refused number) = record { bytes = refusedLine (t .lines + 1) number; over = true; tally = t }
+
+-- "the last line gives blocks, cycles and ticks"
+abbrev pub totalOf : Tally → List ℕ
+totalOf t = totalLine (t .blocks) (t .cycles) (longOf (t .ticks))
 
 -- a tally that no text can reach gets no row
 unfoldable pub listedOf : Tally → (line : List ℕ) → RowGiven

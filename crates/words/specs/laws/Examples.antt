@@ -31,7 +31,12 @@ examples =
     ∷ nope (88 ∷ 53 ∷ 46 ∷ 49 ∷ 50 ∷ 51 ∷ 52 ∷ [])  -- X5.1234
     ∷ nope (88 ∷ 32 ∷ 53 ∷ [])  -- X 5
     ∷ nope (88 ∷ 45 ∷ 45 ∷ 53 ∷ [])  -- X--5
-    ∷ nope (70 ∷ 49 ∷ 46 ∷ 53 ∷ [])  -- F1.5
+    ∷ yes (70 ∷ 49 ∷ 46 ∷ 53 ∷ [])  -- F1.5
+    ∷ nope (70 ∷ 49 ∷ 46 ∷ [])  -- F1.
+    ∷ nope (70 ∷ 46 ∷ 53 ∷ [])  -- F.5
+    ∷ nope (70 ∷ 45 ∷ 49 ∷ [])  -- F-1
+    ∷ nope (78 ∷ 49 ∷ 46 ∷ 53 ∷ [])  -- N1.5
+    ∷ nope (71 ∷ 49 ∷ 46 ∷ 48 ∷ [])  -- G1.0
     ∷ nope (71 ∷ 43 ∷ 49 ∷ [])  -- G+1
     ∷ nope (78 ∷ 49 ∷ 50 ∷ 51 ∷ 52 ∷ 53 ∷ 54 ∷ 55 ∷ 56 ∷ [])  -- N12345678
     ∷ nope (71 ∷ 49 ∷ 9 ∷ [])  -- G1 and a tab
@@ -53,7 +58,7 @@ firstLine = 78 ∷ 50 ∷ 48 ∷ 32 ∷ 71 ∷ 48 ∷ 49 ∷ 32 ∷ 88 ∷ 50 �
 abbrev firstWords : Letter → Word
 firstWords N = oneWord false 20
 firstWords G = oneWord false 1
-firstWords F = oneWord false 100
+firstWords F = oneWord false 100_000
 firstWords X = oneWord false 20_000
 firstWords Y = oneWord false 40_000
 firstWords I = missingWord

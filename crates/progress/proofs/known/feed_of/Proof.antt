@@ -1,4 +1,4 @@
--- `feed_of` is right because a negative word tells no feed, and one of more than 32 bits neither.
+-- `feed_of` is right because a negative word tells no feed, and one that no text can write neither.
 use borrow.Author.Needs.{needs}
 use borrow.Author.Tests.{lt-ltb, le-ltb}
 use mir.Facts.{toZ-ofZ}
@@ -15,8 +15,11 @@ returns c =
     let f = s .fits .word in
     feed-none (s .args .word) (simp toZ-ofZ at (c .before .part .ensures)) (c .if1 .taken)
 
-cast-t5 : tie.Need-cast-t5
-cast-t5 c = search needs
+cast-t6 : tie.Need-cast-t6
+cast-t6 c = search needs
+
+cast-t8 : tie.Need-cast-t8
+cast-t8 c = search needs
 
 returns-2 : tie.Need-returns-2
 returns-2 c =
@@ -33,4 +36,4 @@ returns-3 c =
     (c .before .if1 .left))
 
 pub feed-of-spec : {M : Type 1} → statement M
-feed-of-spec = tie.close (tie.spec part-requires returns cast-t5 returns-2 returns-3)
+feed-of-spec = tie.close (tie.spec part-requires returns cast-t6 cast-t8 returns-2 returns-3)

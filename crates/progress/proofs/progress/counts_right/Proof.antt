@@ -7,7 +7,7 @@ use mir.Val.{SFits}
 use mir.Facts.{toZ-ofZ}
 use Rattle.encoding.specs.computed.Right.{isCount}
 use Rattle.progress.specs.declared.progress.Progress.{Progress}
-use Rattle.progress.specs.computed.Right.{countWordsRight}
+use Rattle.progress.specs.computed.Right.{longRight, countWordsRight}
 use Rattle.progress.proofs.progress.counts_right.Statement.{statement}
 use Rattle.progress.proofs.progress.counts_right.Tie as tie
 
@@ -24,7 +24,7 @@ progress3 c = progress2 (c .before .before .before)
 abbrev progress4 : tie.After-is-count4 → Progress
 progress4 c = progress3 (c .before .before .before)
 
-abbrev progress5 : tie.After-is-count5 → Progress
+abbrev progress5 : tie.After-long-right → Progress
 progress5 c = progress4 (c .before .before .before)
 
 -- what each call says, over the word itself
@@ -40,8 +40,8 @@ blocks-is c = let f : SFits w64 (progress3 c .blocks) = search needs in simp toZ
 cycles-is : (c : tie.After-is-count4) → c .is-count4 .result ≡ isCount (progress4 c .cycles)
 cycles-is c = let f : SFits w64 (progress4 c .cycles) = search needs in simp toZ-ofZ at (c .is-count4 .ensures)
 
-ticks-is : (c : tie.After-is-count5) → c .is-count5 .result ≡ isCount (progress5 c .ticks)
-ticks-is c = let f : SFits w64 (progress5 c .ticks) = search needs in simp toZ-ofZ at (c .is-count5 .ensures)
+ticks-is : (c : tie.After-long-right) → c .long-right .result ≡ longRight (progress5 c .ticks)
+ticks-is c = c .long-right .ensures
 
 is-count-requires : tie.Need-is-count-requires
 is-count-requires c κs = search needs
@@ -92,8 +92,8 @@ returns-4 c =
           ∙ not-true _ (c .if4 .taken),
     )
 
-is-count-requires-5 : tie.Need-is-count-requires-5
-is-count-requires-5 c κs = search needs
+long-right-requires : tie.Need-long-right-requires
+long-right-requires c κs = search needs
 
 returns-5 : tie.Need-returns-5
 unfolding countWordsRight
@@ -114,4 +114,4 @@ returns-5 c =
 pub counts-right-spec : {M : Type 1} → statement M
 counts-right-spec = tie.close
     (tie.spec is-count-requires returns is-count-requires-2 returns-2 is-count-requires-3 returns-3 is-count-requires-4 returns-4
-    is-count-requires-5 returns-5)
+    long-right-requires returns-5)

@@ -28,7 +28,7 @@ returns c =
     let l : SFits w64 (i .result .lines) = search needs in
     let b : SFits w64 (i .result .blocks) = search needs in
     let k : SFits w64 (i .result .cycles) = search needs in
-    let t : SFits w64 (i .result .ticks) = search needs in
+    let t : SFits w64 (i .result .ticks .low) = search (needs, i .ok .1 .1 .1 .1 .1 .1 .1 .1) in
     let fits = subst Fits (i .ensures) (record { at = a; lines = l; blocks = b; cycles = k; ticks = t }) in
     let ok = c .progress-right .ensures ∙ ap progressRight (i .ensures)
     ∙ progress-same (c .before .before .before .args .m) ws (search needs) fits in

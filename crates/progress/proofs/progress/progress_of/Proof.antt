@@ -8,6 +8,9 @@ use Rattle.progress.proofs.progress.progress_of.Tie as tie
 known-of-requires : tie.Need-known-of-requires
 known-of-requires c κs = search needs
 
+long-words-requires : tie.Need-long-words-requires
+long-words-requires c κs = search needs
+
 stage-word-requires : tie.Need-stage-word-requires
 stage-word-requires c κs = search needs
 
@@ -23,25 +26,23 @@ word-requires-3 c κs = search needs
 word-requires-4 : tie.Need-word-requires-4
 word-requires-4 c κs = search needs
 
-word-requires-5 : tie.Need-word-requires-5
-word-requires-5 c κs = search needs
-
 returns : tie.Need-returns
 returns c =
-    let k = c .before .before .before .before in
-    let s = k .before .before .before .before .before in
+    let k = c .before .before .before in
+    let s = k .before .before .before .before .before .before .before in
     simp (
       through (stage-fits (s .args .c .stage)) (k .before .stage-word .ensures),
       through (word-fits _) (k .word .ensures),
-      k .before .before .known-of .ensures,
-      through (word-fits _) (c .before .before .before .word2 .ensures),
-      through (word-fits _) (c .before .before .word3 .ensures),
-      through (word-fits _) (c .before .word4 .ensures),
-      through (word-fits _) (c .word5 .ensures),
+      k .before .before .before .before .known-of .ensures,
+      k .before .before .long-words .ensures,
+      through (word-fits _) (c .before .before .word2 .ensures),
+      through (word-fits _) (c .before .word3 .ensures),
+      through (word-fits _) (c .word4 .ensures),
     )
     (search needs)
 
 pub progress-of-spec : {M : Type 1} → statement M
 progress-of-spec =
     tie.close
-    (tie.spec known-of-requires stage-word-requires word-requires word-requires-2 word-requires-3 word-requires-4 word-requires-5 returns)
+    (tie.spec known-of-requires long-words-requires stage-word-requires word-requires word-requires-2 word-requires-3 word-requires-4
+    returns)

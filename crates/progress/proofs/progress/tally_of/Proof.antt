@@ -6,6 +6,9 @@ use Rattle.progress.proofs.progress.tally_of.Tie as tie
 reader-of-requires : tie.Need-reader-of-requires
 reader-of-requires c κs = search needs
 
+long-of-requires : tie.Need-long-of-requires
+long-of-requires c κs = search needs
+
 count-requires : tie.Need-count-requires
 count-requires c κs = search needs
 
@@ -15,17 +18,14 @@ count-requires-2 c κs = search needs
 count-requires-3 : tie.Need-count-requires-3
 count-requires-3 c κs = search needs
 
-count-requires-4 : tie.Need-count-requires-4
-count-requires-4 c κs = search needs
-
 returns : tie.Need-returns
 returns c = search (
   needs,
   c .before .before .before .before .before .before .before .before .reader-of .ensures,
-  c .before .before .before .before .before .before .count .ensures,
-  c .before .before .before .before .count2 .ensures,
-  c .before .before .count3 .ensures,
-  c .count4 .ensures,
+  c .before .before .before .before .before .before .long-of .ensures,
+  c .before .before .before .before .count .ensures,
+  c .before .before .count2 .ensures,
+  c .count3 .ensures,
 )
 
 pub tally-of-spec : {M : Type 1} → statement M
@@ -33,8 +33,8 @@ tally-of-spec =
     tie.close
     (tie.spec
     reader-of-requires
+    long-of-requires
     count-requires
     count-requires-2
     count-requires-3
-    count-requires-4
     returns)

@@ -3,7 +3,7 @@ use borrow.Author.Needs.{needs}
 use mir.Syntax.{w64}
 use mir.Val.{SFits}
 use mir.Facts.{toZ-ofZ}
-use Rattle.reader.specs.Reader.{coordinate, blockOf}
+use Rattle.reader.specs.Reader.{coordinate, blockAt}
 use Rattle.reader.specs.laws.Small.{coordinate-fits}
 use Rattle.reader.proofs.command.block_of.Statement.{statement}
 use Rattle.reader.proofs.command.block_of.Tie as tie
@@ -21,7 +21,7 @@ feed-number-requires : tie.Need-feed-number-requires
 feed-number-requires c κs = search needs
 
 returns : tie.Need-returns
-unfolding blockOf
+unfolding blockAt
 returns c =
     let s = c .before .before .before .before .before .before .before .before in
     let at-x : SFits w64 (s .args .at .x) = search needs in

@@ -1,6 +1,7 @@
 -- `total` is right because its pieces, one after the other, are the fields of the line with what stands between them.
 use native.Mathlib.Omega.{arith}
 use Rattle.row.specs.Lines.{totalLine}
+use Rattle.row.specs.computed.Long.{longOf}
 use Rattle.row.specs.laws.Puts.{_then_, with-room, without-room}
 use borrow.Author.Needs.{needs}
 use Rattle.row.proofs.lines.total.Statement.{statement}
@@ -12,7 +13,7 @@ left-requires c κs = search needs
 returns : tie.Need-returns
 returns c =
     let a = c .before .before .before .args in
-    without-room (a .out .now) (a .at) (totalLine (a .blocks) (a .cycles) (a .ticks)) (omega arith)
+    without-room (a .out .now) (a .at) (totalLine (a .blocks) (a .cycles) (longOf (a .ticks))) (omega arith)
 
 slice-aggregate-text : tie.Need-slice-aggregate-text
 slice-aggregate-text c = search needs
@@ -26,8 +27,8 @@ number-requires c κs = search needs
 number-requires-2 : tie.Need-number-requires-2
 number-requires-2 c κs = search needs
 
-number-requires-3 : tie.Need-number-requires-3
-number-requires-3 c κs = search needs
+long-requires : tie.Need-long-requires
+long-requires c κs = search needs
 
 same-length : tie.Need-same-length
 same-length c = search needs
@@ -40,7 +41,7 @@ returns-2 c =
     let name = blocks .before .before .before .before in
     let a = name .before .before .before .before .before .before .args in
     with-room (a .out .now) (a .at) (omega arith)
-    (name .text .ensures then blocks .number .ensures then cycles .number2 .ensures then ticks .number3 .ensures)
+    (name .text .ensures then blocks .number .ensures then cycles .number2 .ensures then ticks .long .ensures)
 
 pub total-spec : {M : Type 1} → statement M
 total-spec =
@@ -52,6 +53,6 @@ total-spec =
     text-requires
     number-requires
     number-requires-2
-    number-requires-3
+    long-requires
     same-length
     returns-2)

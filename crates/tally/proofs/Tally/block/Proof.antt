@@ -78,11 +78,11 @@ kind-of-requires c κs = search needs
 block-requires : tie.Need-block-requires
 block-requires c κs = search needs
 
-add-t19 : tie.Need-add-t19
-add-t19 c = omega (arith, has-room (finished (c .before .before .before .before)) .cycles)
+plus-requires : tie.Need-plus-requires
+plus-requires c κs = let r = has-room (finished (c .before .before .before)) in (r .low, r .few, r .high)
 
-add-t20 : tie.Need-add-t20
-add-t20 c = omega (arith, has-room (finished (c .before .before .before .before .before .before)) .ticks)
+add-t21 : tie.Need-add-t21
+add-t21 c = omega (arith, has-room (finished (c .before .before .before .before .before .before)) .cycles)
 
 next-place-requires : tie.Need-next-place-requires
 next-place-requires c κs = search needs
@@ -105,7 +105,7 @@ returns c =
             next = rw (← b .before .before .before .kind-of .ensures)
                 (c .next-place .ensures ∙ goes-on (line b) (s .args .out .now) (s .args .at) room (place-is b));
             over = refl;
-            tally = refl;
+            tally = rw (c .before .before .before .plus .ensures);
           }),
       refl,
     )
@@ -119,8 +119,8 @@ block-spec =
     add-blocks
     kind-of-requires
     block-requires
-    add-t19
-    add-t20
+    plus-requires
+    add-t21
     next-place-requires
     same-length
     returns)

@@ -1,4 +1,4 @@
--- `total` writes its own numbers, which are of 64 bits.
+-- `total` writes its own numbers, whatever they are.
 use borrow.Author.Needs.{needs}
 use Rattle.tally.proofs.Tally.total.Statement.{statement}
 use Rattle.tally.proofs.Tally.total.Tie as tie
@@ -11,7 +11,9 @@ same-length : tie.Need-same-length
 same-length c = search needs
 
 returns : tie.Need-returns
-returns c = let w = c .before .before .total .ensures in (w .0, (w .1, total-short _ _ _ (search needs) (search needs) (search needs)))
+returns c =
+    let w = c .before .before .total .ensures in
+    (w .0, (w .1, total-short _ _ _ (search needs) (search needs) (search needs) (search needs)))
 
 pub total-spec : {M : Type 1} → statement M
 total-spec = tie.close (tie.spec total-requires same-length returns)
