@@ -7,7 +7,8 @@
 
 #include "verdaizka.h"
 
-enum { P = 50, W = 5000, RADIUS = 10 * P, FEED = 200 * P };
+/* 200 mm a minute: a feed is in thousandths of a pulse per minute. */
+enum { P = 50, W = 5000, RADIUS = 10 * P, FEED = 200 * 1000 * P };
 
 static double millimetres(int64_t pulses)
 {

@@ -7,7 +7,8 @@
 
 #include "verdaizka.h"
 
-enum { P = 50, W = 5000, SIDE = 10 * P, FEED = 300 * P };
+/* 300 mm a minute: a feed is in thousandths of a pulse per minute. */
+enum { P = 50, W = 5000, SIDE = 10 * P, FEED = 300 * 1000 * P };
 
 struct sums {
     int64_t x, y;           /* with their signs */

@@ -1,5 +1,5 @@
-//! "The book of a history", with load's questions 10 to 16, the charges of 02 §2 and the waiting blocks of 02 §3: "A rule changed later
-//! changes in the book too." Question 9 is in machine.rs.
+//! "The book of a history", with load's questions 10 to 16, the charges of 02 §2, the waiting blocks of 02 §3 and the feeds of 02 §4: "A
+//! rule changed later changes in the book too." Question 9 is in machine.rs.
 
 use std::collections::VecDeque;
 
@@ -7,7 +7,7 @@ use crate::arc::{self, Circle, Kind, Walker};
 use crate::charge;
 use crate::line;
 use crate::point::{Point, ORIGIN};
-use crate::settings::{Settings, USUAL};
+use crate::settings::{Settings, FEED_UNIT, USUAL};
 
 /// "A load is given the kind, the end in absolute pulses, f and, for an arc, I and J."
 #[derive(Clone, Copy, PartialEq, Eq, Debug)]
@@ -116,6 +116,8 @@ pub enum Why {
 #[derive(Clone, Debug)]
 pub struct Book {
     pub settings: Settings,
+    /// How many feed numbers are a pulse per minute: FEED_UNIT, but where units.rs tries 1, as it was before 02 §4.
+    pub unit: u64,
     pub point: Point,
     pub held: bool,
     pub remainder: u64,
@@ -157,7 +159,17 @@ impl Book {
     /// counted from where it stands.
     pub fn opened(settings: Settings, point: Point, held: bool, remainder: u64, block: Option<Block>) -> Book {
         let left = block.map_or(0, |block| block.left());
-        Book { settings, point, held, remainder, block, waiting: VecDeque::new(), left, walker: Walker::default() }
+        Book { settings, unit: FEED_UNIT, point, held, remainder, block, waiting: VecDeque::new(), left, walker: Walker::default() }
+    }
+
+    fn q0(&self) -> u64 {
+        self.settings.q0_in(self.unit)
+    }
+
+    /// "The block's feed number f is pulses per minute: millimetres per minute times p", and by 02 §4 "thousandths of a pulse per
+    /// minute": of an F in thousandths exact. At unit 1 it is asked of whole F alone.
+    pub fn feed_number(&self, thousandths: u64) -> u64 {
+        thousandths.saturating_mul(self.settings.p) / (1_000 / self.unit)
     }
 
     /// "The other load questions, and what a text line leaves out, start from the end of the last waiting block, else of the block in
@@ -185,7 +197,7 @@ impl Book {
             return Err(10);
         }
         // "Is f in 1..q0? 11."
-        if !(1..=self.settings.q0()).contains(&load.feed()) {
+        if !(1..=self.q0()).contains(&load.feed()) {
             return Err(11);
         }
         // "Is the end in travel? 12."
@@ -252,7 +264,7 @@ impl Book {
     /// "Tick: with a block and no mark it is a working tick. ... Any other tick gives 0 and changes
     /// nothing."
     pub fn tick(&mut self) -> u8 {
-        let q0 = self.settings.q0();
+        let q0 = self.q0();
         let Some(block) = self.block.as_mut().filter(|_| !self.held) else {
             return 0;
         };
@@ -315,7 +327,7 @@ impl Book {
     /// record may have so great a remainder that one cycle a tick is later: from then on every tick does one.
     pub fn ticks_to_the_end(&self) -> u128 {
         let Some(block) = self.block else { return 0 };
-        let due = u128::from(block.charges - block.charged) * u128::from(self.settings.q0());
+        let due = u128::from(block.charges - block.charged) * u128::from(self.q0());
         let by_feed = due.saturating_sub(self.remainder.into()).div_ceil(u128::from(charge::PAID_PER_FEED * block.f.max(1)));
         by_feed.max(u128::from(block.left()))
     }
@@ -325,7 +337,7 @@ impl Book {
         let ticks = self.ticks_to_the_end();
         if let Some(block) = self.block.take() {
             let fed = u128::from(self.remainder) + ticks * u128::from(charge::PAID_PER_FEED * block.f);
-            let taken = u128::from(block.charges - block.charged) * u128::from(self.settings.q0());
+            let taken = u128::from(block.charges - block.charged) * u128::from(self.q0());
             self.remainder = u64::try_from(fed - taken).unwrap_or(u64::MAX);
             self.point = block.end;
             self.left -= block.left();
@@ -384,8 +396,8 @@ mod tests {
     fn load_asks_10_to_16_in_order() {
         let mut book = usual();
         assert_eq!(book.load(&line(0, 0, 0)), Err(11));
-        assert_eq!(book.load(&line(0, 1_000_001, 300_001)), Err(11));
-        assert_eq!(book.load(&line(0, 1_000_001, 300_000)), Err(12));
+        assert_eq!(book.load(&line(0, 1_000_001, 300_000_001)), Err(11));
+        assert_eq!(book.load(&line(0, 1_000_001, 300_000_000)), Err(12));
         assert_eq!(book.load(&line(0, 0, 1)), Err(13));
         assert_eq!(book.load(&arc(2, i64::MAX, i64::MIN, 1, 0, 0)), Err(12));
         assert_eq!(book.load(&arc(2, 0, 0, 1, 0, 0)), Err(14));
@@ -402,18 +414,18 @@ mod tests {
         let mut book = usual();
         book.hold();
         for x in 1..=17 {
-            assert_eq!(book.load(&line(x, 0, 300_000)), Ok(1));
+            assert_eq!(book.load(&line(x, 0, 300_000_000)), Ok(1));
             assert_eq!((book.waiting.len() as i64, book.left as i64, book.place()), (x - 1, x, Point::new(x, 0)));
         }
-        for load in [line(18, 0, 300_000), line(0, 0, 0), line(17, 0, 1), line(1_000_001, 0, 1), arc(2, 0, 0, 0, 0, 0)] {
+        for load in [line(18, 0, 300_000_000), line(0, 0, 0), line(17, 0, 1), line(1_000_001, 0, 1), arc(2, 0, 0, 0, 0, 0)] {
             assert_eq!(book.load(&load), Err(10));
         }
         book.release();
         assert_eq!((book.tick(), book.waiting.len(), book.left), (49, 15, 16));
-        assert_eq!(book.load(&line(17, 0, 300_000)), Err(13));
-        assert_eq!(book.load(&line(0, 0, 300_000)), Ok(5));
+        assert_eq!(book.load(&line(17, 0, 300_000_000)), Err(13));
+        assert_eq!(book.load(&line(0, 0, 300_000_000)), Ok(5));
         assert_eq!((book.waiting.len(), book.left), (16, 33));
-        assert_eq!(book.load(&line(1, 0, 300_000)), Err(10));
+        assert_eq!(book.load(&line(1, 0, 300_000_000)), Err(10));
         // "first come first cut"
         for x in 2..=17 {
             assert_eq!((book.tick(), book.point), (49, Point::new(x, 0)));
@@ -425,7 +437,7 @@ mod tests {
     #[test]
     fn where_a_waiting_block_starts() {
         let mut book = Book::make(Settings { x_upper: 13, ..USUAL }).0;
-        book.load(&line(3, 4, 300_000)).unwrap();
+        book.load(&line(3, 4, 300_000_000)).unwrap();
         book.tick();
         assert_eq!((book.point, book.place()), (Point::new(1, 1), Point::new(3, 4)));
         assert_eq!(book.load(&line(3, 4, 1)), Err(13));
@@ -448,12 +460,12 @@ mod tests {
     fn runs_over_ends() {
         let mut book = usual();
         for x in 1..=2 {
-            book.load(&line(x, 0, 200_000)).unwrap();
+            book.load(&line(x, 0, 200_000_000)).unwrap();
         }
         book.load(&line(2, 1, 1)).unwrap();
         assert_eq!(book.ticks_to_the_end(), 2);
         assert_eq!(book.run(9, 9, |_| ()), (Why::Ended, 2));
-        assert_eq!((book.point, book.remainder, book.left), (Point::new(1, 0), 100_000_000, 2));
+        assert_eq!((book.point, book.remainder, book.left), (Point::new(1, 0), 100_000_000_000, 2));
         assert_eq!(book.ticks_to_the_end(), 1);
         assert_eq!(book.run(1, 1, |_| ()), (Why::Ended, 1));
         assert_eq!((book.point, book.remainder, book.left), (Point::new(2, 0), 0, 1));
@@ -467,12 +479,12 @@ mod tests {
     /// "at most one a tick" where a block waits too: the tick that ends one does nothing for the next, though its cycle could be paid.
     #[test]
     fn one_cycle_a_tick_into_a_waiting_block() {
-        let mut book = Book { remainder: 1_400 * 300_000, ..usual() };
+        let mut book = Book { remainder: 1_400 * 300_000_000, ..usual() };
         for x in 1..=3 {
-            book.load(&line(x, 0, 300_000)).unwrap();
+            book.load(&line(x, 0, 300_000_000)).unwrap();
         }
         for x in 1..=3 {
-            assert_eq!((book.tick(), book.point, book.remainder), (49, Point::new(x, 0), 1_400 * 300_000));
+            assert_eq!((book.tick(), book.point, book.remainder), (49, Point::new(x, 0), 1_400 * 300_000_000));
         }
         assert_eq!((book.tick(), book.left), (0, 0));
     }
@@ -482,7 +494,7 @@ mod tests {
     fn stop_with_blocks_waiting() {
         let mut book = usual();
         for x in [3, 0, 3] {
-            book.load(&line(x, 0, 200_000)).unwrap();
+            book.load(&line(x, 0, 200_000_000)).unwrap();
         }
         book.run(3, 3, |_| ());
         book.hold();
@@ -497,7 +509,7 @@ mod tests {
     /// gives 16."
     #[test]
     fn travel_is_tried_at_every_visited_point() {
-        let half = arc(3, 0, 10, 300_000, 0, 5);
+        let half = arc(3, 0, 10, 300_000_000, 0, 5);
         let mut book = Book::make(Settings { x_upper: 5, ..USUAL }).0;
         assert_eq!(book.load(&half), Ok(3));
         assert_eq!(bytes(&mut book).into_iter().filter(|byte| byte & 16 != 0).count(), 14);
@@ -508,14 +520,17 @@ mod tests {
     /// "f equal to q0 accepted; q0 + 1 gives 11."
     #[test]
     fn f_up_to_q0() {
-        assert_eq!(usual().load(&line(1, 0, 300_000)), Ok(1));
-        assert_eq!(usual().load(&line(1, 0, 300_001)), Err(11));
+        assert_eq!(usual().load(&line(1, 0, 300_000_000)), Ok(1));
+        assert_eq!(usual().load(&line(1, 0, 300_000_001)), Err(11));
     }
 
-    /// "q0 300,000, r 0, k 1: f 150,000 ends on tick 2, 149,999 on tick 3."
+    /// "q0 300,000, r 0, k 1: f 150,000 ends on tick 2, 149,999 on tick 3." 02 §4: "In 01's worked tick case q0 and f count a
+    /// thousandfold."
     #[test]
     fn the_last_tick() {
-        for (f, expected) in [(150_000, 2), (149_999, 3), (300_000, 1), (1, 300_000)] {
+        assert_eq!(USUAL.q0(), 300_000_000);
+        let worked = [(150_000_000, 2), (149_999_000, 3), (149_999_999, 3)];
+        for (f, expected) in worked.into_iter().chain([(300_000_000, 1), (299_999_999, 2), (1_000, 300_000), (999, 300_301)]) {
             let mut book = usual();
             assert_eq!(book.load(&line(0, -1, f)), Ok(1));
             assert_eq!(book.ticks_to_the_end(), expected);
@@ -525,30 +540,73 @@ mod tests {
         }
     }
 
+    /// "Thin foil needs 0.75 mm per minute": 37,500 thousandths of a pulse, so that a pulse comes every 8,000 ticks. F0.001 is 50, and
+    /// its pulse comes after 6,000,000 ticks.
+    #[test]
+    fn slow_feeds() {
+        let mut book = usual();
+        assert_eq!((book.feed_number(750), book.feed_number(1), book.feed_number(9_999_999_999)), (37_500, 50, 499_999_999_950));
+        book.load(&line(2, 0, book.feed_number(750))).unwrap();
+        assert_eq!(book.ticks_to_the_end(), 16_000);
+        let cycles: Vec<usize> = bytes(&mut book).iter().enumerate().filter(|(_, byte)| **byte != 0).map(|(at, _)| at + 1).collect();
+        assert_eq!((cycles, book.remainder), (vec![8_000, 16_000], 0));
+        book.load(&line(3, 0, book.feed_number(1))).unwrap();
+        assert_eq!(book.finish_at_once(), 6_000_000);
+        assert_eq!((book.point, book.remainder), (Point::new(3, 0), 0));
+    }
+
+    /// A feed number that is no multiple of 1,000 leaves such remainders, to the last thousandth: 3 pulses at 299,999,999 end on tick 4.
+    #[test]
+    fn remainders_of_thousandths() {
+        let mut book = usual();
+        book.load(&line(3, 0, 299_999_999)).unwrap();
+        let after: Vec<(u8, u64)> = (0..4).map(|_| (book.tick(), book.remainder)).collect();
+        assert_eq!(after, [(0, 299_999_999_000), (17, 299_999_998_000), (17, 299_999_997_000), (49, 299_999_996_000)]);
+        // Made up: with 1 more than a line of 1 thousandth needs, and with 1 less.
+        for (remainder, byte, left) in [(299_999_999_001, 49, 1), (299_999_999_000, 49, 0), (299_999_998_999, 0, 299_999_999_999)] {
+            let mut book = Book { remainder, ..usual() };
+            book.load(&line(1, 0, 1)).unwrap();
+            assert_eq!((book.tick(), book.remainder), (byte, left));
+        }
+    }
+
+    /// The greatest sums and products: a full turn as great as the travel at the slowest feed of the fastest clock.
+    #[test]
+    fn the_longest_block() {
+        let mut book = Book::make(Settings { p: 1, w: 20_000, ..USUAL }).0;
+        book.load(&line(-1_000_000, 0, 1_200_000_000)).unwrap();
+        book.finish_at_once();
+        book.load(&arc(2, -1_000_000, 0, 1, 1_000_000, 0)).unwrap();
+        let charges = book.block.unwrap().charges;
+        assert!(charges > 6_600_000_000 && u128::from(charges) * 1_200_000_000 > 1 << 62);
+        assert_eq!(book.finish_at_once(), u128::from(charges) * 1_200_000);
+        assert_eq!((book.point, book.remainder), (Point::new(-1_000_000, 0), 0));
+    }
+
     /// N 25 from (5, 0) kind 3 to (0, 5), at f = q0. The steps to (5, 1), (5, 2) are straight, to (4, 3), (3, 4), (2, 5) diagonal, to
     /// (1, 5), (0, 5) straight: their charges sum up to 1,000, 2,000, 3,414, 4,828, 6,242, 7,242, 8,242. A tick adds 1,000 × q0, so
     /// that the cycles come on ticks 1, 2, 4, 5, 7, 8, 9, and 9,000 - 8,242 = 758 × q0 are left over.
     #[test]
     fn the_quarter_of_n_25() {
         let mut book = usual();
-        book.load(&arc(3, -5, 5, 300_000, -5, 0)).unwrap();
+        book.load(&arc(3, -5, 5, 300_000_000, -5, 0)).unwrap();
         assert_eq!(book.ticks_to_the_end(), 9);
         let (up, diagonal, left) = (16 + 4, 16 + 4 + 2, 16 + 2);
         assert_eq!(bytes(&mut book), [up, up, 0, diagonal, diagonal, 0, diagonal, left, left + 32]);
-        assert_eq!((book.point, book.remainder), (Point::new(-5, 5), 758 * 300_000));
+        assert_eq!((book.point, book.remainder), (Point::new(-5, 5), 758 * 300_000_000));
         // The other way at half the feed, 500 × q0 a tick. With 758 at its start the sums 242, 1,242, 2,656, 4,070, 5,484, 6,484, 7,484
         // are to be fed: ticks 1, 3, 6, 9, 11, 13, 15.
-        book.load(&arc(2, 0, 0, 150_000, 0, -5)).unwrap();
+        book.load(&arc(2, 0, 0, 150_000_000, 0, -5)).unwrap();
         assert_eq!(book.ticks_to_the_end(), 15);
         let cycles: Vec<usize> = bytes(&mut book).iter().enumerate().filter(|(_, byte)| *byte & 16 != 0).map(|(at, _)| at + 1).collect();
         assert_eq!(cycles, [1, 3, 6, 9, 11, 13, 15]);
-        assert_eq!((book.point, book.remainder), (ORIGIN, (7_500 - 7_484) * 300_000));
+        assert_eq!((book.point, book.remainder), (ORIGIN, (7_500 - 7_484) * 300_000_000));
     }
 
     /// Reaching counts for a diagonal step too: here N 1, where each step is one.
     #[test]
     fn a_diagonal_step_is_due_at_its_charge() {
-        let q0 = 300_000;
+        let q0 = 300_000_000;
         for (remainder, byte, after) in [(1_414 * q0 - 1_000 * q0, 21, 0), (1_414 * q0 - 1_000 * q0 - 1, 0, 1_414 * q0 - 1)] {
             let mut book = Book { remainder, ..usual() };
             book.load(&arc(3, 0, 0, q0, 0, 1)).unwrap();
@@ -561,7 +619,7 @@ mod tests {
     #[test]
     fn diagonal_cycles_of_a_line() {
         let mut book = usual();
-        book.load(&line(2, 2, 300_000)).unwrap();
+        book.load(&line(2, 2, 300_000_000)).unwrap();
         assert_eq!(book.ticks_to_the_end(), 3);
         assert_eq!(bytes(&mut book), [16 + 5, 16, 48 + 5]);
         assert_eq!(book.remainder, 0);
@@ -570,36 +628,36 @@ mod tests {
     /// "at most one a tick": 3 line cycles, f = q0, r = 1,400 × q0. The ceiling says ⌈(3,000 - 1,400) / 1,000⌉ = 2, and it is tick 3.
     #[test]
     fn a_made_up_remainder() {
-        let mut book = Book { remainder: 1_400 * 300_000, ..usual() };
-        book.load(&line(3, 0, 300_000)).unwrap();
+        let mut book = Book { remainder: 1_400 * 300_000_000, ..usual() };
+        book.load(&line(3, 0, 300_000_000)).unwrap();
         assert_eq!(book.ticks_to_the_end(), 3);
         let mut at_once = book.clone();
         assert_eq!(at_once.finish_at_once(), 3);
         assert_eq!(bytes(&mut book), [17, 17, 49]);
-        assert_eq!((book.point, book.remainder), (Point::new(3, 0), 1_400 * 300_000));
+        assert_eq!((book.point, book.remainder), (Point::new(3, 0), 1_400 * 300_000_000));
         assert_eq!((at_once.point, at_once.remainder), (book.point, book.remainder));
     }
 
     /// Over a block's end too: the tick that ends a block does nothing for the next one, though its cycle could be paid.
     #[test]
     fn one_cycle_a_tick_over_an_end() {
-        let mut book = Book { remainder: 1_400 * 300_000, ..usual() };
-        book.load(&line(1, 0, 300_000)).unwrap();
+        let mut book = Book { remainder: 1_400 * 300_000_000, ..usual() };
+        book.load(&line(1, 0, 300_000_000)).unwrap();
         assert_eq!(book.ticks_to_the_end(), 1);
         assert_eq!((book.tick(), book.tick()), (49, 0));
-        assert_eq!((book.point, book.remainder), (Point::new(1, 0), 1_400 * 300_000));
+        assert_eq!((book.point, book.remainder), (Point::new(1, 0), 1_400 * 300_000_000));
         // A third of q0: 1,400 and 333 pay the first cycle and leave 733, with 333 more the second.
-        book.load(&line(3, 0, 100_000)).unwrap();
+        book.load(&line(3, 0, 100_000_000)).unwrap();
         assert_eq!(book.ticks_to_the_end(), 2);
-        assert_eq!((book.tick(), book.remainder), (17, 220_000_000));
-        assert_eq!((book.tick(), book.remainder), (49, 20_000_000));
+        assert_eq!((book.tick(), book.remainder), (17, 220_000_000_000));
+        assert_eq!((book.tick(), book.remainder), (49, 20_000_000_000));
     }
 
     /// A cycle without a pulse (docs/DECISIONS.md, "Tick bytes"): (1, 1) has the bytes 21, 48.
     #[test]
     fn bytes_of_the_diagonal() {
         let mut book = usual();
-        book.load(&line(1, 1, 300_000)).unwrap();
+        book.load(&line(1, 1, 300_000_000)).unwrap();
         assert_eq!(bytes(&mut book), [21, 48]);
     }
 
@@ -609,7 +667,7 @@ mod tests {
         let mut book = usual();
         book.hold();
         assert_eq!(book.run(0, 0, |_| ()), (Why::Idle, 0));
-        book.load(&line(5, 0, 300_000)).unwrap();
+        book.load(&line(5, 0, 300_000_000)).unwrap();
         assert_eq!(book.run(0, 0, |_| ()), (Why::Held, 0));
         assert_eq!(book.tick(), 0);
         book.release();
@@ -626,14 +684,14 @@ mod tests {
     #[test]
     fn remainder_and_stop() {
         let mut book = usual();
-        book.load(&line(1, 0, 200_000)).unwrap();
+        book.load(&line(1, 0, 200_000_000)).unwrap();
         bytes(&mut book);
-        assert_eq!(book.remainder, 100_000_000);
-        book.load(&line(2, 0, 200_000)).unwrap();
+        assert_eq!(book.remainder, 100_000_000_000);
+        book.load(&line(2, 0, 200_000_000)).unwrap();
         assert_eq!(book.ticks_to_the_end(), 1);
         assert_eq!(book.tick(), 1 + 16 + 32);
         assert_eq!(book.remainder, 0);
-        book.load(&line(9, 0, 299_999)).unwrap();
+        book.load(&line(9, 0, 299_999_999)).unwrap();
         book.tick();
         book.hold();
         book.stop();
@@ -641,8 +699,8 @@ mod tests {
         assert!(book.block.is_none());
         // Also while a diagonal step waits with more than a straight one is charged.
         book.release();
-        book.load(&arc(3, 2, 0, 300_000, 0, 1)).unwrap();
-        assert_eq!((book.tick(), book.remainder), (0, 300_000_000));
+        book.load(&arc(3, 2, 0, 300_000_000, 0, 1)).unwrap();
+        assert_eq!((book.tick(), book.remainder), (0, 300_000_000_000));
         book.stop();
         assert_eq!((book.point, book.remainder), (Point::new(2, 0), 0));
     }

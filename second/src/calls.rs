@@ -284,15 +284,15 @@ mod tests {
     fn a_small_file() {
         all_answered(&[
             ("make 50 5000 -10 10 -10 10", "made | 0 0 0 0 0 0 0"),
-            ("load L 1 1 300000", "bits 1 | 0 0 0 0 1 0 2"),
+            ("load L 1 1 300000000", "bits 1 | 0 0 0 0 1 0 2"),
             ("run 9 9 7", "ended 2 1530 | 1 1 0 0 0 0 0"),
             ("make 0 1 2 3 4 5", "refused 1 | 0 0 0 0 0 0 0"),
-            ("load A 3 0 0 300000 0 1", "bits 1 | 0 0 0 0 1 0 4"),
-            // A diagonal step is charged 1,414: the second tick leaves 586 × 300,000.
-            ("tick", "byte 0 | 0 0 0 300000000 1 0 4"),
-            ("tick", "byte 21 | 1 1 0 175800000 1 0 3"),
-            ("hold", "done | 1 1 1 175800000 1 0 3"),
-            ("run 0 0 255", "held 0 - | 1 1 1 175800000 1 0 3"),
+            ("load A 3 0 0 300000000 0 1", "bits 1 | 0 0 0 0 1 0 4"),
+            // A diagonal step is charged 1,414: the second tick leaves 586 × 300,000,000.
+            ("tick", "byte 0 | 0 0 0 300000000000 1 0 4"),
+            ("tick", "byte 21 | 1 1 0 175800000000 1 0 3"),
+            ("hold", "done | 1 1 1 175800000000 1 0 3"),
+            ("run 0 0 255", "held 0 - | 1 1 1 175800000000 1 0 3"),
             ("stop", "done | 1 1 1 0 0 0 0"),
         ]);
         assert_eq!(answers("# a comment\n#\n> tick").unwrap(), "# a comment\n#\n> tick\n< byte 0 | 0 0 0 0 0 0 0\n");
@@ -365,11 +365,11 @@ mod tests {
     #[test]
     fn waiting_blocks() {
         all_answered(&[
-            ("record 50 1000 -20 20 -20 20 0 0 0 0 line 0 0 3 4 60000 0 7 2 L 3 5 60000 A 2 4 6 1 1 0", "set | 0 0 0 0 1 2 7"),
+            ("record 50 1000 -20 20 -20 20 0 0 0 0 line 0 0 3 4 60000000 0 7 2 L 3 5 60000000 A 2 4 6 1 1 0", "set | 0 0 0 0 1 2 7"),
             ("ahead 6", "ahead 3 5 3 5 0 0 1 0 1 | 0 0 0 0 1 2 7"),
             ("run 99 99 0", "ended 5 1514111435 | 3 4 0 0 1 1 2"),
-            ("load L 3 4 60000", "bits 2 | 3 4 0 0 1 2 5"),
-            ("load L 3 4 60000", "refused 13 | 3 4 0 0 1 2 5"),
+            ("load L 3 4 60000000", "bits 2 | 3 4 0 0 1 2 5"),
+            ("load L 3 4 60000000", "refused 13 | 3 4 0 0 1 2 5"),
             ("jump 1", "ahead 0 1 3 5 0 0 1 1 4 | 3 5 0 0 1 1 4"),
             ("stop", "done | 3 5 0 0 0 0 0"),
             ("make 50 1000 -20 20 -20 20", "made | 0 0 0 0 0 0 0"),
@@ -385,7 +385,7 @@ mod tests {
     fn looks_and_jumps() {
         all_answered(&[
             ("make 50 1000 -20 20 -20 20", "made | 0 0 0 0 0 0 0"),
-            ("load L 3 4 60000", "bits 3 | 0 0 0 0 1 0 5"),
+            ("load L 3 4 60000000", "bits 3 | 0 0 0 0 1 0 5"),
             ("ahead 2", "ahead 1 2 1 2 0 0 1 0 3 | 0 0 0 0 1 0 5"),
             ("ahead 1000001", "refused 38 0 0 0 0 0 0 1 0 5 | 0 0 0 0 1 0 5"),
             ("jump 2", "ahead 1 2 1 2 0 0 1 0 3 | 1 2 0 0 1 0 3"),
@@ -421,7 +421,7 @@ mod tests {
     fn what_is_known_after_a_jump() {
         all_answered(&[
             ("text G1 X0.04 F3000", "bits 2 | 0 0 0 0 1 0 2"),
-            ("jump 3", "ahead 1 0 1 0 0 150000000 1 0 1 | 1 0 0 150000000 1 0 1"),
+            ("jump 3", "ahead 1 0 1 0 0 150000000000 1 0 1 | 1 0 0 150000000000 1 0 1"),
             ("jump 1", "ahead 1 0 2 0 0 0 0 0 0 | 2 0 0 0 0 0 0"),
             ("ahead 9", "ahead 0 0 2 0 0 0 0 0 0 | 2 0 0 0 0 0 0"),
             ("text X0", "bits 2 | 2 0 0 0 1 0 2"),
@@ -453,6 +453,32 @@ mod tests {
         ]);
     }
 
+    /// An F with a point stays known as one without does, behind refused lines too: F0.75 at p 50 adds 37,500,000 a tick. F0.000 is known,
+    /// and 11 where a block is made. At p 1 F0.001 is feed number 1, and at w 20,000 F1200000 the most.
+    #[test]
+    fn lines_with_points_in_feeds() {
+        all_answered(&[
+            ("make 50 5000 -10 10 -10 10", "made | 0 0 0 0 0 0 0"),
+            ("text G1 F0.75", "none | 0 0 0 0 0 0 0"),
+            ("text X0.02", "bits 1 | 0 0 0 0 1 0 1"),
+            ("tick", "byte 0 | 0 0 0 37500000 1 0 1"),
+            ("stop", "done | 0 0 0 0 0 0 0"),
+            ("text X0.02 F1.", "refused 32 | 0 0 0 0 0 0 0"),
+            ("text X0.01 F8", "refused 35 | 0 0 0 0 0 0 0"),
+            ("text X0.02 F6000.001", "refused 11 | 0 0 0 0 0 0 0"),
+            ("text X0.02", "bits 1 | 0 0 0 0 1 0 1"),
+            ("tick", "byte 0 | 0 0 0 37500000 1 0 1"),
+            ("text F0.000", "none | 0 0 0 37500000 1 0 1"),
+            ("text X0.02", "none | 0 0 0 37500000 1 0 1"),
+            ("text X0.04", "refused 11 | 0 0 0 37500000 1 0 1"),
+            ("make 1 20000 -10 10 -10 10", "made | 0 0 0 0 0 0 0"),
+            ("text X1 G1 F0.001", "bits 1 | 0 0 0 0 1 0 1"),
+            ("jump 1000000", "ahead 0 0 0 0 0 1000000000 1 0 1 | 0 0 0 1000000000 1 0 1"),
+            ("text X2 F1200000.001", "refused 11 | 0 0 0 1000000000 1 0 1"),
+            ("text X2 F1200000.000", "bits 1 | 0 0 0 1000000000 1 1 2"),
+        ]);
+    }
+
     /// A file with its answers and records, put to the runner again, gives itself.
     #[test]
     fn answers_and_records_of_an_input_are_skipped() {
@@ -471,14 +497,14 @@ mod tests {
         let sixteen = "L 1 2 3 A 3 4 5 6 7 8 ".repeat(8);
         let made_up = format!("7 1 2 3 4 5 6 7 1 8 arc 2 9 10 11 12 13 14 15 17 {}", sixteen.trim_end());
         let text = format!(
-            "> load L 3 4 300000\n> tick\n> stop\n> load A 3 1 1 299999 0 5\n> hold\n> load L -1 2 1\n\
+            "> load L 3 4 300000000\n> tick\n> stop\n> load A 3 1 1 299999999 0 5\n> hold\n> load L -1 2 1\n\
              > load A 2 -1 4 7 0 1\n> record {made_up}\n"
         );
         let usual = "50 5000 -1000000 1000000 -1000000 1000000";
-        let turn = "arc 3 1 6 25 1 1 299999";
+        let turn = "arc 3 1 6 25 1 1 299999999";
         let expected = [
-            format!("{usual} 0 0 0 0 line 0 0 3 4 300000 0 5 0"),
-            format!("{usual} 1 1 0 0 line 0 0 3 4 300000 1 4 0"),
+            format!("{usual} 0 0 0 0 line 0 0 3 4 300000000 0 5 0"),
+            format!("{usual} 1 1 0 0 line 0 0 3 4 300000000 1 4 0"),
             format!("{usual} 1 1 0 0 none 0 0"),
             format!("{usual} 1 1 0 0 {turn} 28 0"),
             format!("{usual} 1 1 1 0 {turn} 28 0"),
@@ -494,7 +520,7 @@ mod tests {
     /// More than 48 ticks are told by their CRC-32, 48 in hex.
     #[test]
     fn long_runs() {
-        let text = "> load L 60 0 300000\n> run 48 99 0\n> stop\n> load L 97 0 300000\n> run 99 99 0\n";
+        let text = "> load L 60 0 300000000\n> run 48 99 0\n> stop\n> load L 97 0 300000000\n> run 99 99 0\n";
         let told = answers(text).unwrap();
         assert!(told.contains(&format!("< spent 48 {} | 48 0 0 0 1 0 12\n", "11".repeat(48))));
         let mut crc = Crc::new();

@@ -328,14 +328,14 @@ fn the_end_tick_formula() {
     let q0 = settings.q0();
     let idle = record_of(&Book::make(settings).0);
     let (mut tried, mut later) = (0, 0);
-    for f in [7, 29_999, 30_000, 30_001, 42_420, q0 - 1, q0] {
+    for f in [7_001, 29_999_999, 30_000_000, 30_000_001, 42_420_000, q0 - 1, q0] {
         let lines = [(1, 0), (0, -2), (2, 2), (-3, 0), (3, 4)].map(|(x, y)| Work::Line { start: ORIGIN, end: Point::new(x, y), f, c: 0 });
         // (0, 0) is a point of both circles; the second is one that no load gives.
         let arcs = [(Point::new(0, 5), 25), (Point::new(-1, 1), 3)].into_iter().flat_map(|(centre, n)| {
             let ends = crate::arc::all_circle_points(n).into_iter().map(move |at| at.moved_by(centre));
             ends.map(move |end| Work::Arc { kind: Kind::Clockwise, centre, n: n as u64, end, f })
         });
-        let few = if f == 7 { 3 } else { 40 };
+        let few = if f == 7_001 { 3 } else { 40 };
         for work in lines.into_iter().chain(arcs.take(few)) {
             for charges in [0, 1_000, 1_400, 1_414, 2_000, 2_414] {
                 for less in [0, 1, 1_000 * f, 1_000 * f + 1] {

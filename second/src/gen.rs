@@ -14,11 +14,11 @@ use crate::line;
 use crate::point::{Point, ORIGIN};
 use crate::rng::Rng;
 use crate::root::root_up;
-use crate::settings::{Settings, USUAL};
+use crate::settings::{Settings, FEED_UNIT, USUAL};
 use crate::sound::{without_queue, Record, Work};
 
 pub fn write_calls(seed: u64, count: u64, out: &mut impl Write) -> io::Result<()> {
-    writeln!(out, "# level 3")?;
+    writeln!(out, "# level 4")?;
     for index in 0..count {
         writeln!(out, "# history {index} of seed {seed}")?;
         for call in history(seed, index) {
@@ -143,22 +143,30 @@ const EDGES: [i64; 16] = [
     -3_037_000_500,
 ];
 
-/// Among them the least and the greatest q0 there may be, and these by the charge of a diagonal step.
-const UNSIGNED_EDGES: [u64; 14] = [
+/// The least and the greatest q0 there may be.
+const LEAST_Q0: u64 = 60_000_000;
+const GREATEST_Q0: u64 = 1_200_000_000;
+
+/// Among them these, what they would be in whole pulses per minute, and such by the charge of a diagonal step.
+const UNSIGNED_EDGES: [u64; 18] = [
     0,
     1,
     2,
-    59_999,
-    60_000,
-    1_200_000,
-    1_200_001,
-    DIAGONAL * 60_000,
-    DIAGONAL * 1_200_000,
+    LEAST_Q0 / 1_000,
+    LEAST_Q0 - 1,
+    LEAST_Q0,
+    GREATEST_Q0 / 1_000,
+    GREATEST_Q0,
+    GREATEST_Q0 + 1,
+    DIAGONAL * LEAST_Q0 / 1_000,
+    DIAGONAL * LEAST_Q0,
+    DIAGONAL * GREATEST_Q0,
     2_000_000_000_000,
     2_000_000_000_001,
     u64::MAX,
     1 << 63,
     1 << 32,
+    1 << 31,
 ];
 
 fn edge(rng: &mut Rng) -> i64 {
@@ -223,21 +231,26 @@ fn sound_settings(rng: &mut Rng) -> Settings {
 fn feed(rng: &mut Rng, q0: u64) -> u64 {
     match rng.below(40) {
         0 => 0,
-        1 => q0 + 1,
+        1 => q0 + rng.one_of(&[1, 1, 1_000], 1),
         2 => unsigned_edge(rng),
         _ => sound_feed(rng, q0),
     }
 }
 
+/// Half of those between are whole pulses per minute, which leave no thousandths over.
 fn sound_feed(rng: &mut Rng, q0: u64) -> u64 {
     match rng.below(20) {
         0..=6 => q0,
-        7..=8 => q0 - 1,
+        7..=8 => q0 - rng.one_of(&[1, 1, 999, 1_000], 1),
         9 => q0 / 2,
-        10 => q0 / 2 + 1,
+        10 => q0 / 2 + rng.one_of(&[1, 1_000], 1),
         11 => q0 / 3,
-        12 => 1 + rng.below(1_000),
+        12 => {
+            let few = rng.one_of(&[2, 1_000, 1_000_000], 1);
+            1 + rng.below(few)
+        }
         13 => 1 + rng.below(q0 / 50),
+        14..=16 => FEED_UNIT * (1 + rng.below(q0 / FEED_UNIT)),
         _ => 1 + rng.below(q0),
     }
 }
@@ -731,7 +744,7 @@ fn hurt_block(rng: &mut Rng, block: &mut Load, start: Point, point: Point, q0: u
 pub fn hurt_settings(rng: &mut Rng, settings: &mut Settings) {
     match rng.below(6) {
         0 => settings.p = rng.one_of(&[0, 1_001, u64::MAX], 0),
-        1 => settings.w = rng.one_of(&[0, 999, 20_001, u64::MAX, u64::MAX / 60 + 1], 0),
+        1 => settings.w = rng.one_of(&[0, 999, 20_001, u64::MAX, u64::MAX / 60_000 + 1], 0),
         2 => hurt(rng, &mut settings.x_lower),
         3 => hurt(rng, &mut settings.x_upper),
         4 => hurt(rng, &mut settings.y_lower),
@@ -791,6 +804,7 @@ mod tests {
     fn counts(call: &Call, runner: &Runner) -> Vec<&'static str> {
         let mut all = vec!["any"];
         all.extend(runner.machine.book().into_iter().flat_map(counts_of_remainder));
+        all.extend(runner.machine.book().into_iter().flat_map(|book| counts_of_feed(call, book, &runner.known)));
         let waiting = runner.machine.book().map_or(0, |book| book.waiting.len());
         let full = waiting == MOST_WAITING;
         match (call, runner.machine.book()) {
@@ -822,11 +836,34 @@ mod tests {
         all
     }
 
+    /// Loads by their feed; lines of text by the point of their F, or by the F that they take over.
+    fn counts_of_feed(call: &Call, book: &Book, known: &Reader) -> Vec<&'static str> {
+        let q0 = book.settings.q0();
+        match call {
+            Call::Load(load) => vec![match load.feed() {
+                1 => "load at 1",
+                f if f == q0 => "load at q0",
+                f if f == q0 + 1 => "load above q0",
+                f if f % 1_000 > 0 => "load with thousandths",
+                _ => "load without thousandths",
+            }],
+            Call::Text(line) if line.contains('F') => {
+                let feed = line.split('F').nth(1).unwrap_or("").trim_start_matches(|byte: char| byte.is_ascii_digit());
+                vec![if feed.starts_with('.') { "text with a point in F" } else { "text without a point in F" }]
+            }
+            Call::Text(_) if known.f.is_some_and(|f| f % 1_000 > 0) => vec!["text at a known F with thousandths"],
+            Call::Text(_) if known.f == Some(0) => vec!["text at a known F of 0"],
+            _ => Vec::new(),
+        }
+    }
+
     /// Whether more is left over than a straight step is charged, and whether a diagonal step of an arc is just due on the next tick,
     /// or one short of it.
     fn counts_of_remainder(book: &Book) -> Vec<&'static str> {
         let (q0, mut all) = (book.settings.q0(), Vec::new());
         let path = book.block.map(|block| block.path);
+        all.extend((!book.remainder.is_multiple_of(1_000_000)).then_some("thousandths left over"));
+        all.extend((!book.remainder.is_multiple_of(1_000)).then_some("what no feed leaves"));
         if book.remainder >= 1_000 * q0 {
             all.push(match path {
                 None => "much left over, idle",
@@ -1007,6 +1044,25 @@ mod tests {
         }
     }
 
+    /// Feeds at their ends and with thousandths of a pulse, given by a load, by an F with a point, and by one known from an earlier line;
+    /// what they leave over, and what no feed leaves.
+    #[test]
+    fn histories_hold_feeds_with_thousandths() {
+        assert!(times("load at q0", "bits") > 1_000 && times("load at 1", "bits") > 20 && times("load above q0", "refused 11") > 100);
+        assert!(times("load with thousandths", "bits") > 1_000 && times("load without thousandths", "bits") > 1_000);
+        assert_eq!((times("load above q0", "bits"), times("load at q0", "refused 11")), (0, 0));
+        for word in ["bits", "none", "refused 11", "refused 32", "refused 33"] {
+            assert!(times("text with a point in F", word) > 50 && times("text without a point in F", word) > 50, "{word}");
+        }
+        for word in ["bits", "none", "refused 32"] {
+            assert!(times("text at a known F with thousandths", word) > 100, "{word}");
+        }
+        assert!(times("text at a known F of 0", "refused 11") > 10 && times("text at a known F of 0", "bits") == 0);
+        for count in ["thousandths left over", "what no feed leaves"] {
+            assert!(["byte", "ended", "spent", "full", "ahead", "done", "bits"].iter().all(|word| times(count, word) > 100), "{count}");
+        }
+    }
+
     /// Made-up records but for those on great circles, whose walks take long.
     fn records(seed: u64, count: u64) -> impl Iterator<Item = Record> {
         let all = (0..count).map(move |index| record(&mut Rng::new(seed, index)));
@@ -1117,7 +1173,7 @@ mod tests {
         let mut out = Vec::new();
         write_calls(1, 2, &mut out).unwrap();
         let text = String::from_utf8(out).unwrap();
-        assert!(text.starts_with("# level 3\n# history 0 of seed 1\n> "));
+        assert!(text.starts_with("# level 4\n# history 0 of seed 1\n> "));
         assert_eq!(text.matches("# level").count(), 1);
     }
 

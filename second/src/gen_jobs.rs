@@ -6,6 +6,7 @@ use std::ops::Range;
 use crate::book::Book;
 use crate::gen::{any_in_travel, circle_point, hurt_settings, into_travel, point_at_the_ends_of_f, turned};
 use crate::job::Reader;
+use crate::listing::LONGEST_TEXT;
 use crate::point::{Point, ORIGIN};
 use crate::rng::Rng;
 use crate::settings::{Settings, USUAL};
@@ -25,16 +26,35 @@ pub fn write_jobs_at(seed: u64, numbers: Range<u64>, out: &mut impl Write) -> io
     Ok(())
 }
 
-/// The job of this number: the worked ones first, then made-up ones.
+/// The job of this number: the worked ones first, then made-up ones, every sixteenth about the clock.
 pub fn job(seed: u64, index: u64) -> Vec<u8> {
-    worked(index).unwrap_or_else(|| made_up(&mut Rng::new(seed, index), USUAL))
+    let rng = &mut Rng::new(seed, index);
+    worked(index).unwrap_or_else(|| if index.is_multiple_of(16) { of_the_clock(rng, USUAL) } else { made_up(rng, USUAL) })
 }
 
-/// The job of this number and its settings. The worked texts come first here too: at another p they mean another thing.
+/// The job of this number and its settings: first the one of the most ticks; then the worked texts, which at another p mean another thing;
+/// then made-up ones, every sixteenth about the clock, in the widest travel.
 pub fn job_at(seed: u64, index: u64) -> (Settings, Vec<u8>) {
+    let Some(before) = index.checked_sub(1) else { return longest() };
     let rng = &mut Rng::new(seed, index);
     let settings = table(rng);
-    (settings, worked(index).unwrap_or_else(|| made_up(rng, settings)))
+    if let Some(text) = worked(before) {
+        return (settings, text);
+    }
+    if index.is_multiple_of(16) {
+        let wide = Settings { p: settings.p, w: settings.w, ..USUAL };
+        return (wide, of_the_clock(rng, wide));
+    }
+    (settings, made_up(rng, settings))
+}
+
+/// The text of the most ticks, more than 64 bits count: full turns as great as the travel at feed number 1, the slowest, and w 20,000.
+pub fn longest() -> (Settings, Vec<u8>) {
+    let mut text = b"G1 X-1000000 F1200000\nG2 F0.001\n".to_vec();
+    let turn = b"I1000000\n";
+    let turns = (LONGEST_TEXT - text.len()) / turn.len();
+    text.extend(turn.iter().cycle().take(turns * turn.len()));
+    (Settings { p: 1, w: 20_000, ..USUAL }, text)
 }
 
 /// The settings of a table: any p, narrow and one-sided travel, once in a while refused ones.
@@ -56,7 +76,7 @@ fn table(rng: &mut Rng) -> Settings {
 }
 
 /// Texts that each aim at one rule.
-const WORKED: [&str; 86] = [
+const WORKED: [&str; 112] = [
     "",
     "\n",
     "N20 G01 X20 Y40 F100\nN30 X50 Y80\n",
@@ -69,6 +89,19 @@ const WORKED: [&str; 86] = [
     "F0\nG1\nX1\n",
     "G1 X0 F0\nX1",
     "G1 X0 F0\nF6000 X1",
+    "G1 X1 F0.000",
+    "G1 X1 F6000.001",
+    "G1 X1 F6000.000",
+    "G1 X1 F9999999.999",
+    "F0.000\nG1\nX0\nX1\n",
+    "G1 F9999999.999\nX0\nF0.001\nX0\nX1 F6000.0",
+    // feeds with a point
+    "G1 X1 F0.75",
+    "G1 X0.02 F0.001",
+    "G1 X1 F5999.999",
+    "F600.5 G1 X1\nX2 F0000600.050\nY1 F600\nF599.9\nG3 J1",
+    "G1F1000.25X1Y1F2",
+    "G1 F7.5\nX0.02\nX0.04 F7.55\nX0.06 F7.555\nX0.08\nX0.1 F7.\nX0.12",
     // 12
     "G1 X20000.02 F100",
     "G1 X-20000.02 F100",
@@ -110,7 +143,21 @@ const WORKED: [&str; 86] = [
     "X12345678",
     "X 5",
     "G 1",
-    "F1.5",
+    "F1.",
+    "F.5",
+    "F-1",
+    "F+1",
+    "F-0.5",
+    "F1.2345",
+    "F12345678",
+    "F12345678.5",
+    "F1.5.5",
+    "F1. 5",
+    "F1,5",
+    "N1.5",
+    "G1.0",
+    "G1. X1 F1",
+    "G1 X1 F1.\nX2",
     "G+1",
     "N-1",
     "X--5",
@@ -189,6 +236,24 @@ fn worked(index: u64) -> Option<Vec<u8>> {
     }
 }
 
+/// The largest F that these settings accept and one thousandth more, with and without a point, known before or from its own line on.
+fn of_the_clock(rng: &mut Rng, settings: Settings) -> Vec<u8> {
+    // Of refused ones the machine has the usual ones.
+    let settings = Book::make(settings).0.settings;
+    let most = settings.q0() / settings.p;
+    let with_point = |thousandths: u64| format!("{}.{:03}", thousandths / 1_000, thousandths % 1_000);
+    let (most, more, whole) = (with_point(most), with_point(most + 1), most / 1_000);
+    let text = match rng.below(6) {
+        0 => format!("G1 X1 F{most}\n"),
+        1 => format!("G1 X1 F{more}\n"),
+        2 => format!("G1 F{more}\nX0\nF{most}\nX1\nX0 F{more}\n"),
+        3 => format!("G1 F{whole}\nX1\nY-1 F{most}\nX0Y0F{}\n", whole + 1),
+        4 => format!("G3 I1 F{most}\nG1 Y1\nG2 J-1 F{more}\n"),
+        _ => format!("F{most} G2 X2 I1\nG1 X1 Y1 F0.001"),
+    };
+    text.into_bytes()
+}
+
 /// A line with blanks after it, so many bytes in all.
 fn padded(line: &str, bytes: usize) -> Vec<u8> {
     let mut text = line.as_bytes().to_vec();
@@ -199,8 +264,7 @@ fn padded(line: &str, bytes: usize) -> Vec<u8> {
 /// A text of so many bytes: the first line, then short moves to and fro, the last line an N word without LF.
 fn filled(bytes: usize, first: &[u8]) -> Vec<u8> {
     let mut text = first.to_vec();
-    let moves: [&[u8]; 3] =
-        if first.starts_with(b"G1 X") { [b"X0.02 Y0.04\n", b"X-1 Y1\n", b"N7\n"] } else { [b"N1\n", b"\n", b"G1 N5\n"] };
+    let moves: [&[u8]; 3] = if first.starts_with(b"G1 X") { [b"X2 Y4\n", b"X-1 Y1\n", b"N7\n"] } else { [b"N1\n", b"\n", b"G1 N5\n"] };
     for line in moves.iter().cycle() {
         if text.len() + line.len() + 2 > bytes {
             break;
@@ -244,7 +308,7 @@ pub fn line(rng: &mut Rng, reader: &Reader, settings: &Settings, at: Point) -> V
     }
     if (reader.f.is_none() && !rng.percent(2)) || rng.percent(25) {
         let f = feed(rng, settings);
-        words.push(format!("F{}", digits(rng, f)));
+        words.push(format!("F{}", decimal(rng, f)));
     }
     if rng.percent(30) {
         let n = rng.below(10_000_000);
@@ -256,17 +320,26 @@ pub fn line(rng: &mut Rng, reader: &Reader, settings: &Settings, at: Point) -> V
     joined(rng, words)
 }
 
-/// "F": 6000 is the most at p 50, w 5,000.
+/// "F" in thousandths: 6000 is the most at p 50, w 5,000. Below a millimetre per minute hardly a pulse comes in as many ticks as are
+/// compared, so that these are few.
 fn feed(rng: &mut Rng, settings: &Settings) -> u64 {
     let most = settings.q0() / settings.p;
     match rng.below(40) {
         0 => 0,
-        1 => most + 1,
-        2 => 9_999_999,
-        3..=8 => most,
-        9..=11 => 1 + rng.below(50),
-        _ => 1 + rng.below(most),
+        1 => most + rng.one_of(&[1, 1, 1_000], 1),
+        2 => rng.one_of(&[9_999_999_000, 9_999_999_999], 0),
+        3..=7 => most,
+        8 => most - rng.one_of(&[1, 999, 1_000], 1),
+        9 => rng.one_of(&[1, 2, 10, 75, 750, 751, 999], 1),
+        10..=11 => feed_up_to(rng, 50_000),
+        _ => feed_up_to(rng, most),
     }
+}
+
+/// From a millimetre per minute on, as often without decimals as with 1 to 3.
+fn feed_up_to(rng: &mut Rng, most: u64) -> u64 {
+    let step = rng.one_of(&[1_000, 1_000, 1_000, 100, 10, 1], 1);
+    (1_000 + rng.below(most - 999)) / step * step
 }
 
 /// From one position that thousandths of a millimetre can say to the next, in pulses: p over what it shares with 1,000.
@@ -392,9 +465,8 @@ fn digits(rng: &mut Rng, value: u64) -> String {
     }
 }
 
-/// Pulses as millimetres; at p 50 a pulse is 20 thousandths.
-fn length(rng: &mut Rng, letter: char, pulses: i64, p: u64) -> String {
-    let thousandths = pulses.unsigned_abs() * 1_000 / p;
+/// Thousandths with a point and up to 3 digits after it, at times with zeros on either side.
+fn decimal(rng: &mut Rng, thousandths: u64) -> String {
     let whole = digits(rng, thousandths / 1_000);
     let part = format!("{:03}", thousandths % 1_000);
     let short = part.trim_end_matches('0');
@@ -404,13 +476,19 @@ fn length(rng: &mut Rng, letter: char, pulses: i64, p: u64) -> String {
         (false, 0) => format!(".{part}"),
         (false, _) => format!(".{short}"),
     };
+    whole + &part
+}
+
+/// Pulses as millimetres; at p 50 a pulse is 20 thousandths.
+fn length(rng: &mut Rng, letter: char, pulses: i64, p: u64) -> String {
+    let number = decimal(rng, pulses.unsigned_abs() * 1_000 / p);
     let sign = match (pulses < 0, rng.below(8)) {
         (true, _) => "-",
         (false, 0) => "+",
         (false, 1) if pulses == 0 => "-",
         _ => "",
     };
-    format!("{letter}{sign}{whole}{part}")
+    format!("{letter}{sign}{number}")
 }
 
 /// The words in any order, with or without blanks.
@@ -430,7 +508,7 @@ fn joined(rng: &mut Rng, mut words: Vec<String>) -> Vec<u8> {
 pub fn damage(rng: &mut Rng, text: &mut Vec<u8>) {
     let at = rng.below(text.len() as u64 + 1) as usize;
     let end_of_line = text.iter().skip(at).position(|&byte| byte == b'\n').map_or(text.len(), |more| at + more);
-    match rng.below(16) {
+    match rng.below(17) {
         0 => text.insert(at, rng.one_of(b"\t\r.?-+ xgZ09\0\xff(", b'?')),
         1 => insert(text, at, b"\n"),
         2 => drop(text.splice(at..text.len().min(at + 1), [])),
@@ -447,15 +525,19 @@ pub fn damage(rng: &mut Rng, text: &mut Vec<u8>) {
         10 => insert(text, end_of_line, rng.one_of(&[b"X1".as_slice(), b"Y-2", b"I3", b"J4"], b"X1")),
         11 => insert(text, end_of_line, rng.one_of(&[b"X12345678".as_slice(), b"N00000001", b"X0.0200", b"F12345678"], b"X12345678")),
         12 => insert(text, end_of_line, rng.one_of(&[b"X".as_slice(), b"Y-", b"I.", b"J5.", b"N", b"F"], b"X")),
-        13 => insert(text, end_of_line, rng.one_of(&[b"F0".as_slice(), b"F6001", b"F9999999"], b"F0")),
+        13 => insert(text, end_of_line, rng.one_of(&[b"F0".as_slice(), b"F0.000", b"F6001", b"F6000.001", b"F9999999.999"], b"F0")),
         14 => insert(
             text,
             end_of_line,
             rng.one_of(&[b"\nX30000".as_slice(), b"\nG1X19999.9F6000\nG3J0.1", b"\nG2 I30000 F5", b"\nG2 X1 I7 F5"], b""),
         ),
+        15 => insert(text, end_of_line, rng.one_of(&NO_FEEDS, b"F1.")),
         _ => insert(text, end_of_line, b"N1"),
     }
 }
+
+/// A point or a sign where none may stand.
+const NO_FEEDS: [&[u8]; 9] = [b"F1.", b"F.5", b"F-1", b"F+0.5", b"F1.2345", b"F1.5.5", b"F12345678.5", b"N1.5", b"G1.0"];
 
 fn insert(text: &mut Vec<u8>, at: usize, what: &[u8]) {
     drop(text.splice(at..at, what.iter().copied()));
@@ -523,14 +605,68 @@ mod tests {
         }
     }
 
-    /// Seed 9 is one of tests/second: among its jobs is a long listing at another p, which comes in many pieces.
+    /// Seed 9 is one of tests/second: among its jobs are long listings at another p, which come in many pieces: of lines, and of the most
+    /// ticks.
     #[test]
-    fn a_long_listing() {
-        let (settings, text) = job_at(9, 96);
-        let mut out = Vec::new();
-        check(&text, &settings, Pace::AtOnce, &mut out).unwrap();
-        assert!(settings.refusal().is_none() && settings.p != USUAL.p && text.len() == 65_536);
-        assert!(out.iter().filter(|&&byte| byte == b'\n').count() > 5_000);
+    fn long_listings() {
+        for index in [0, WORKED.len() as u64 + 11] {
+            let (settings, text) = job_at(9, index);
+            let mut out = Vec::new();
+            check(&text, &settings, Pace::AtOnce, &mut out).unwrap();
+            assert!(settings.refusal().is_none() && settings.p != USUAL.p && text.len() > 65_500 && text.len() <= LONGEST_TEXT, "{index}");
+            assert!(out.iter().filter(|&&byte| byte == b'\n').count() > 5_000, "{index}");
+        }
+    }
+
+    /// The F words of a text, without their letter.
+    fn feeds(text: &[u8]) -> Vec<String> {
+        let behind =
+            |at: usize| text[at + 1..].iter().take_while(|byte| b".+-0123456789".contains(byte)).copied().map(char::from).collect();
+        text.iter().enumerate().filter(|(_, &byte)| byte == b'F').map(|(at, _)| behind(at)).collect()
+    }
+
+    /// What a feed is to a machine of these settings.
+    fn kind(feed: &str, settings: &Settings) -> &'static str {
+        let (whole, part) = feed.split_once('.').unwrap_or((feed, ""));
+        let digits = format!("{whole}{part:0<3}");
+        let is_word = (1..=7).contains(&whole.len()) && part.len() <= 3 && !feed.ends_with('.');
+        let thousandths = digits.parse::<u64>().ok().filter(|_| is_word && digits.bytes().all(|byte| byte.is_ascii_digit()));
+        match thousandths.map(|f| (f, f * settings.p)) {
+            None => "no word",
+            Some((0, _)) => "zero",
+            Some((1..=999, _)) => "slow",
+            Some((_, f)) if f == settings.q0() => "q0",
+            Some((f, _)) if f == settings.q0() / settings.p + 1 => "a thousandth more",
+            Some((9_999_999_999, _)) => "seven digits and three",
+            Some(_) => ["no decimals", "one", "two", "three"][part.len()],
+        }
+    }
+
+    fn kinds(jobs: impl Iterator<Item = (Settings, Vec<u8>)>) -> HashMap<&'static str, u64> {
+        let mut met = HashMap::new();
+        for (settings, text) in jobs {
+            // Of refused ones the machine has the usual ones.
+            let settings = Book::make(settings).0.settings;
+            feeds(&text).iter().for_each(|feed| *met.entry(kind(feed, &settings)).or_default() += 1);
+        }
+        println!("{met:?}");
+        met
+    }
+
+    /// Feeds with and without decimals, slow ones, the largest of the clock and one thousandth more, and such as are no words. Seeds 4 and
+    /// 9 are those of tests/second.
+    #[test]
+    fn feeds_of_all_kinds() {
+        for seed in [4, 9] {
+            let at_usual = kinds((0..500).map(|index| (USUAL, job(seed, index))));
+            let at_others = kinds((0..500).map(|index| job_at(seed, index)));
+            for kind in ["no word", "zero", "slow", "a thousandth more", "seven digits and three"] {
+                assert!(at_usual[kind] >= 5 && at_others[kind] >= 5, "{kind}");
+            }
+            for kind in ["q0", "no decimals", "one", "two", "three"] {
+                assert!(at_usual[kind] >= 30 && at_others[kind] >= 30, "{kind}");
+            }
+        }
     }
 
     #[test]

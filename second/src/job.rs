@@ -6,7 +6,7 @@ use crate::book::{Book, Load};
 use crate::point::Point;
 use crate::words::{words, Number, Word};
 
-/// "G and F count from their own line until changed"
+/// "G and F count from their own line until changed"; F in thousandths of a millimetre per minute.
 #[derive(Clone, Copy, PartialEq, Eq, Debug, Default)]
 pub struct Reader {
     pub g: Option<u64>,
@@ -69,7 +69,7 @@ impl Reader {
         }
         // "Do X, Y, I, J fall on whole pulses? 35."
         let lengths = lengths(&words, book.settings.p).ok_or(35u32)?;
-        let f = number_of(&words, b'F').map(Number::whole);
+        let f = number_of(&words, b'F').map(|f| f.thousandths);
         let known = Reader { g: g.or(self.g), f: f.or(self.f) };
         let load = known.block(&lengths, book)?;
         let bits = load.map(|load| book.load(&load)).transpose()?;
@@ -99,8 +99,7 @@ impl Reader {
         let place = book.place();
         let end = Point::new(lengths.x.unwrap_or(place.x), lengths.y.unwrap_or(place.y));
         let (i, j) = (lengths.i.unwrap_or(0), lengths.j.unwrap_or(0));
-        // "f is pulses per minute: millimetres per minute times p"
-        let f = f.saturating_mul(book.settings.p);
+        let f = book.feed_number(f);
         match kind {
             Some(kind) => Ok(Some(Load::Arc { kind, end, f, i, j })),
             // "nor does a straight line to the point where it stands, and then 10 to 13 are not put"; by 02 §3 that point is the place
@@ -167,11 +166,42 @@ mod tests {
             ("G3 J20000 F1", 16),
             ("G1 X20000.02 F1", 12),
             ("G2 I20000.02 Y99999 F1", 12),
+            ("F1.5 F1. G0", 32),
+            ("F1.5 F1.5 G0", 33),
+            ("G0 F1.5", 34),
+            ("X0.01 F0.013", 35),
+            ("G1 X1 F0.000", 11),
+            ("G1 X1 F6000.001", 11),
+            ("G1 X1 F9999999.999", 11),
         ] {
             assert_eq!(refusal(&[line]), Some(number), "{line}");
         }
         for line in ["G2", "F0", "F9999999", "G1 X0 F0", "G1 X0 Y-0 F9999999", "X5F6000G1", "G2 I5 F1", "G3 J1 F10", "", "N5"] {
             assert_eq!(refusal(&[line]), None, "{line}");
+        }
+        for line in ["F0.000", "F9999999.999", "G1 X0 F0.0", "X5F6000.000G1", "G1 X1 F0.013", "G2 I5 F0.75", "G1 X1 F0.001"] {
+            assert_eq!(refusal(&[line]), None, "{line}");
+        }
+    }
+
+    /// An F with a point counts until changed as one without does, to the thousandth; a refused line leaves it.
+    #[test]
+    fn f_is_known_to_the_thousandth() {
+        let (mut reader, mut book) = (Reader::default(), Book::make(USUAL).0);
+        for (line, thousandths, feed) in [
+            ("G1 X1 F0.75", 750, 37_500),
+            ("X2", 750, 37_500),
+            ("X3 F1.", 750, 37_500),
+            ("X3 F6000.001", 750, 37_500),
+            ("X3 F6000", 6_000_000, 300_000_000),
+            ("X4 F0.013", 13, 650),
+            ("F9999999.999", 9_999_999_999, 650),
+            ("X5", 9_999_999_999, 650),
+            ("X5 F0001.2", 1_200, 60_000),
+        ] {
+            reader.line(&mut book, line.as_bytes());
+            let last = book.waiting.back().or(book.block.as_ref());
+            assert_eq!((reader.f, last.map(|last| last.f)), (Some(thousandths), Some(feed)), "{line}");
         }
     }
 
@@ -179,6 +209,7 @@ mod tests {
     #[test]
     fn g_and_f_count_until_changed() {
         assert_eq!(refusal(&["G1 X0 F0", "X1"]), Some(11));
+        assert_eq!(refusal(&["G1 X0 F0.000", "X0", "X1"]), Some(11));
         assert_eq!(refusal(&["G1", "F100", "X1", "Y1", "X0Y0"]), None);
         assert_eq!(refusal(&["G2 I1 F100", "X5"]), Some(37));
         assert_eq!(refusal(&["G2 I1 F100", "G1 X5", "I1"]), Some(37));

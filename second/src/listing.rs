@@ -18,7 +18,8 @@ pub enum Pace {
 /// "is the text at most 65,536 bytes (asked once, line 1)? 30."
 pub const LONGEST_TEXT: usize = 65_536;
 
-/// A check on its way or over: the machine where the last block ended, the G and F known, and "blocks, cycles and ticks" so far.
+/// A check on its way or over: the machine where the last block ended, the G and F known, and "blocks, cycles and ticks" so far. By the
+/// feeds of 02 §4 a text has room for more than 2^64 ticks.
 pub struct Check {
     book: Book,
     known: Reader,
@@ -28,7 +29,7 @@ pub struct Check {
     ticks: u128,
 }
 
-/// `RECORD known G F done BLOCKS CYCLES TICKS`; 0 and -1 where no G and no F is known.
+/// `RECORD known G F done BLOCKS CYCLES TICKS`, F in thousandths; 0 and -1 where no G and no F is known.
 impl fmt::Display for Check {
     fn fmt(&self, out: &mut fmt::Formatter) -> fmt::Result {
         let (g, f) = (self.known.g.unwrap_or(0), self.known.f.map_or(-1, i128::from));
@@ -43,6 +44,11 @@ pub fn check(text: &[u8], settings: &Settings, pace: Pace, out: &mut impl Write)
     if let Some(number) = refusal {
         writeln!(out, "settings refused {number}")?;
     }
+    check_by(book, text, pace, out)
+}
+
+/// The check by a book of its own.
+pub fn check_by(book: Book, text: &[u8], pace: Pace, out: &mut impl Write) -> io::Result<Check> {
     writeln!(out, "block line kind cycles x y bits")?;
     let mut check = Check { book, known: Reader::default(), pace, blocks: 0, cycles: 0, ticks: 0 };
     let refused = if text.len() > LONGEST_TEXT { Some((1, 30)) } else { check.rows(text, out)? };
@@ -215,13 +221,67 @@ mod tests {
         );
     }
 
+    /// "Thin foil needs 0.75 mm per minute": 50 pulses of 8,000 ticks each.
+    #[test]
+    fn feeds_with_points() {
+        for (text, told) in [
+            ("G1 X1 F0.75", "1 1 L 50 50 0 6\ntotal 1 50 400000\n"),
+            ("G1 X1 F0.750", "1 1 L 50 50 0 6\ntotal 1 50 400000\n"),
+            ("G1 X0.02 F0.001", "1 1 L 1 1 0 1\ntotal 1 1 6000000\n"),
+            ("G1 F9999999.999\nX0\nF6000.000 X1", "1 3 L 50 50 0 6\ntotal 1 50 50\n"),
+            ("G1 X1 F9999999.999", "line 1 refused 11\n"),
+            ("G1 X1 F6000.001", "line 1 refused 11\n"),
+            ("G1 F0.000\nX0\nX1", "line 3 refused 11\n"),
+            ("G1 F0.75 X0.02\nX0.04 F1.", "1 1 L 1 1 0 1\nline 2 refused 32\n"),
+            ("G1.0 F1", "line 1 refused 32\n"),
+            ("N1.5", "line 1 refused 32\n"),
+        ] {
+            assert_eq!(fast(text.as_bytes()), format!("{HEADER}{told}"), "{text}");
+            assert_eq!(listing(text.as_bytes(), Pace::TickByTick), format!("{HEADER}{told}"), "{text}");
+        }
+    }
+
+    /// "f equal to q0 accepted; q0 + 1 gives 11": the largest F of every clock, to the thousandth, and one thousandth more.
+    #[test]
+    fn the_largest_feed_of_each_clock() {
+        for w in [1_000, 1_001, 5_000, 7_777, 10_000, 19_999, 20_000] {
+            for p in [1, 2, 3, 7, 8, 10, 40, 50, 80, 125, 999, 1_000] {
+                let (settings, most) = (Settings { p, w, ..USUAL }, 60_000 * w / p);
+                let told =
+                    |feed: u64| listing_at(format!("G1 X1 F{}.{:03}", feed / 1_000, feed % 1_000).as_bytes(), &settings, Pace::AtOnce);
+                // A cycle a tick where it is q0, and else a tick more for what is short of it.
+                let (bits, ticks) = (64 - p.leading_zeros(), p + u64::from(60_000 * w % p > 0));
+                assert_eq!(told(most), format!("{HEADER}1 1 L {p} {p} 0 {bits}\ntotal 1 {p} {ticks}\n"), "{p} {w}");
+                assert_eq!(told(most + 1), format!("{HEADER}line 1 refused 11\n"), "{p} {w}");
+            }
+        }
+    }
+
+    /// A text of full turns as great as the travel, at the slowest feed of the fastest clock.
+    #[test]
+    fn more_ticks_than_64_bits_hold() {
+        let (settings, text) = gen_jobs::longest();
+        let told = listing_at(&text, &settings, Pace::AtOnce);
+        let last: Vec<u128> = told.lines().last().unwrap().split(' ').skip(1).map(|number| number.parse().unwrap()).collect();
+        let [blocks, cycles, ticks] = last[..] else { panic!("{last:?}") };
+        assert!(text.len() <= LONGEST_TEXT && ticks > 3 << 64, "{ticks}");
+        // The line to the edge, at once, and then turns of as many cycles and ticks each.
+        let turn = "G1 X-1000000 F1200000\nG2 I1000000 F0.001";
+        let one = listing_at(turn.as_bytes(), &settings, Pace::AtOnce);
+        let last: Vec<u128> = one.lines().last().unwrap().split(' ').skip(1).map(|number| number.parse().unwrap()).collect();
+        let way = 1_000_000;
+        assert_eq!(((blocks - 1) * (last[1] - way) + way, (blocks - 1) * (last[2] - way) + way), (cycles, ticks));
+    }
+
     /// What is left is the machine at the end of the last block, and what is known; a refused line adds nothing.
     #[test]
     fn what_a_job_leaves() {
         let end = |text: &[u8]| check(text, &USUAL, Pace::AtOnce, &mut Vec::new()).unwrap().to_string();
         let usual = "50 5000 -1000000 1000000 -1000000 1000000";
         assert_eq!(end(b""), format!("{usual} 0 0 0 0 none 0 0 known 0 -1 done 0 0 0"));
-        assert_eq!(end(b"G1X0.02F7\nG2F8\nG3F9X1"), format!("{usual} 1 0 0 300000 none 0 0 known 2 8 done 1 1 858"));
+        assert_eq!(end(b"G1X0.02F7\nG2F8\nG3F9X1"), format!("{usual} 1 0 0 300000000 none 0 0 known 2 8000 done 1 1 858"));
+        assert_eq!(end(b"G1F0.75\nX0.02\nF.5"), format!("{usual} 1 0 0 0 none 0 0 known 1 750 done 1 1 8000"));
+        assert_eq!(end(b"F9999999.999\nF9999999.9999"), format!("{usual} 0 0 0 0 none 0 0 known 0 9999999999 done 0 0 0"));
         assert_eq!(end(&[b'\n'; 65_537]), format!("{usual} 0 0 0 0 none 0 0 known 0 -1 done 0 0 0"));
     }
 

@@ -23,6 +23,8 @@ mod root;
 mod settings;
 mod sound;
 mod stream;
+#[cfg(test)]
+mod units;
 mod words;
 
 use std::fs::{self, File};

@@ -16,6 +16,9 @@ pub struct Settings {
 
 const WIDEST: i64 = 1_000_000;
 
+/// How many feed numbers are a pulse per minute. 02 §4: "The feed number becomes thousandths of a pulse per minute".
+pub const FEED_UNIT: u64 = 1_000;
+
 /// "p 50, w 5,000 and the widest travel"
 pub const USUAL: Settings = Settings { p: 50, w: 5_000, x_lower: -WIDEST, x_upper: WIDEST, y_lower: -WIDEST, y_upper: WIDEST };
 
@@ -38,9 +41,14 @@ impl Settings {
         None
     }
 
-    /// "Capacity q0 = 60 × w." Only asked of settings that pass question 2.
+    /// "and q0 becomes 60,000 × w" (02 §4). Only asked of settings that pass question 2.
     pub fn q0(&self) -> u64 {
-        self.w.saturating_mul(60)
+        self.q0_in(FEED_UNIT)
+    }
+
+    /// "Capacity q0 = 60 × w", where feed numbers of so many are a pulse per minute.
+    pub fn q0_in(&self, unit: u64) -> u64 {
+        self.w.saturating_mul(60 * unit)
     }
 
     pub fn in_travel(&self, at: Point) -> bool {

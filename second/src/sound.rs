@@ -134,16 +134,16 @@ mod tests {
     }
 
     fn line(x: i64, y: i64) -> Load {
-        Load::Line { end: Point::new(x, y), f: 300_000 }
+        Load::Line { end: Point::new(x, y), f: 300_000_000 }
     }
 
     fn arc(kind: Kind, end: Point, i: i64, j: i64) -> Load {
-        Load::Arc { kind, end, f: 300_000, i, j }
+        Load::Arc { kind, end, f: 300_000_000, i, j }
     }
 
     /// The line (3, 4) in work, one cycle of five done, and these waiting.
     fn waiting(blocks: &[Load]) -> Record {
-        let work = Work::Line { start: ORIGIN, end: Point::new(3, 4), f: 300_000, c: 1 };
+        let work = Work::Line { start: ORIGIN, end: Point::new(3, 4), f: 300_000_000, c: 1 };
         Record { point: Point::new(1, 1), work, ..idle() }.with_blocks(blocks.to_vec())
     }
 
@@ -155,22 +155,22 @@ mod tests {
         assert!(!sound(Record { settings: Settings { w: u64::MAX, ..USUAL }, ..idle() }));
     }
 
-    /// "A sound remainder is below 1,414 × q0": 424,200,000 at w 5,000, whatever is in work.
+    /// "A sound remainder is below 1,414 × q0": 424,200,000,000 at w 5,000, whatever is in work.
     #[test]
     fn remainders() {
-        let of_line = Work::Line { start: ORIGIN, end: Point::new(3, 4), f: 60_000, c: 0 };
+        let of_line = Work::Line { start: ORIGIN, end: Point::new(3, 4), f: 60_000_000, c: 0 };
         let of_arc = Work::Arc { kind: Kind::Clockwise, centre: Point::new(0, 5), n: 25, end: ORIGIN, f: 1 };
         for work in [Work::Nothing, of_line, of_arc] {
             let with = |settings, remainder| sound(Record { settings, remainder, work, ..idle() });
-            for remainder in [0, 299_999, 300_000, 299_999_999, 300_000_000, 424_199_999] {
+            for remainder in [0, 299_999_999, 300_000_000, 299_999_999_999, 300_000_000_000, 424_199_999_999] {
                 assert!(with(USUAL, remainder), "{remainder}");
             }
-            for remainder in [424_200_000, 424_200_001, 1 << 32, 1 << 63, u64::MAX] {
+            for remainder in [424_200_000_000, 424_200_000_001, 1 << 40, 1 << 63, u64::MAX] {
                 assert!(!with(USUAL, remainder), "{remainder}");
             }
             for w in [1_000, 20_000] {
                 let settings = Settings { w, ..USUAL };
-                assert!(with(settings, 1_414 * 60 * w - 1) && !with(settings, 1_414 * 60 * w));
+                assert!(with(settings, 1_414 * 60_000 * w - 1) && !with(settings, 1_414 * 60_000 * w));
             }
         }
     }
@@ -181,11 +181,11 @@ mod tests {
         let with = |point: Point, work| sound(Record { point, work, ..idle() });
         let end = Point::new(3, 4);
         assert!(with(ORIGIN, line(end, 1, 0)));
-        assert!(with(Point::new(1, 2), line(end, 300_000, 2)));
-        assert!(!with(Point::new(1, 2), line(end, 300_000, 1)));
-        assert!(!with(end, line(end, 300_000, 5)));
+        assert!(with(Point::new(1, 2), line(end, 300_000_000, 2)));
+        assert!(!with(Point::new(1, 2), line(end, 300_000_000, 1)));
+        assert!(!with(end, line(end, 300_000_000, 5)));
         assert!(!with(ORIGIN, line(end, 0, 0)));
-        assert!(!with(ORIGIN, line(end, 300_001, 0)));
+        assert!(!with(ORIGIN, line(end, 300_000_001, 0)));
         assert!(!with(ORIGIN, line(ORIGIN, 1, 0)));
         assert!(!with(ORIGIN, line(Point::new(i64::MIN, i64::MAX), 1, 0)));
         assert!(!with(ORIGIN, line(end, 1, u64::MAX)));
@@ -230,7 +230,7 @@ mod tests {
         assert!(with(&[line(0, 0), line(3, 4), line(0, 0)]));
         assert!(!with(&[line(3, 4)]), "13 from the line's end");
         assert!(!with(&[line(3, 5), line(3, 5)]), "13 from the end of the one before");
-        for f in [0, 300_001, u64::MAX] {
+        for f in [0, 300_000_001, u64::MAX] {
             assert!(!with(&[Load::Line { end: ORIGIN, f }]), "11");
         }
         assert!(with(&[line(1_000_000, -1_000_000)]) && !with(&[line(1_000_001, 0)]) && !with(&[line(i64::MIN, i64::MAX)]), "12");

@@ -1,6 +1,6 @@
 //! Question 32: a line of job text as words.
 
-/// A word's number. X, Y, I, J may have a sign and thousandths; N, G, F have neither.
+/// A word's number. X, Y, I, J may have a sign and thousandths, F thousandths alone; N and G have neither.
 #[derive(Clone, Copy, PartialEq, Eq, Debug)]
 pub struct Number {
     pub minus: bool,
@@ -48,33 +48,43 @@ fn without_blanks(text: &[u8]) -> &[u8] {
 }
 
 /// "A word is N, G or F with 1 to 7 digits, or X, Y, I, J with an optional sign, 1 to 7 digits and
-/// optionally a point with 1 to 3 digits, in millimetres." No word begins with a digit, sign or
-/// point, so a word takes all digits that stand there.
+/// optionally a point with 1 to 3 digits, in millimetres." By 02 §4 "F may take a point with 1 to 3 digits", and no sign. No word
+/// begins with a digit, sign or point, so a word takes all digits that stand there.
 fn first_word(text: &[u8]) -> Option<(Word, &[u8])> {
     let (&letter, rest) = text.split_first()?;
     let (number, after) = match letter {
-        b'N' | b'G' | b'F' => {
-            let (value, after) = digits(rest, 7)?;
-            (Number { minus: false, thousandths: value * 1_000 }, after)
-        }
-        b'X' | b'Y' | b'I' | b'J' => length(rest)?,
+        b'N' | b'G' => whole(rest)?,
+        b'F' => decimal(rest)?,
+        b'X' | b'Y' | b'I' | b'J' => signed(rest)?,
         _ => return None,
     };
     Some((Word { letter, number }, after))
 }
 
-fn length(text: &[u8]) -> Option<(Number, &[u8])> {
+fn whole(text: &[u8]) -> Option<(Number, &[u8])> {
+    let (value, after) = digits(text, 7)?;
+    Some((Number { minus: false, thousandths: value * 1_000 }, after))
+}
+
+fn decimal(text: &[u8]) -> Option<(Number, &[u8])> {
+    let (whole, after) = whole(text)?;
+    match after.split_first() {
+        Some((b'.', part)) => {
+            let (part, after) = thousandths(part)?;
+            Some((Number { thousandths: whole.thousandths + part, ..whole }, after))
+        }
+        _ => Some((whole, after)),
+    }
+}
+
+fn signed(text: &[u8]) -> Option<(Number, &[u8])> {
     let (minus, rest) = match text.split_first() {
         Some((b'-', rest)) => (true, rest),
         Some((b'+', rest)) => (false, rest),
         _ => (false, text),
     };
-    let (whole, after_whole) = digits(rest, 7)?;
-    let (part, after) = match after_whole.split_first() {
-        Some((b'.', part)) => thousandths(part)?,
-        _ => (0, after_whole),
-    };
-    Some((Number { minus, thousandths: whole * 1_000 + part }, after))
+    let (number, after) = decimal(rest)?;
+    Some((Number { minus, ..number }, after))
 }
 
 /// The 1 to 3 digits after a point: .5 is 500 thousandths.
@@ -112,33 +122,24 @@ mod tests {
         for line in ["", "   ", "N20 G01 X20 Y40 F100", "G1X5Y-6", "X+5", "X-0", "X-0.000", "G0000001", "N0", " X9999999.999 ", "N1N1"] {
             assert!(is_words(line), "{line}");
         }
-        for line in [
-            "X.5",
-            "X5.",
-            "X5.1234",
-            "X12345678",
-            "X 5",
-            "G 1",
-            "F1.5",
-            "G+1",
-            "N-1",
-            "X--5",
-            "X",
-            "G",
-            "x5",
-            "X5\r",
-            "\tX5",
-            "Z1",
-            "%",
-            "(a)",
-            "/X5",
-            "5",
-            "X5.5.5",
-            "X+",
-            "N12345678",
-            "X5,0",
-            "\0",
-        ] {
+        let lengths = ["X.5", "X5.", "X5.1234", "X12345678", "X 5", "X--5", "X5.5.5", "X+", "X5,0"];
+        let whole_numbers = ["G 1", "G+1", "N-1", "N12345678"];
+        let others = ["X", "G", "x5", "X5\r", "\tX5", "Z1", "%", "(a)", "/X5", "5", "\0"];
+        for line in lengths.iter().chain(&whole_numbers).chain(&others) {
+            assert!(!is_words(line), "{line}");
+        }
+    }
+
+    /// "F may take a point with 1 to 3 digits": no sign, a digit on both sides of the point, and N and G as before.
+    #[test]
+    fn points_in_feeds() {
+        for line in ["F0.75", "F0.001", "F1", "F1.5", "F1.50", "F1.500", "F0.000", "F0000000.0", "F9999999.999", "F1.5X1", "G1F1.5N5"] {
+            assert!(is_words(line), "{line}");
+        }
+        let feeds = ["F1.", "F.5", "F.", "F", "F-1", "F+1", "F-0.5", "F1.2345", "F1.0000", "F12345678", "F12345678.5", "F1.5.5", "F1. 5"];
+        let between = ["F1,5", "F 1.5", "F1 .5", "F1.-5", "f1.5", "F1.X1", "F1e3"];
+        let others = ["N1.5", "G1.0", "G1.", "N.5", "N0.0"];
+        for line in feeds.iter().chain(&between).chain(&others) {
             assert!(!is_words(line), "{line}");
         }
     }
@@ -149,7 +150,10 @@ mod tests {
         assert_eq!(number("X-1.5"), Number { minus: true, thousandths: 1_500 });
         assert_eq!(number("X1.05"), Number { minus: false, thousandths: 1_050 });
         assert_eq!(number("X1.005").thousandths, 1_005);
-        assert_eq!(number("F100").whole(), 100);
+        assert_eq!(number("G03").whole(), 3);
+        assert_eq!(number("F100").thousandths, 100_000);
+        assert_eq!(["F0.75", "F0.7", "F0.075", "F00.750"].map(|word| number(word).thousandths), [750, 700, 75, 750]);
+        assert_eq!(number("F9999999.999"), Number { minus: false, thousandths: 9_999_999_999 });
         // "X0.01 at p 50 gives 35; X0.02 is one pulse."
         assert_eq!(number("X0.01").pulses(50), None);
         assert_eq!(number("X0.02").pulses(50), Some(1));
