@@ -90,7 +90,7 @@ static const int64_t *start_in(const int64_t *words)
  * and then beside it. */
 static struct plain_block drawn_block(const int64_t *words, int64_t reach)
 {
-    const int64_t *start = start_in(words), x = start[0], y = start[1], capacity = 60 * words[WORD_W];
+    const int64_t *start = start_in(words), x = start[0], y = start[1], capacity = PER_CLOCK * words[WORD_W];
     struct plain_block b = { 1 + drawn(3), x + near_zero(reach), y + near_zero(reach), 1 + drawn(capacity), 0, 0 };
     if (drawn(16) == 0)
         b.feed = capacity * drawn(2) + drawn(2);
@@ -112,8 +112,8 @@ static int64_t spoil(const int64_t *words, int64_t at)
     case 0: return words[at] + drawn(5) - 2;
     case 1: return (int64_t)((uint64_t)words[at] ^ (uint64_t)1 << drawn(64));
     case 2: return words[drawn((int64_t)own_words(words))];
-    case 3: return 1414 * 60 * words[WORD_W] - 1 + drawn(2);
-    default: return 60 * words[WORD_W] + drawn(2);
+    case 3: return 1414 * PER_CLOCK * words[WORD_W] - 1 + drawn(2);
+    default: return PER_CLOCK * words[WORD_W] + drawn(2);
     }
 }
 

@@ -7,21 +7,23 @@
 #include <unistd.h>
 
 enum { P = 50, MOST_TEXT = 65536, MOST_LINE = 80, PIECE = 8192, ROOM = 160 };
-static const int64_t CAPACITY = 300000;
+static const int64_t CAPACITY = PER_CLOCK * 5000;
 static const struct settings table = { P, 5000, { -TRAVEL, TRAVEL }, { -TRAVEL, TRAVEL } };
 
 enum letter { N, G, F, X, Y, I, J, LETTERS };
 enum { PLACED = 1 << X | 1 << Y, CENTRED = 1 << I | 1 << J };
 
-/* The words of a line: a bit for each letter that stands, and the numbers, in thousandths from X on. */
+/* The words of a line: a bit for each letter that stands, and the numbers, in thousandths from F on. */
 struct words {
     unsigned stand, twice;
     int64_t value[LETTERS];
 };
 
+/* At these settings 64 bits hold a job's ticks: a block has 4 * 10^13 at most, at F 0.001, and a text fewer than 65,536 blocks. The core's
+ * check, which is of any settings, carries them in two numbers, so that less is done here. */
 struct job {
     struct point at;
-    int64_t motion, feed; /* 0 and -1: not known yet */
+    int64_t motion, feed; /* in thousandths; 0 and -1: not known yet */
     int64_t line, blocks, cycles, ticks, remainder;
 };
 
@@ -103,7 +105,7 @@ static const char *word(const char *at, struct words *w)
     if (letter >= X && (*at == '+' || *at == '-'))
         negative = *at++ == '-';
     at = digits(at, 7, &value);
-    if (at && letter >= X) {
+    if (at && letter >= F) {
         const char *point = at;
         if (*at == '.')
             at = digits(point + 1, 3, &value);

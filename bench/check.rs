@@ -4,15 +4,16 @@ use std::io::{self, Read, Write};
 
 const P: i64 = 50;
 const TRAVEL: i64 = 1_000_000;
-const CAPACITY: i64 = 300_000;
+const CAPACITY: i64 = 60_000 * 5_000;
 /// Charges, and what a tick pays for each unit of feed.
 const STRAIGHT: i64 = 1_000;
 const DIAGONAL: i64 = 1_414;
 const PER_FEED: i64 = 1_000;
 const PIECE: usize = 8192;
 const LETTERS: &[u8; 7] = b"NGFXYIJ";
+const F: usize = 2;
 
-/// A word's number; in thousandths for X, Y, I and J.
+/// A word's number; in thousandths from F on.
 type Words = [Option<i64>; 7];
 type Point = [i64; 2];
 
@@ -28,18 +29,17 @@ fn digits(text: &[u8], most: usize) -> Result<(i64, usize, &[u8]), u8> {
     Ok((value, n, &text[n..]))
 }
 
-/// The number after a letter, and what is left.
-fn number(text: &[u8], fine: bool) -> Result<(i64, &[u8]), u8> {
-    if !fine {
-        let (value, _, rest) = digits(text, 7)?;
-        return Ok((value, rest));
-    }
+/// The number after a letter, and what is left: N and G have no point, and they and F no sign.
+fn number(text: &[u8], letter: usize) -> Result<(i64, &[u8]), u8> {
     let (sign, text) = match text {
-        [b'-', rest @ ..] => (-1, rest),
-        [b'+', rest @ ..] => (1, rest),
+        [b'-', rest @ ..] if letter > F => (-1, rest),
+        [b'+', rest @ ..] if letter > F => (1, rest),
         _ => (1, text),
     };
     let (whole, _, rest) = digits(text, 7)?;
+    if letter < F {
+        return Ok((whole, rest));
+    }
     let [b'.', rest @ ..] = rest else { return Ok((sign * whole * 1000, rest)) };
     let (part, n, rest) = digits(rest, 3)?;
     Ok((sign * (whole * 1000 + part * [100, 10, 1][n - 1]), rest))
@@ -55,7 +55,7 @@ fn words_of(mut text: &[u8]) -> Result<Words, u8> {
         text = rest;
         if *first != b' ' {
             let letter = LETTERS.iter().position(|l| l == first).ok_or(32u8)?;
-            let (value, rest) = number(rest, letter > 2)?;
+            let (value, rest) = number(rest, letter)?;
             twice |= words[letter].replace(value).is_some();
             text = rest;
         }
@@ -194,6 +194,7 @@ impl Listing {
 
 // ---- the job
 
+/// At these settings 64 bits hold a job's ticks, as in the program in C; the core carries them in two numbers.
 #[derive(Default)]
 struct Job {
     at: Point,

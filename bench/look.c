@@ -88,7 +88,7 @@ static int64_t arc_paid(const struct machine *m, int64_t sum, int64_t most, int6
 {
     const struct arc *a = &m->arc;
     const struct plain_arc from = place_of(a, m->kind == CLOCKWISE, m->at);
-    const int64_t quarter = nearest_root(2 * a->square), radius = nearest_root(a->square), budget = sum / (60 * m->settings.w);
+    const int64_t quarter = nearest_root(2 * a->square), radius = nearest_root(a->square), budget = sum / capacity_of(&m->settings);
     const int64_t rank_from = rank(quarter, from), pulses_from = pulses_to(radius, from);
     int64_t paid = 0, unpaid = least(most, budget / STRAIGHT) + 1, step = 1;
     int64_t n = rank_near(a->square, quarter, radius, charge(rank_from, pulses_from) + budget) - rank_from;
@@ -121,11 +121,12 @@ static void arc_on(struct machine *m, int64_t cycles)
     m->at = (struct point){ a->centre.x + p.x, a->centre.y + (clockwise ? -p.y : p.y) };
 }
 
-/* At most one cycle a tick: so many ticks do as many cycles as they and the remainder pay, but no more than they are themselves. */
+/* At most one cycle a tick: so many ticks do as many cycles as they and the remainder pay, but no more than they are themselves. What is
+ * due fits in 63 bits: no arc in travel is charged more than a full turn of radius 1,000,000, 6.63 * 10^9, each of at most 1.2 * 10^9. */
 int64_t c_skip(struct machine *m, int64_t ticks, int64_t *cycles)
 {
     const bool line = m->kind == LINE;
-    const int64_t capacity = 60 * m->settings.w, feed = PER_FEED * (line ? m->line.feed : m->arc.feed);
+    const int64_t capacity = capacity_of(&m->settings), feed = PER_FEED * (line ? m->line.feed : m->arc.feed);
     const int64_t lines = line ? m->line.cycles - m->line.done : 0;
     const struct rest left = line ? (struct rest){ lines, STRAIGHT * lines } : rest_of(&m->arc, m->kind == CLOCKWISE, m->at);
     const int64_t due = left.charges * capacity - m->remainder, fed = due > 0 ? (due + feed - 1) / feed : 0;

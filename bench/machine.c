@@ -74,7 +74,7 @@ static struct arc arc_from(struct point start, const struct plain_block *b)
 static int64_t block_no(const struct settings *s, struct point start, const struct plain_block *b)
 {
     const struct point end = { b->x, b->y };
-    if (!within(1, b->feed, 60 * s->w))
+    if (!within(1, b->feed, capacity_of(s)))
         return -11;
     if (!inside(s, end))
         return -12;
@@ -144,7 +144,7 @@ static bool work_sound(const struct machine *m)
 {
     if (!settings_right(&m->settings))
         return false;
-    const int64_t capacity = 60 * m->settings.w;
+    const int64_t capacity = capacity_of(&m->settings);
     if (!inside(&m->settings, m->at) || !within(0, m->remainder, DIAGONAL * capacity - 1))
         return false;
     if (m->kind == NOTHING)
@@ -185,7 +185,7 @@ static bool sound(const struct machine *m, const struct queue *q) { return work_
 /* A working tick: the byte. */
 static uint8_t work_tick(struct machine *m)
 {
-    const int64_t straight = STRAIGHT * 60 * m->settings.w;
+    const int64_t straight = STRAIGHT * capacity_of(&m->settings);
     m->remainder += PER_FEED * feed_of(m);
     if (m->remainder < straight)
         return 0;

@@ -59,6 +59,8 @@ _Static_assert(sizeof(struct queue) == (WORDS - WORD_ROOT) * sizeof(int64_t), "t
 
 enum { TRAVEL = 1000000 }; /* the farthest that a travel bound may lie, and I and J */
 
+static inline int64_t capacity_of(const struct settings *s) { return PER_CLOCK * s->w; }
+
 static inline bool within(int64_t lower, int64_t v, int64_t upper) { return lower <= v && v <= upper; }
 
 static inline bool inside(const struct settings *s, struct point p)

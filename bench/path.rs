@@ -64,7 +64,7 @@ impl Settings {
     }
 
     pub fn capacity(&self) -> i64 {
-        60 * self.w
+        60_000 * self.w
     }
 }
 

@@ -6,6 +6,9 @@
 
 #include <stdint.h>
 
+/* For each tick per second: the greatest feed, in thousandths of a pulse per minute, and what a charge takes off the remainder (q0). */
+enum { PER_CLOCK = 60000 };
+
 /* ---- runs: no test of the record */
 
 /* A line from where it stands: both registers are kept (01, "Lines"). */
@@ -20,7 +23,8 @@ struct plain_arc {
     uint64_t left, quadrant, clockwise;
 };
 
-/* In thousandths: what a straight step and a line's cycle take off, and what a tick adds. A diagonal step takes 1.414 times as much off. */
+/* As the remainder counts: what a straight step and a line's cycle take off, and what a tick adds. A diagonal step takes 1.414 times as
+ * much off, 1.7 * 10^12 at the fastest clock; for all of a block's cycles, fewer than 6 * 10^6, that is below 2^64. */
 struct plain_feed {
     uint64_t capacity, feed, remainder;
 };

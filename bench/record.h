@@ -24,7 +24,7 @@ enum {
     BLOCK_WORDS = 7,
     QUEUE = 16,
     WORDS = WORD_QUEUE + BLOCK_WORDS * QUEUE,
-    ABI = 3
+    ABI = 4
 };
 
 #endif

@@ -13,7 +13,7 @@ pub struct Words {
 }
 
 /// The number of this layout.
-const ABI: i64 = 3;
+const ABI: i64 = 4;
 
 /// None where the words are no record at all: of another layout, a mark but 0 and 1, a kind above 3, not 0 in what is not used.
 fn decode(words: &Front) -> Option<Machine> {

@@ -7,7 +7,7 @@
 #include <stddef.h>
 
 enum { BUFFER = 65536, MOST_WAYS = 6, MOST_WORKS = 12, MOST_GOALS = 3 };
-static const uint64_t CAPACITY = 300000;
+static const uint64_t CAPACITY = PER_CLOCK * 5000;
 
 /* A ratio of the core to a way that is not to be passed, in every work that names the goal; of way 0, the core itself, a time in ns. */
 struct goal {

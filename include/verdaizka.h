@@ -37,7 +37,7 @@
  *                                   of each for each place that it tries: two as measured, 38 at most
  *     vz_read_line                  a turn for each byte of the line, then a load
  *     vz_check_start                as vz_make
- *     vz_check_fill                 its 19 and 8 words tested; for each text line it lists: a turn for each byte, a load, of an arc two
+ *     vz_check_fill                 its 19 and 9 words tested; for each text line it lists: a turn for each byte, a load, of an arc two
  *                                   such roots, a division, the row's digits; no block waits there
  * Whole numbers confirm the guess, so no setting of the floating-point unit makes an answer another; a program that has unmasked its
  * exceptions masks them again before it calls.
@@ -45,13 +45,16 @@
  * Units
  *   length   whole pulses. A millimetre is p pulses. X points right, Y up; the machine starts at (0, 0).
  *   time     clock ticks. A second is w ticks.
- *   feed     pulses per minute: millimetres per minute times p. A working tick, with a block in work and not held, adds 1,000 * feed
- *            to the remainder; where that reaches the charge of the next cycle times 60 * w, this comes off and the cycle is done. A
- *            diagonal step of an arc is charged 1,414, every other cycle 1,000. A tick does at most one, so 60 * w is the fastest.
- *            So a line keeps the feed, and an arc where it runs along an axis or at 45 degrees; between these it is up to 8 percent
- *            slower. A block whose cycles are charged C together and that comes into work at remainder r ends on the working tick
- *            (C * 60 * w - r) / (1,000 * feed), rounded up, counted from there; an arc of k cycles and n pulses is charged
+ *   feed     thousandths of a pulse per minute: thousandths of a millimetre per minute times p, so that 0.75 mm per minute at p 50 is
+ *            37,500. A working tick, with a block in work and not held, adds 1,000 * feed to the remainder; where that reaches the
+ *            charge of the next cycle times 60,000 * w, this comes off and the cycle is done. A diagonal step of an arc is charged
+ *            1,414, every other cycle 1,000. A tick does at most one, so 60,000 * w is the fastest. So a line keeps the feed, and an
+ *            arc where it runs along an axis or at 45 degrees; between these it is up to 8 percent slower. A block whose cycles are
+ *            charged C together and that comes into work at remainder r ends on the working tick
+ *            (C * 60,000 * w - r) / (1,000 * feed), rounded up, counted from there; an arc of k cycles and n pulses is charged
  *            586 * k + 414 * n.
+ *            Up to VZ_ABI 3 a feed was in whole pulses per minute. A caller that still passes those is not refused, since each of
+ *            them is a feed here too: its block is taken, and runs at a thousandth of the speed.
  *   cycle    the step from one point of the path to the next: one pulse or none on each axis. A line of a by b pulses takes
  *            the root of a * a + b * b, rounded up, of them; an arc one for each point that it visits.
  */
@@ -81,11 +84,16 @@ extern "C" {
  * another layout gets 9 and is not misread. A program can ask at its start whether archive and header belong together: after a vz_make
  * that word is VZ_ABI.
  *
- * A record of layout 2 had words 0 to 18 alone, with the same meaning. One with nothing in work is a record of this layout once its first
- * word is 3 and three words of 0 stand behind it. One with a block in work: let the block end, or vz_stop it, under the old archive; or
- * write the three words: the root (see VZ_WORD_ROOT), the cycles still to do (of a line word 17 less word 18; of an arc the bytes with
- * VZ_CYCLE that ticks on a copy give to its end), and 0. Wrong ones get 9. Under 1 the remainder was a thousandth of what it is in 2. */
-#define VZ_ABI 3
+ * A record of layout 3 had the same words, but its feeds and its remainder were a thousandth of what they are here. It is one of this
+ * layout once its first word is 4 and these are multiplied by 1,000: VZ_WORD_REMAINDER; the feed of what is in work, which of a line is
+ * word 16 and of an arc word 17; and VZ_BLOCK_FEED of each block that waits. A vz_known that was saved beside it has no number of a
+ * layout, so nothing refuses it: multiply its VZ_KNOWN_FEED too, where that is not -1. A check is begun again.
+ *
+ * A record of layout 2 had words 0 to 18 alone, and becomes one of 3 with three words more behind these. With nothing in work they are 0;
+ * else they are the root (see VZ_WORD_ROOT), the cycles still to do (of a line word 17 less word 18; of an arc the bytes with VZ_CYCLE that
+ * ticks on a copy give to its end), and 0; or let the block end, or vz_stop it, under the old archive. Wrong ones get 9. Under 1 the
+ * remainder was a thousandth of what it was in 2. */
+#define VZ_ABI 4
 
 #define VZ_QUEUE_BLOCKS 16 /* as many may wait behind the block in work */
 #define VZ_BLOCK_WORDS 7   /* of each one that waits */
@@ -113,11 +121,12 @@ enum vz_word {
     VZ_WORD_X = 7,          /* where the machine stands, in pulses */
     VZ_WORD_Y = 8,
     VZ_WORD_HELD = 9,       /* 1 held, 0 not */
-    VZ_WORD_REMAINDER = 10, /* what the feed has left over, below 1,414 * 60 * w: a tick adds 1,000 times the feed, and a cycle
-                               takes its charge times 60 * w off. It goes on to the next block. */
+    VZ_WORD_REMAINDER = 10, /* what the feed has left over, below 1,414 * 60,000 * w: a tick adds 1,000 times the feed, and a cycle
+                               takes its charge times 60,000 * w off. It goes on to the next block. */
     VZ_WORD_WORK = 11,      /* what is in work: 0 nothing, 1 a line, 2 an arc clockwise, 3 an arc counterclockwise */
     VZ_WORD_NUMBERS = 12,   /* seven words. Line: start x, start y, end x, end y, feed, cycles, cycles done.
-                               Arc: centre x, centre y, square of the radius, end x, end y, feed, 0. Nothing: all 0. */
+                               Arc: centre x, centre y, square of the radius, end x, end y, feed, 0. Nothing: all 0.
+                               A feed is in thousandths of a pulse per minute, as a load is given it. */
     VZ_WORD_ROOT = 19,      /* of a line in work its cycles; of an arc the cycles of a quarter turn, which are the root of twice the
                                square of the radius, rounded to the nearest; of nothing 0. So the test of a record takes no root. */
     VZ_WORD_LEFT = 20,      /* the cycles still to do over the block in work and all that wait */
@@ -130,7 +139,7 @@ enum vz_block_word {
     VZ_BLOCK_KIND = 0, /* 1 a line, 2 an arc clockwise, 3 an arc counterclockwise */
     VZ_BLOCK_X = 1,    /* its end, in pulses */
     VZ_BLOCK_Y = 2,
-    VZ_BLOCK_FEED = 3,
+    VZ_BLOCK_FEED = 3, /* in thousandths of a pulse per minute */
     VZ_BLOCK_I = 4,    /* its centre seen from its start, in pulses; of a line 0 */
     VZ_BLOCK_J = 5,
     VZ_BLOCK_ROOT = 6  /* as VZ_WORD_ROOT */
@@ -151,7 +160,7 @@ enum vz_refusal {
                                else than these calls. Call vz_make, find the table's zero again, and look for what wrote there.
                                Of the calls on a job text also: the known G and F, or the progress, are none. */
     VZ_REFUSED_FULL = 10,   /* 16 blocks wait already. Tick until the block in work has ended, then give the same one again. */
-    VZ_REFUSED_FEED = 11,   /* the feed is not in 1..60 * w. Slow down, or make with a faster clock. */
+    VZ_REFUSED_FEED = 11,   /* the feed is not in 1..60,000 * w. Slow down, or make with a faster clock. */
     VZ_REFUSED_END = 12,    /* the end is outside the travel. */
     VZ_REFUSED_STILL = 13,  /* a line to where it would start. Leave the block out. */
     VZ_REFUSED_CENTRE = 14, /* i or j is beyond 1,000,000 either way, or both are 0. They are the centre seen from the start. */
@@ -165,8 +174,9 @@ enum vz_refusal {
 enum vz_text_refusal {
     VZ_REFUSED_LONG_TEXT = 30, /* the text has more than VZ_TEXT_BYTES bytes; told of line 1. Cut the job into two. */
     VZ_REFUSED_LONG_LINE = 31, /* the line has more than VZ_LINE_BYTES bytes without its LF. */
-    VZ_REFUSED_WORDS = 32,     /* it is not made of words: N, G or F with 1 to 7 digits; X, Y, I or J with an optional sign, 1 to 7
-                                  digits and optionally a point with 1 to 3 digits; blanks between. A carriage return is none. */
+    VZ_REFUSED_WORDS = 32,     /* it is not made of words: N or G with 1 to 7 digits; F with 1 to 7 digits and optionally a point with
+                                  1 to 3 digits; X, Y, I or J the same, with an optional sign before them; blanks between. A carriage
+                                  return is none. */
     VZ_REFUSED_TWICE = 33,     /* a letter stands twice. */
     VZ_REFUSED_MOTION = 34,    /* G is not 1 (line), 2 (arc clockwise) or 3 (arc counterclockwise). */
     VZ_REFUSED_PULSE = 35,     /* X, Y, I or J, in millimetres, falls between two pulses. */
@@ -185,7 +195,7 @@ VZ_ANSWERS int64_t vz_make(vz_record *record, int64_t p, int64_t w, int64_t x_lo
 
 /* ---- load: a block comes into work or, where one is in work, waits behind those that wait already, VZ_QUEUE_BLOCKS at most: first come,
  * first cut. It starts where the last block that waits ends, else where the one in work ends, else where the machine stands; x and y are
- * its end, counted from (0, 0). Held or not does not matter.
+ * its end, counted from (0, 0), and feed is in thousandths of a pulse per minute. Held or not does not matter.
  * Answers the register width, positive: the fewest bits for the longer axis of a line, or for the radius of an arc.
  * Or minus the first refusal: -9, -10 to -12, then -13 for a line, -14 to -16 for an arc. A load moves nothing. A block that was taken is
  * not refused later.
@@ -269,9 +279,10 @@ typedef struct vz_known {
 
 VZ_ASSERT(sizeof(vz_known) == 8 * VZ_KNOWN_WORDS, "what is known is 2 words of 64 bits");
 
+/* Which word is what; any other number than these gets 9. */
 enum vz_known_word {
     VZ_KNOWN_MOTION = 0, /* the G that is known: 1, 2 or 3, 0 none */
-    VZ_KNOWN_FEED = 1    /* the F that is known, in millimetres per minute, -1 none */
+    VZ_KNOWN_FEED = 1    /* the F that is known, in thousandths of a millimetre per minute: 0 to 9,999,999,999, -1 none */
 };
 
 #define VZ_NOTHING_KNOWN { { 0, -1 } }
@@ -292,7 +303,7 @@ VZ_ANSWERS int64_t vz_read_line(vz_record *record, vz_known *known, const uint8_
  *     total 2 4737 284220                  the last line: blocks, cycles and ticks
  *     line 3 refused 15                    or, in its place, the text line that is refused and the number
  *
- * All that a check knows stands in a bench, the machine that the job would run on, where its last block ended, and in 8 words of progress
+ * All that a check knows stands in a bench, the machine that the job would run on, where its last block ended, and in 9 words of progress
  * beside it. The text is not among them: the caller keeps it, whole and unchanged, from the first call to the last. */
 
 #define VZ_BENCH_WORDS 19
@@ -305,24 +316,25 @@ typedef struct vz_bench {
 
 VZ_ASSERT(sizeof(vz_bench) == 8 * VZ_BENCH_WORDS, "a bench is 19 words of 64 bits");
 
-#define VZ_PROGRESS_WORDS 8
+#define VZ_PROGRESS_WORDS 9
 
 /* Written by the calls alone; it may be copied and saved with its bench. */
 typedef struct vz_progress {
     int64_t word[VZ_PROGRESS_WORDS];
 } vz_progress;
 
-VZ_ASSERT(sizeof(vz_progress) == 8 * VZ_PROGRESS_WORDS, "a check's progress is 8 words of 64 bits");
+VZ_ASSERT(sizeof(vz_progress) == 8 * VZ_PROGRESS_WORDS, "a check's progress is 9 words of 64 bits");
 
 enum vz_progress_word {
-    VZ_PROGRESS_STAGE = 0,  /* what comes next: 0 the header, 1 the row of the next text line, 2 nothing any more */
-    VZ_PROGRESS_AT = 1,     /* where the next text line begins, in bytes */
-    VZ_PROGRESS_MOTION = 2, /* as in vz_known */
+    VZ_PROGRESS_STAGE = 0,     /* what comes next: 0 the header, 1 the row of the next text line, 2 nothing any more */
+    VZ_PROGRESS_AT = 1,        /* where the next text line begins, in bytes */
+    VZ_PROGRESS_MOTION = 2,    /* as in vz_known */
     VZ_PROGRESS_FEED = 3,
-    VZ_PROGRESS_LINES = 4,  /* text lines read */
-    VZ_PROGRESS_BLOCKS = 5, /* of the blocks so far: their number, */
-    VZ_PROGRESS_CYCLES = 6, /* cycles */
-    VZ_PROGRESS_TICKS = 7   /* and ticks */
+    VZ_PROGRESS_LINES = 4,     /* text lines read */
+    VZ_PROGRESS_BLOCKS = 5,    /* of the blocks so far: their number, */
+    VZ_PROGRESS_CYCLES = 6,    /* cycles */
+    VZ_PROGRESS_TICKS = 7,     /* and ticks, which can be more than 64 bits hold: those below 10^18, 0 to 10^18 - 1, */
+    VZ_PROGRESS_TICKS_HIGH = 8 /* and how often 10^18, of 32 bits, so that all are word[8] * 10^18 + word[7]. The listing has the sum. */
 };
 
 /* Begins the check of a job on a fresh machine with these settings, which it takes and answers as vz_make does: 0; or -1, -2 or -3,

@@ -2,20 +2,20 @@
  * do, looks through them, and which words of a record are read and written. Ends with 1 where something is otherwise. */
 #include "told.h"
 
-enum { ALL = 1 + VZ_QUEUE_BLOCKS, CAPACITY = 300000, PATTERNS = 2 };
+enum { ALL = 1 + VZ_QUEUE_BLOCKS, PATTERNS = 2 };
 
-/* ---- seventeen blocks: lines, parts of a circle and full turns, each at its own feed */
+/* ---- seventeen blocks: lines, parts of a circle and full turns, each at its own feed, of the first four in whole pulses */
 
 struct block {
     int64_t kind, x, y, feed, i, j;
 };
 
 static const struct block blocks[ALL] = {
-    {1, 30, 40, 100003, 0, 0},   {1, 30, -40, 299999, 0, 0},  {3, 40, 30, 77777, -30, 40}, {2, 40, 30, 123456, -40, -30},
-    {1, 0, 0, 300000, 0, 0},     {1, 7, -3, 250001, 0, 0},    {2, 11, -7, 211111, 0, -4},  {1, 11, 20, 98765, 0, 0},
-    {3, 11, 20, 199999, -9, 12}, {1, -60, 20, 287654, 0, 0},  {1, -60, 21, 30000, 0, 0},   {2, -40, 41, 150000, 0, 20},
-    {1, 12, 34, 300000, 0, 0},   {3, -2, 20, 222222, -14, 0}, {1, 50, 50, 271828, 0, 0},   {2, 50, 50, 161803, 3, -4},
-    {1, 1, -2, 141421, 0, 0},
+    {1, 30, 40, 100003000, 0, 0},   {1, 30, -40, 299999000, 0, 0},  {3, 40, 30, 77777000, -30, 40}, {2, 40, 30, 123456000, -40, -30},
+    {1, 0, 0, CAPACITY, 0, 0},      {1, 7, -3, 250001003, 0, 0},    {2, 11, -7, 211111111, 0, -4},  {1, 11, 20, 98765432, 0, 0},
+    {3, 11, 20, 199999999, -9, 12}, {1, -60, 20, 287654321, 0, 0},  {1, -60, 21, 30000001, 0, 0},   {2, -40, 41, 150000000, 0, 20},
+    {1, 12, 34, CAPACITY, 0, 0},    {3, -2, 20, 222222222, -14, 0}, {1, 50, 50, 271828182, 0, 0},   {2, 50, 50, 161803398, 3, -4},
+    {1, 1, -2, 141421356, 0, 0},
 };
 
 static int64_t load(vz_record *m, struct block b)
@@ -199,32 +199,27 @@ static void stops(void)
 
 /* ---- text lines, read ahead */
 
-static int64_t read(vz_record *m, vz_known *k, const char *line)
-{
-    return vz_read_line(m, k, (const uint8_t *)line, strlen(line));
-}
-
 /* The travel is 2 mm each way. */
 static void lines(void)
 {
     vz_record m = fresh();
     vz_known k = VZ_NOTHING_KNOWN;
-    is("G1 X1 F100", read(&m, &k, "G1 X1 F100"), 6);
-    is("Y from there", read(&m, &k, "Y0.5"), 5);
-    is("a line to the last end", read(&m, &k, "X1 Y0.5"), 0);
-    is("a quarter turn from there", read(&m, &k, "G2 X1.2 Y0.3 J-0.2"), 4);
-    is("a line to the last end", read(&m, &k, "G1 X1.2"), 0);
+    is("G1 X1 F100", read_line(&m, &k, "G1 X1 F100"), 6);
+    is("Y from there", read_line(&m, &k, "Y0.5"), 5);
+    is("a line to the last end", read_line(&m, &k, "X1 Y0.5"), 0);
+    is("a quarter turn from there", read_line(&m, &k, "G2 X1.2 Y0.3 J-0.2"), 4);
+    is("a line to the last end", read_line(&m, &k, "G1 X1.2"), 0);
     line_refused(&m, &k, "X2.02", VZ_REFUSED_END);
-    is("back to the point", read(&m, &k, "X0 Y0"), 6);
+    is("back to the point", read_line(&m, &k, "X0 Y0"), 6);
     is("waiting", m.word[VZ_WORD_WAITING], 3);
     is("the arc's centre", m.word[VZ_WAITING_WORD(1, VZ_BLOCK_J)], -10);
     while (m.word[VZ_WORD_WAITING] < VZ_QUEUE_BLOCKS && !wrong)
-        is("and on", read(&m, &k, m.word[VZ_WORD_WAITING] % 2 ? "X1" : "X0") > 0, 1);
+        is("and on", read_line(&m, &k, m.word[VZ_WORD_WAITING] % 2 ? "X1" : "X0") > 0, 1);
     line_refused(&m, &k, "X0.5 F1", VZ_REFUSED_FULL);
     line_refused(&m, &k, "G3 F0 I1", VZ_REFUSED_FULL);
     line_refused(&m, &k, "X0.01", VZ_REFUSED_PULSE);
-    is("no block while 16 wait", read(&m, &k, "X1 F200"), 0);
-    is("F known", k.word[VZ_KNOWN_FEED], 200);
+    is("no block while 16 wait", read_line(&m, &k, "X1 F200"), 0);
+    is("F known", k.word[VZ_KNOWN_FEED], 200000);
 }
 
 /* ---- looks */
@@ -286,7 +281,7 @@ static void damaged(void)
 /* None waits where nothing is in work, and no more than 16 wait. */
 static void lengths(void)
 {
-    static const int64_t first[VZ_BLOCK_WORDS] = {1, 30, 40, 100003, 0, 0, 50}; /* blocks[0], from (0, 0) */
+    static const int64_t first[VZ_BLOCK_WORDS] = {1, 30, 40, 100003000, 0, 0, 50}; /* blocks[0], from (0, 0) */
     vz_record idle = fresh(), m = with(ALL), next = m;
     memcpy(idle.word + VZ_WORD_QUEUE, first, sizeof first);
     idle.word[VZ_WORD_WAITING] = 1;
@@ -303,24 +298,60 @@ static void lengths(void)
     is("and with it", vz_hold(&next), 0);
 }
 
-/* A record of layout 2, carried over as the header says: its 19 words with another first one, and three more. */
+/* The same record under another number, its feeds and its remainder times so many and divided by so many. */
+static vz_record scaled(vz_record m, int64_t abi, int64_t times, int64_t by)
+{
+    const int64_t kind = m.word[VZ_WORD_WORK];
+    m.word[VZ_WORD_ABI] = abi;
+    m.word[VZ_WORD_REMAINDER] = m.word[VZ_WORD_REMAINDER] * times / by;
+    if (kind != 0) {
+        int64_t *feed = &m.word[VZ_WORD_NUMBERS + (kind == 1 ? 4 : 5)];
+        *feed = *feed * times / by;
+    }
+    for (int64_t n = 0; n < m.word[VZ_WORD_WAITING]; n++) {
+        int64_t *feed = &m.word[VZ_WAITING_WORD(n, VZ_BLOCK_FEED)];
+        *feed = *feed * times / by;
+    }
+    return m;
+}
+
+/* A record of layout 3, which had whole pulses, carried over as the header says: it is the one of this layout in every word. */
+static void carried_from_3(const vz_record *m)
+{
+    const vz_record old = scaled(*m, 3, 1, 1000), carried = scaled(old, VZ_ABI, 1000, 1);
+    refused("layout 3", &old);
+    is("a record carried over from 3", memcmp(&carried, m, sizeof carried), 0);
+}
+
+/* One of layout 2 before that: its 19 words, and three more with this root. */
+static void carried_from_2(const vz_record *made, int64_t root)
+{
+    vz_record last = *made, m;
+    while (last.word[VZ_WORD_WAITING] > 0 && !wrong)
+        is("tick", vz_tick(&last) >= 0, 1);
+    const vz_record old = scaled(last, 2, 1, 1000);
+    memset(&m, 0, sizeof m);
+    memcpy(&m, &old, VZ_BENCH_WORDS * sizeof *m.word);
+    refused("layout 2", &m);
+    m.word[VZ_WORD_ROOT] = root;
+    m.word[VZ_WORD_LEFT] = cycles(last);
+    m = scaled(m, VZ_ABI, 1000, 1);
+    is("a record carried over from 2", vz_hold(&m), 0);
+}
+
 static void carried(void)
 {
-    static const int64_t roots[] = {0, 50, 71}; /* of nothing, of the line and of the quarter turn of radius 50 */
-    const vz_record made[] = {fresh(), with(1), with(4)};
-    for (int i = 0; i < 3; i++) {
-        vz_record old = made[i], m;
-        while (old.word[VZ_WORD_WAITING] > 0 && !wrong)
-            is("tick", vz_tick(&old) >= 0, 1);
-        memset(&m, 0, sizeof m);
-        memcpy(&m, &old, VZ_BENCH_WORDS * sizeof *m.word);
-        m.word[VZ_WORD_ABI] = VZ_ABI - 1;
-        refused("the layout before", &m);
-        m.word[VZ_WORD_ABI] = VZ_ABI;
-        m.word[VZ_WORD_ROOT] = roots[i];
-        m.word[VZ_WORD_LEFT] = cycles(old);
-        is("a record carried over", vz_hold(&m), 0);
+    vz_record four = with(4);
+    const vz_record none = fresh(), one = with(1);
+    carried_from_2(&none, 0);
+    carried_from_2(&one, 50);  /* the line */
+    carried_from_2(&four, 71); /* a quarter turn of radius 50 */
+    carried_from_3(&none);
+    while (four.word[VZ_WORD_WORK] != 0 && !wrong) {
+        carried_from_3(&four);
+        is("tick", vz_tick(&four) >= 0, 1);
     }
+    carried_from_3(&four);
 }
 
 /* ---- histories: what stands behind the record makes no answer another, and stays */
@@ -361,7 +392,7 @@ static int64_t done(const struct call *c, vz_record *m, vz_known *k, uint8_t *ou
     case 4:
     case 5: return vz_run(m, c->budget, out, 256, &ticks);
     case 6:
-    case 7: return read(m, k, c->line);
+    case 7: return read_line(m, k, c->line);
     case 8:
     case 9: return vz_tick(m);
     default: return load(m, c->block);
@@ -371,7 +402,7 @@ static int64_t done(const struct call *c, vz_record *m, vz_known *k, uint8_t *ou
 static void histories(void)
 {
     vz_record m[PATTERNS];
-    vz_known k[PATTERNS] = {{{1, 6000}}, {{1, 6000}}};
+    vz_known k[PATTERNS] = {{{1, 6000000}}, {{1, 6000000}}};
     uint8_t out[PATTERNS][256] = {{0}};
     int64_t most = 0, refused_by_10 = 0;
     for (int p = 0; p < PATTERNS; p++) {

@@ -22,7 +22,7 @@ static void make(void)
 static void load(void)
 {
     vz_record m = fresh(), idle = m;
-    load_refused("feed", &m, vz_load_line(&m, 1, 1, 300001), VZ_REFUSED_FEED, &idle);
+    load_refused("feed", &m, vz_load_line(&m, 1, 1, CAPACITY + 1), VZ_REFUSED_FEED, &idle);
     load_refused("feed", &m, vz_load_line(&m, 1, 1, -1), VZ_REFUSED_FEED, &idle);
     load_refused("end", &m, vz_load_line(&m, 101, 0, 1), VZ_REFUSED_END, &idle);
     load_refused("still", &m, vz_load_line(&m, 0, 0, 1), VZ_REFUSED_STILL, &idle);
@@ -46,14 +46,14 @@ static void lines(void)
     line_refused(&m, &k, "G4", VZ_REFUSED_MOTION);
     line_refused(&m, &k, "X0.01", VZ_REFUSED_PULSE);
     line_refused(&m, &k, "X1 G1", VZ_REFUSED_UNKNOWN);
-    is("G1 F100", vz_read_line(&m, &k, (const uint8_t *)"G1 F100", 7), 0);
+    is("G1 F100", read_line(&m, &k, "G1 F100"), 0);
     is("G known", k.word[VZ_KNOWN_MOTION], 1);
-    is("F known", k.word[VZ_KNOWN_FEED], 100);
+    is("F known", k.word[VZ_KNOWN_FEED], 100000);
     line_refused(&m, &k, "I1", VZ_REFUSED_IJ);
     line_refused(&m, &k, "X3", VZ_REFUSED_END);
-    is("an empty line", vz_read_line(&m, &k, (const uint8_t *)"", 0), 0);
-    is("X0", vz_read_line(&m, &k, (const uint8_t *)"X0", 2), 0);
-    is("X1", vz_read_line(&m, &k, (const uint8_t *)"X1", 2), 6);
+    is("an empty line", read_line(&m, &k, ""), 0);
+    is("X0", read_line(&m, &k, "X0"), 0);
+    is("X1", read_line(&m, &k, "X1"), 6);
 }
 
 /* The line (3, -4) at a cycle for each tick: (1, -1), (1, -2), (2, -2), (2, -3), (3, -4). */
@@ -63,7 +63,7 @@ static void bytes(void)
     uint8_t out[8] = {0, 0, 0, 0, 0, 0, 0, 0};
     uint64_t ticks;
     is("idle", vz_run(&m, 1, out, sizeof out, &ticks), VZ_IDLE);
-    is("width", vz_load_line(&m, 3, -4, 300000), 3);
+    is("width", vz_load_line(&m, 3, -4, CAPACITY), 3);
     is("hold", vz_hold(&m), 0);
     is("held", vz_run(&m, 1, out, sizeof out, &ticks), VZ_HELD);
     is("byte while held", vz_tick(&m), 0);
@@ -119,7 +119,7 @@ static void ahead_of_line(void)
 {
     vz_record m = fresh(), then;
     vz_sums sums;
-    is("width", vz_load_line(&m, 3, -4, 300000), 3);
+    is("width", vz_load_line(&m, 3, -4, CAPACITY), 3);
     is("two ahead", vz_ahead(&m, 2, &then, &sums), 0);
     is("x", then.word[VZ_WORD_X], 1);
     is("y", then.word[VZ_WORD_Y], -2);
@@ -134,10 +134,10 @@ static void ahead_of_line(void)
     is("sum", sums.y, -2);
 }
 
-/* The same with the greatest remainder of a sound record, below 1,414 * 60 * w: at most one cycle is done on each tick. */
+/* The same with the greatest remainder of a sound record, below 1,414 * 60,000 * w: at most one cycle is done on each tick. */
 static void ahead_of_much(vz_record m)
 {
-    m.word[VZ_WORD_REMAINDER] = INT64_C(1414) * 300000 - 1;
+    m.word[VZ_WORD_REMAINDER] = INT64_C(1414) * CAPACITY - 1;
     ahead(m);
 }
 
@@ -146,19 +146,19 @@ static void everywhere(void)
 {
     vz_record m = fresh(), line = m, arc = m;
     ahead(m);
-    is("a slow line", vz_load_line(&m, 3, 4, 1), 3);
+    is("a slow line", vz_load_line(&m, 3, 4, 1001), 3);
     ahead(m);
     ahead_of_much(m);
-    is("a line", vz_load_line(&line, -3, 4, 300000), 3);
+    is("a line", vz_load_line(&line, -3, 4, CAPACITY), 3);
     ahead(line);
     ahead_of_much(line);
     is("a tick", vz_tick(&line), 2 + 4 + 16);
     ahead(line);
-    is("an arc", vz_load_ccw(&arc, 4, 2, 200000, 4, -3), 3);
+    is("an arc", vz_load_ccw(&arc, 4, 2, 200000000, 4, -3), 3);
     ahead(arc);
     ahead_of_much(arc);
     is("stop", vz_stop(&arc), 0);
-    is("a full turn", vz_load_cw(&arc, 0, 0, 7, 5, 0), 3);
+    is("a full turn", vz_load_cw(&arc, 0, 0, 7007, 5, 0), 3);
     ahead(arc);
 }
 
@@ -170,8 +170,8 @@ static void largest(void)
     vz_record wide, cw, ccw;
     is("make", vz_make(&wide, 50, 5000, -1000000, 1000000, -1000000, 1000000), 0);
     cw = ccw = wide;
-    is("clockwise", vz_load_cw(&cw, -414214, 1000000, 300000, 1000000, 1000000), 21);
-    is("counterclockwise", vz_load_ccw(&ccw, 1000000, -414214, 300000, 1000000, 1000000), 21);
+    is("clockwise", vz_load_cw(&cw, -414214, 1000000, CAPACITY, 1000000, 1000000), 21);
+    is("counterclockwise", vz_load_ccw(&ccw, 1000000, -414214, CAPACITY, 1000000, 1000000), 21);
     for (int i = 0; i < 4; i++) {
         fesetround(modes[i]);
         looks(&cw, 70001);
@@ -216,9 +216,9 @@ int main(void)
     changed("p", idle, VZ_WORD_P, -50);
     changed("x outside", idle, VZ_WORD_X, 101);
     changed("held 2", idle, VZ_WORD_HELD, 2);
-    changed("remainder", idle, VZ_WORD_REMAINDER, INT64_C(1414) * 300000);
-    changed("remainder of a line", line, VZ_WORD_REMAINDER, INT64_C(1414) * 300000);
-    changed("remainder of an arc", arc, VZ_WORD_REMAINDER, INT64_C(1414) * 300000);
+    changed("remainder", idle, VZ_WORD_REMAINDER, INT64_C(1414) * CAPACITY);
+    changed("remainder of a line", line, VZ_WORD_REMAINDER, INT64_C(1414) * CAPACITY);
+    changed("remainder of an arc", arc, VZ_WORD_REMAINDER, INT64_C(1414) * CAPACITY);
     changed("kind 4", idle, VZ_WORD_WORK, 4);
     changed("a number of nothing", idle, LAST_NUMBER, 1);
     changed("a line's point", line, VZ_WORD_X, 1);

@@ -18,6 +18,9 @@ static inline void is(const char *what, int64_t got, int64_t expected)
     }
 }
 
+/* 60,000 * w of a fresh machine: the greatest feed, which pays a line's cycle on each tick, and what a charge takes off the remainder. */
+enum { CAPACITY = 60000 * 5000 };
+
 /* The words behind the record hold something, so that a call which writes there is seen. */
 static inline vz_record fresh(void)
 {
@@ -25,6 +28,11 @@ static inline vz_record fresh(void)
     memset(&m, 0x5a, sizeof m);
     is("make", vz_make(&m, 50, 5000, -100, 100, -100, 100), 0);
     return m;
+}
+
+static inline int64_t read_line(vz_record *m, vz_known *k, const char *line)
+{
+    return vz_read_line(m, k, (const uint8_t *)line, strlen(line));
 }
 
 /* What a look writes, with words around it that are not its own. */
@@ -102,7 +110,7 @@ static inline void line_refused(vz_record *m, vz_known *k, const char *line, int
 {
     vz_record record = *m;
     vz_known known = *k;
-    is(line, vz_read_line(m, k, (const uint8_t *)line, strlen(line)), -number);
+    is(line, read_line(m, k, line), -number);
     is("words after a refused line", memcmp(m, &record, sizeof record), 0);
     is("what is known after a refused line", memcmp(k, &known, sizeof known), 0);
 }

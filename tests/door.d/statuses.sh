@@ -97,8 +97,12 @@ ok "something is left of an output that failed" holds "$work/status"
 # 8,000 lines, all but the first of 40 m, at a millimetre a minute: 9.6 × 10^13 ticks
 { echo 'G1 F1' && for _ in {1..4000}; do printf 'X20000\nX-20000\n'; done; } >"$work/slow.job"
 { cat "$work/slow.job" && echo G9; } >"$work/slow-refused.job"
+# and at a thousandth of that: 9.6 × 10^16
+sed 's/^G1 F1$/G1 F0.001/' "$work/slow.job" >"$work/slowest.job"
 ends 2 ticks "$work/slow.job" "$file"
+ends 2 ticks "$work/slowest.job" "$file"
 ends 2 plot "$work/slow.job" "$file"
+ends 2 plot "$work/slowest.job" "$file"
 ends 2 plot "$work/slow-refused.job" "$file"
 
 # told N WORDS..: the status of the program that tells a picture the blocks; where it is 2, one line of standard error says why

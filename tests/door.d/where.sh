@@ -36,12 +36,24 @@ at 5 'tick 5 of 6' 'block 2, text line 6: line from X -0.02 Y 0.00 to X -0.02 Y 
     'tick 4 of the block, 4 of 5 cycles done' 'X -1 Y -4 pulses, X -0.02 Y -0.08 mm'
 at 6 'tick 6 of 6' 'job over: blocks 2, text lines 6, ticks past its end 0' 'X -1 Y -5 pulses, X -0.02 Y -0.10 mm'
 
-# f 149,950 of 300,000: the first cycle is done on tick 3, and with the remainder kept the second on tick 5.
+# f 149,950,000 of 300,000,000: the first cycle is done on tick 3, and with the remainder kept the second on tick 5.
 printf 'G1 X0.02 F2999\nX0.04\n' >"$job"
 slow='line from X 0.02 Y 0.00 to X 0.04 Y 0.00 mm, feed 2999 mm/min'
 at 3 'tick 3 of 5' "block 2, text line 2: $slow" 'tick 0 of the block, 0 of 1 cycles done' 'X 1 Y 0 pulses, X 0.02 Y 0.00 mm'
 at 4 'tick 4 of 5' "block 2, text line 2: $slow" 'tick 1 of the block, 0 of 1 cycles done' 'X 1 Y 0 pulses, X 0.02 Y 0.00 mm'
 at 5 'tick 5 of 5' 'job over: blocks 2, text lines 2, ticks past its end 0' 'X 2 Y 0 pulses, X 0.04 Y 0.00 mm'
+
+# Feeds with decimals: 0.75 mm a minute is a pulse in 8,000 ticks, 0.001 one in 6,000,000; and a little below a cycle each tick.
+printf 'G1 X0.1 F0.75\nX0.12 F0.001\nG3 X0.12 Y0.2 J0.1 F5999.990\n' >"$job"
+slow='line from X 0.10 Y 0.00 to X 0.12 Y 0.00 mm, feed 0.001 mm/min'
+at 8000 'tick 8000 of 6040017' 'block 1, text line 1: line from X 0.00 Y 0.00 to X 0.10 Y 0.00 mm, feed 0.75 mm/min' \
+    'tick 8000 of the block, 1 of 5 cycles done' 'X 1 Y 0 pulses, X 0.02 Y 0.00 mm'
+at 40000 'tick 40000 of 6040017' "block 2, text line 2: $slow" 'tick 0 of the block, 0 of 1 cycles done' 'X 5 Y 0 pulses, X 0.10 Y 0.00 mm'
+at 6039999 'tick 6039999 of 6040017' "block 2, text line 2: $slow" 'tick 5999999 of the block, 0 of 1 cycles done' \
+    'X 5 Y 0 pulses, X 0.10 Y 0.00 mm'
+at 6040002 'tick 6040002 of 6040017' \
+    'block 3, text line 3: arc counterclockwise about X 0.12 Y 0.10 to X 0.12 Y 0.20 mm, feed 5999.99 mm/min' \
+    'tick 2 of the block, 1 of 14 cycles done' 'X 7 Y 0 pulses, X 0.14 Y 0.00 mm'
 
 # 01's arc of 14 cycles, N 25, and back: (1, 0), (2, 0), (3, 1), .. The third cycle is diagonal and charged 1,414, so that it waits for tick
 # 4. The 14 are charged 16,484: the first arc ends on tick 17 and leaves 516, of which the second has its third cycle on its tick 3.
@@ -63,8 +75,17 @@ head -c 65536 <(cat "$work/slow.job" && yes '' | head -n 65536) >"$job"
 at 1000000000000 'tick 1000000000000 of 95994000000000' \
     'block 84, text line 85: line from X 20000.00 Y 0.00 to X -20000.00 Y 0.00 mm, feed 1 mm/min' \
     'tick 10000000000 of the block, 1666666 of 2000000 cycles done' 'X -666666 Y 0 pulses, X -13333.32 Y 0.00 mm'
-at_once() { timeout 2 "$door" where "$job" 95993999999999 >"$work/out" && grep -q '^block 8000, text line 8001: ' "$work/out"; }
-ok "a tick of 10^13 is not found at once" at_once
+at_once() { timeout 2 "$door" where "$job" "$1" >"$work/out" && grep -q '^block 8000, text line 8001: ' "$work/out"; }
+ok "a tick of 10^13 is not found at once" at_once 95993999999999
+
+# The same at a thousandth of the feed.
+cp "$work/slowest.job" "$job"
+at 1000000000000000 'tick 1000000000000000 of 95994000000000000' \
+    'block 84, text line 85: line from X 20000.00 Y 0.00 to X -20000.00 Y 0.00 mm, feed 0.001 mm/min' \
+    'tick 10000000000000 of the block, 1666666 of 2000000 cycles done' 'X -666666 Y 0 pulses, X -13333.32 Y 0.00 mm'
+at 9223372036854775807 'tick 9223372036854775807 of 95994000000000000' \
+    'job over: blocks 8000, text lines 8001, ticks past its end 9127378036854775807' 'X -1000000 Y 0 pulses, X -20000.00 Y 0.00 mm'
+ok "a tick of 10^16 is not found at once" at_once 95993999999999999
 
 # sums FILE: at the ends of the first blocks of a job with these tick bytes, and at ticks spread over it, how many ticks, which block is in
 # work then, by the ends marked before, and the point that the bytes before add up to
@@ -148,19 +169,22 @@ ok "where, nobody reads: the exit status is neither 0 nor 2" nobody_reads
 row() { [[ $(printf '%s\n%b' "$1" "$2" | target/bin/jobwhere) == "$3" ]]; }
 # rows TICKS JOB ROW: counts it
 rows() { ok "jobwhere does not say '$3' after $1 ticks of '$2'" row "$@"; }
-# f 149,950 of 300,000: 299,900 thousands are left over after 2 ticks, and 149,850 once a cycle is done.
+# f 149,950,000 of 300,000,000: after 2 ticks 299,900,000 thousands are left over, and 149,850,000 once a cycle is done.
 slow='G1 X0.02 F2999\nX0.04\n'
-rows 0 "$slow" '1 1 1 0 1 0 0 0 1 0 0 1 0 149950 1 0'
-rows 2 "$slow" '1 1 1 2 1 0 0 299900000 1 0 0 1 0 149950 1 0'
-rows 3 "$slow" '1 2 2 0 1 1 0 149850000 1 1 0 2 0 149950 1 0'
-rows 5 "$slow" '0 2 2 0 0 2 0 149750000 0 0 0 0 0 0 0 0'
-rows 0000000000000000005 "$slow" '0 2 2 0 0 2 0 149750000 0 0 0 0 0 0 0 0'
-rows 9223372036854775807 "$slow" '0 2 2 9223372036854775802 0 2 0 149750000 0 0 0 0 0 0 0 0'
+rows 0 "$slow" '1 1 1 0 1 0 0 0 1 0 0 1 0 149950000 1 0'
+rows 2 "$slow" '1 1 1 2 1 0 0 299900000000 1 0 0 1 0 149950000 1 0'
+rows 3 "$slow" '1 2 2 0 1 1 0 149850000000 1 1 0 2 0 149950000 1 0'
+rows 5 "$slow" '0 2 2 0 0 2 0 149750000000 0 0 0 0 0 0 0 0'
+rows 0000000000000000005 "$slow" '0 2 2 0 0 2 0 149750000000 0 0 0 0 0 0 0 0'
+rows 9223372036854775807 "$slow" '0 2 2 9223372036854775802 0 2 0 149750000000 0 0 0 0 0 0 0 0'
+# f 37,500 and 50.
+rows 7999 'G1 X0.02 F0.75\n' '1 1 1 7999 1 0 0 299962500000 1 0 0 1 0 37500 1 0'
+rows 1 'G1 X0.02 F0.001\n' '1 1 1 1 1 0 0 50000 1 0 0 1 0 50 1 0'
 # An arc: its kind, centre, N, end and f.
 arcs='G3 X0 Y0.2 J0.1 F6000\nG2 X-0.06 Y0.02 J-0.1\n'
-rows 3 "$arcs" '1 1 1 3 12 2 0 300000000 3 0 5 25 0 10 300000 0'
-rows 4 "$arcs" '1 1 1 4 11 3 1 175800000 3 0 5 25 0 10 300000 0'
-rows 19 "$arcs" '1 2 2 2 15 2 10 154800000 2 0 5 25 -3 1 300000 0'
+rows 3 "$arcs" '1 1 1 3 12 2 0 300000000000 3 0 5 25 0 10 300000000 0'
+rows 4 "$arcs" '1 1 1 4 11 3 1 175800000000 3 0 5 25 0 10 300000000 0'
+rows 19 "$arcs" '1 2 2 2 15 2 10 154800000000 2 0 5 25 -3 1 300000000 0'
 # A refused line: minus its number, the blocks before it, its own line and the ticks that are left.
 rows 7 'G1 X0.02 F6000\n\nG3 X1 Y0.5 I1\n' '-15 1 3 6 0 1 0 0 0 0 0 0 0 0 0 0'
 rows 0 'X1\n' '-36 0 1 0 0 0 0 0 0 0 0 0 0 0 0 0'
@@ -199,7 +223,7 @@ printf '$1'"
     "$work/where/door/verdaizka" where "$job" 1 >"$work/out" 2>"$work/err"
     [[ $? -eq 2 && ! -s $work/out ]]
 }
-over='0 1 1 0 0 1 0 0 0 0 0 0 0 0 0 0' in_work='1 1 1 0 1 0 0 0 1 0 0 1 0 300000 1 0'
+over='0 1 1 0 0 1 0 0 0 0 0 0 0 0 0 0' in_work='1 1 1 0 1 0 0 0 1 0 0 1 0 300000000 1 0'
 whole_row() {
     program "$work/where/door/target/bin/jobwhere" <<<"#!/usr/bin/env bash
 printf '$1\\n'"
@@ -208,6 +232,6 @@ printf '$1\\n'"
 }
 for row in "$over" "$in_work"; do ok "'$row' passes for no row" whole_row "$row"; done
 for row in '' '\n' "$over" "${over% 0}\\n" "$over 0\\n" "0$in_work\\n" "0${in_work#1}\\n" "1${over#0}\\n" "-15${over#0}\\n" \
-    "2${in_work#1}\\n" "${in_work/300000/x}\\n" "${in_work/1 1 1 0/1 1 -1 0}\\n" "${in_work/ 0 0 0 1 / 0 0 0 4 }\\n"; do
+    "2${in_work#1}\\n" "${in_work/300000000/x}\\n" "${in_work/1 1 1 0/1 1 -1 0}\\n" "${in_work/ 0 0 0 1 / 0 0 0 4 }\\n"; do
     ok "'$row' passes for a row" broken_row "$row"
 done

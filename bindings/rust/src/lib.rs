@@ -22,13 +22,13 @@ pub const BENCH_WORDS: usize = word::ROOT;
 pub const KNOWN_WORDS: usize = 2;
 
 /// How far a check has come, in words of 64 bits.
-pub const PROGRESS_WORDS: usize = 8;
+pub const PROGRESS_WORDS: usize = 9;
 
 /// As far as a look-ahead goes, in ticks.
 pub const AHEAD_TICKS: u64 = 1_000_000;
 
 /// Word 0 of every record: the layout that this file knows. Words with another number there are no record.
-pub const ABI: i64 = 3;
+pub const ABI: i64 = 4;
 
 /// Which word is what, as `include/verdaizka.h` says it.
 pub mod word {
@@ -42,10 +42,11 @@ pub mod word {
     pub const X: usize = 7;
     pub const Y: usize = 8;
     pub const HELD: usize = 9;
+    /// In thousandths of a feed number.
     pub const REMAINDER: usize = 10;
     /// 0 nothing, then the kinds below.
     pub const WORK: usize = 11;
-    /// The seven numbers of what is in work.
+    /// The seven numbers of what is in work; a feed is in thousandths of a pulse per minute.
     pub const NUMBERS: usize = 12;
     /// The root of the block in work: a line's cycles, an arc's cycles of a quarter turn, 0 of nothing.
     pub const ROOT: usize = 19;
@@ -60,7 +61,7 @@ pub mod word {
     pub const KIND_CW: i64 = 2;
     pub const KIND_CCW: i64 = 3;
 
-    /// Of `Known`: 1, 2 or 3, 0 none; and millimetres per minute, -1 none.
+    /// Of `Known`: 1, 2 or 3, 0 none; and thousandths of a millimetre per minute, 0 to 9,999,999,999, -1 none.
     pub const KNOWN_G: usize = 0;
     pub const KNOWN_F: usize = 1;
 
@@ -73,7 +74,10 @@ pub mod word {
     pub const LINES: usize = 4;
     pub const BLOCKS: usize = 5;
     pub const CYCLES: usize = 6;
+    /// The ticks below `TICKS_UNIT`, and how often that: a job can take more than 64 bits hold.
     pub const TICKS: usize = 7;
+    pub const TICKS_HIGH: usize = 8;
+    pub const TICKS_UNIT: i64 = 1_000_000_000_000_000_000;
 }
 
 // A slice passes as its pointer and its length.
@@ -114,6 +118,13 @@ pub struct Settings {
     pub y: (i64, i64),
 }
 
+impl Settings {
+    /// The greatest feed number of settings that a make takes: a line does a cycle on every tick.
+    pub const fn fastest(self) -> i64 {
+        60_000 * self.w
+    }
+}
+
 /// The settings of the check program, and of the machine that a refused make answers.
 pub const USUAL: Settings = Settings { p: 50, w: 5_000, x: (-1_000_000, 1_000_000), y: (-1_000_000, 1_000_000) };
 
@@ -124,15 +135,18 @@ pub enum Turn {
 }
 
 /// A block from where the last one that was loaded ends, or where the machine stands if it is idle: its absolute end in pulses, its feed
-/// number in pulses per minute and, for an arc, the centre seen from the start.
+/// number in thousandths of a pulse per minute and, for an arc, the centre seen from the start.
+///
+/// A feed number is thousandths of a millimetre per minute times p. One in whole pulses per minute, as up to `ABI` 3, is not refused: the
+/// block runs at a thousandth of the speed.
 #[derive(Clone, Copy, PartialEq, Eq, Debug)]
 pub enum Block {
     Line { x: i64, y: i64, feed: i64 },
     Arc { turn: Turn, x: i64, y: i64, feed: i64, i: i64, j: i64 },
 }
 
-/// What is in work: positions in pulses, the feed in pulses per minute, of a line its cycles and those done, of an arc the square of its
-/// radius.
+/// What is in work: positions in pulses, the feed in thousandths of a pulse per minute, of a line its cycles and those done, of an arc the
+/// square of its radius.
 #[derive(Clone, Copy, PartialEq, Eq, Debug)]
 pub enum Work {
     Nothing,
@@ -302,7 +316,7 @@ impl Machine {
     /// use verdaizka::{Block, Machine, Refused, AHEAD_TICKS, USUAL};
     ///
     /// let (mut machine, _) = Machine::make(USUAL);
-    /// machine.load(Block::Line { x: 3, y: 4, feed: 300_000 }).expect("accepted");
+    /// machine.load(Block::Line { x: 3, y: 4, feed: USUAL.fastest() }).expect("accepted");
     /// let ahead = machine.ahead(2).expect("not too far");
     /// assert_eq!((ahead.sums, ahead.then.position()), ((1, 2), (1, 2)));
     /// assert_eq!(machine.position(), (0, 0));
@@ -335,7 +349,7 @@ impl Machine {
         self.words[word::HELD] != 0
     }
 
-    /// What the feed has left over, in thousandths of a feed number: of a sound record below 1,414 times 60 times w.
+    /// What the feed has left over, in thousandths of a feed number: of a sound record below 1,414 times the fastest feed.
     pub fn remainder(&self) -> i64 {
         self.words[word::REMAINDER]
     }
@@ -361,7 +375,8 @@ impl Machine {
     /// use verdaizka::{Block, Machine, USUAL};
     ///
     /// let (mut machine, _) = Machine::make(USUAL);
-    /// let (there, back) = (Block::Line { x: 3, y: 4, feed: 300_000 }, Block::Line { x: 0, y: 0, feed: 300_000 });
+    /// let feed = USUAL.fastest();
+    /// let (there, back) = (Block::Line { x: 3, y: 4, feed }, Block::Line { x: 0, y: 0, feed });
     /// machine.load(there).expect("accepted");
     /// machine.load(back).expect("accepted");
     /// assert_eq!((machine.waiting(), machine.cycles_left()), (1, 10));
@@ -429,6 +444,12 @@ impl Check {
     /// The words of how far it has come.
     pub fn progress(&self) -> &[i64; PROGRESS_WORDS] {
         &self.progress
+    }
+
+    /// The ticks of the blocks so far, as its two words say it, sound or not.
+    pub fn ticks(&self) -> i128 {
+        let [low, high] = [word::TICKS, word::TICKS_HIGH].map(|at| i128::from(self.progress[at]));
+        high * i128::from(word::TICKS_UNIT) + low
     }
 
     /// How many bytes of the listing stand at the front of the buffer, and whether they were the last. The text is the whole one, the

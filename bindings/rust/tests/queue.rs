@@ -6,15 +6,15 @@ mod ticking;
 use ticking::ticked;
 use verdaizka::{Block, Machine, Settings, Turn, Why, Work, AHEAD_TICKS};
 
-/// Feed 60,000 pays a line's cycle on every tick.
 const SETTINGS: Settings = Settings { p: 50, w: 1_000, x: (-20, 20), y: (-20, 20) };
+const FASTEST: i64 = SETTINGS.fastest();
 
 /// A line of 5 cycles, a full turn of 28, a line of 1 by 4 pulses, which has 5 too, and one of a pulse.
 const BLOCKS: [Block; 4] = [
-    Block::Line { x: 3, y: -4, feed: 60_000 },
-    Block::Arc { turn: Turn::Counterclockwise, x: 3, y: -4, feed: 40_000, i: 0, j: 5 },
-    Block::Line { x: 4, y: 0, feed: 7_000 },
-    Block::Line { x: 4, y: 1, feed: 60_000 },
+    Block::Line { x: 3, y: -4, feed: FASTEST },
+    Block::Arc { turn: Turn::Counterclockwise, x: 3, y: -4, feed: 40_000_001, i: 0, j: 5 },
+    Block::Line { x: 4, y: 0, feed: 7_000_000 },
+    Block::Line { x: 4, y: 1, feed: FASTEST },
 ];
 const CYCLES: [i64; 4] = [5, 28, 5, 1];
 
@@ -38,7 +38,7 @@ fn end_of(block: Block) -> (i64, i64) {
 fn loads_behind_one_another() {
     for count in 1..=BLOCKS.len() {
         let machine = loaded(&BLOCKS[..count]);
-        assert_eq!(machine.work(), Work::Line { start: (0, 0), end: (3, -4), feed: 60_000, cycles: 5, done: 0 });
+        assert_eq!(machine.work(), Work::Line { start: (0, 0), end: (3, -4), feed: FASTEST, cycles: 5, done: 0 });
         assert_eq!(machine.queue().collect::<Vec<_>>(), &BLOCKS[1..count]);
         assert_eq!((machine.waiting(), machine.cycles_left()), (count as i64 - 1, CYCLES[..count].iter().sum()));
     }

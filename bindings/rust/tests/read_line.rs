@@ -11,8 +11,8 @@ fn a_line_of_a_block() {
     let (mut machine, mut known) = fresh();
     assert_eq!(machine.work(), Work::Nothing);
     assert_eq!(machine.read_line(&mut known, b"N20 G01 X20 Y40 F100"), Ok(Some(11)));
-    assert_eq!(known.words(), &[1, 100]);
-    let line = Work::Line { start: (0, 0), end: (1_000, 2_000), feed: 5_000, cycles: 2_237, done: 0 };
+    assert_eq!(known.words(), &[1, 100_000]);
+    let line = Work::Line { start: (0, 0), end: (1_000, 2_000), feed: 5_000_000, cycles: 2_237, done: 0 };
     assert_eq!((machine.work(), machine.is_busy(), machine.position()), (line, true, (0, 0)));
 }
 
@@ -22,8 +22,8 @@ fn an_arc_of_each_kind() {
         let (mut machine, mut known) = fresh();
         let line = format!("G{g} J0.1 Y0.2 F6000");
         assert_eq!(machine.read_line(&mut known, line.as_bytes()), Ok(Some(3)));
-        let arc = Work::Arc { turn, centre: (0, 5), square: 25, end: (0, 10), feed: 300_000 };
-        assert_eq!((machine.work(), known.words()), (arc, &[g, 6_000]));
+        let arc = Work::Arc { turn, centre: (0, 5), square: 25, end: (0, 10), feed: USUAL.fastest() };
+        assert_eq!((machine.work(), known.words()), (arc, &[g, 6_000_000]));
     }
 }
 
@@ -32,9 +32,16 @@ fn an_arc_of_each_kind() {
 fn lines_without_a_block() {
     let (mut machine, mut known) = fresh();
     let before = machine.clone();
-    for (line, words) in
-        [("", [0, -1]), ("   ", [0, -1]), ("G2", [2, -1]), ("N7 F0", [2, 0]), ("F9999999 G1", [1, 9_999_999]), ("X0 Y-0", [1, 9_999_999])]
-    {
+    for (line, words) in [
+        ("", [0, -1]),
+        ("   ", [0, -1]),
+        ("G2", [2, -1]),
+        ("N7 F0", [2, 0]),
+        ("F0.001", [2, 1]),
+        ("F9999999 G1", [1, 9_999_999_000]),
+        ("F9999999.999", [1, 9_999_999_999]),
+        ("X0 Y-0", [1, 9_999_999_999]),
+    ] {
         assert_eq!(machine.read_line(&mut known, line.as_bytes()), Ok(None), "{line}");
         assert_eq!((&machine, known.words()), (&before, &words), "{line}");
     }
@@ -46,18 +53,18 @@ fn lines_without_a_block() {
 fn at_other_settings() {
     let (mut machine, made) = Machine::make(Settings { p: 7, w: 1_000, x: (0, 70), y: (-7, 0) });
     assert_eq!(made, Ok(()));
-    let mut known = Known::from_words([1, 8_571]);
+    let mut known = Known::from_words([1, 8_571_428]);
     assert_eq!(machine.read_line(&mut known, b"X0.5"), Err(Refused(35)));
     assert_eq!(machine.read_line(&mut known, b"X11"), Err(Refused(12)));
-    assert_eq!(machine.read_line(&mut known, b"X1 F8572"), Err(Refused(11)));
+    assert_eq!(machine.read_line(&mut known, b"X1 F8571.429"), Err(Refused(11)));
     assert_eq!(machine.read_line(&mut known, b"X10 Y-1"), Ok(Some(7)));
-    assert_eq!(machine.work(), Work::Line { start: (0, 0), end: (70, -7), feed: 59_997, cycles: 71, done: 0 });
+    assert_eq!(machine.work(), Work::Line { start: (0, 0), end: (70, -7), feed: 59_999_996, cycles: 71, done: 0 });
 }
 
 #[test]
 fn a_refused_line_leaves_machine_and_known() {
     let long = " ".repeat(81);
-    let (mut machine, mut known) = (Machine::make(USUAL).0, Known::from_words([1, 6_001]));
+    let (mut machine, mut known) = (Machine::make(USUAL).0, Known::from_words([1, 6_000_001]));
     let (machine_before, known_before) = (machine.clone(), known.clone());
     for (line, number) in [
         (long.as_str(), 31),
@@ -87,12 +94,12 @@ fn a_machine_at_work() {
     let (mut machine, mut known) = fresh();
     assert_eq!(machine.read_line(&mut known, b"G1 F100 X1"), Ok(Some(6)));
     assert_eq!(machine.read_line(&mut known, b"X1 F5"), Ok(None));
-    assert_eq!((machine.waiting(), machine.cycles_left(), known.words()), (0, 50, &[1, 5]));
+    assert_eq!((machine.waiting(), machine.cycles_left(), known.words()), (0, 50, &[1, 5_000]));
     assert_eq!(machine.read_line(&mut known, b"Y0.02"), Ok(Some(1)));
     assert_eq!(machine.read_line(&mut known, b"X0 Y0 F7"), Ok(Some(6)));
     assert_eq!(machine.read_line(&mut known, b"G3 I0.1"), Ok(Some(3)));
-    let lines = [Block::Line { x: 50, y: 1, feed: 250 }, Block::Line { x: 0, y: 0, feed: 350 }];
-    let turn = Block::Arc { turn: Turn::Counterclockwise, x: 0, y: 0, feed: 350, i: 5, j: 0 };
+    let lines = [Block::Line { x: 50, y: 1, feed: 250_000 }, Block::Line { x: 0, y: 0, feed: 350_000 }];
+    let turn = Block::Arc { turn: Turn::Counterclockwise, x: 0, y: 0, feed: 350_000, i: 5, j: 0 };
     assert_eq!(machine.queue().collect::<Vec<_>>(), [lines[0], lines[1], turn]);
     assert_eq!((machine.position(), machine.cycles_left()), ((0, 0), 50 + 1 + 51 + 28));
 }
@@ -108,12 +115,12 @@ fn a_full_queue() {
     assert_eq!(machine.read_line(&mut known, b"X2"), Err(Refused(10)));
     assert_eq!(machine.read_line(&mut known, b"X2 X2"), Err(Refused(33)));
     assert_eq!(machine.read_line(&mut known, b"X17 F5"), Ok(None));
-    assert_eq!((machine.words(), known), (&before, Known::from_words([1, 5])));
+    assert_eq!((machine.words(), known), (&before, Known::from_words([1, 5_000])));
 }
 
 #[test]
 fn words_that_are_no_known_are_refused_by_9() {
-    let bad = [[4, 100], [-1, 100], [1, -2], [1, i64::MIN], [1, i64::MAX], [i64::MAX, -1], [7, 7]];
+    let bad = [[4, 100], [-1, 100], [1, -2], [1, i64::MIN], [1, i64::MAX], [1, 10_000_000_000], [i64::MAX, -1], [7, 7]];
     for words in bad {
         let (mut machine, mut known) = (Machine::make(USUAL).0, Known::from_words(words));
         let before = machine.clone();

@@ -3,12 +3,13 @@
 use verdaizka::{word, Ahead, Block, Check, Known, Machine, Refused, Settings, Turn, ABI, AHEAD_TICKS, USUAL};
 use verdaizka::{BENCH_WORDS, BLOCK_WORDS, MOST_WAITING, PROGRESS_WORDS, WORDS};
 
-const LINE: Block = Block::Line { x: 300, y: -400, feed: 60_000 };
-/// The greatest remainder of a sound record at 5,000 ticks a second: below a diagonal step's charge times 300,000.
-const MOST: i64 = 1_414 * 300_000 - 1;
+const FASTEST: i64 = USUAL.fastest();
+const LINE: Block = Block::Line { x: 300, y: -400, feed: FASTEST / 5 };
+/// The greatest remainder of a sound record: below a diagonal step's charge times 60,000 times w.
+const MOST: i64 = 1_414 * FASTEST - 1;
 
 fn arc(x: i64, i: i64, j: i64) -> Block {
-    Block::Arc { turn: Turn::Counterclockwise, x, y: 0, feed: 60_000, i, j }
+    Block::Arc { turn: Turn::Counterclockwise, x, y: 0, feed: FASTEST / 5, i, j }
 }
 
 /// Every call on these words is refused by 9 and leaves them, with the buffer and what is known.
@@ -38,7 +39,7 @@ fn another_layout_is_no_record() {
     busy.load(LINE).expect("accepted");
     idle.hold().expect("sound");
     for machine in [idle, busy] {
-        for abi in [0, 1, 2, 4, -1, 50, i64::MAX, i64::MIN] {
+        for abi in [0, 1, 2, 3, 5, -1, 50, i64::MAX, i64::MIN] {
             let mut words = *machine.words();
             words[word::ABI] = abi;
             no_record(words);
@@ -100,7 +101,7 @@ fn words_of_blocks_that_wait() {
     let lengths = [1, 3, 17, -1, 2 + (1 << 32), i64::MAX, i64::MIN].map(|length| (word::WAITING, length));
     let kinds = [0, 1, 4, -2, i64::MAX].map(|kind| (of_place(0, KIND), kind));
     let roots = [(0, 6), (0, 8), (0, 28), (1, 4), (1, 6), (1, 0), (1, -5)].map(|(place, root)| (of_place(place, ROOT), root));
-    let feeds = [0, -7, 300_001, i64::MAX].map(|feed| (of_place(1, FEED), feed));
+    let feeds = [0, -7, FASTEST + 1, i64::MAX].map(|feed| (of_place(1, FEED), feed));
     // 14 and 15 for the turn; a line has no centre, and ends in travel.
     let others = [(of_place(0, I), 1_000_001), (of_place(0, END_X), 310), (of_place(1, I), 1), (of_place(1, END_X), 1_000_001)];
     for (at, value) in figures.into_iter().chain(lengths).chain(kinds).chain(roots).chain(feeds).chain(others) {
@@ -115,7 +116,7 @@ fn words_behind_the_record() {
     for length in [0, 1, MOST_WAITING - 1] {
         let (mut clean, _) = Machine::make(USUAL);
         for at in 0..=length as i64 {
-            clean.load(Block::Line { x: at + 1, y: 0, feed: 300_000 }).expect("accepted");
+            clean.load(Block::Line { x: at + 1, y: 0, feed: FASTEST }).expect("accepted");
         }
         let end = of_place(length, 0);
         let mut words = *clean.words();
@@ -163,7 +164,7 @@ fn a_refused_load_leaves_the_record() {
     assert_eq!(made, Ok(()));
     let fresh = machine.clone();
     for (block, number) in [
-        (Block::Line { x: 1, y: 0, feed: 300_001 }, 11),
+        (Block::Line { x: 1, y: 0, feed: FASTEST + 1 }, 11),
         (Block::Line { x: 1, y: 0, feed: -1 }, 11),
         (Block::Line { x: 1_001, y: 0, feed: 1 }, 12),
         (Block::Line { x: 0, y: 0, feed: 1 }, 13),
@@ -183,12 +184,12 @@ fn the_eighteenth_block() {
     let (mut machine, _) = Machine::make(USUAL);
     for at in 0..=MOST_WAITING as i64 {
         assert_eq!(machine.waiting(), (at - 1).max(0));
-        machine.load(Block::Line { x: at + 1, y: 0, feed: 60_000 }).expect("accepted");
+        machine.load(Block::Line { x: at + 1, y: 0, feed: FASTEST }).expect("accepted");
     }
     let full = *machine.words();
     assert_eq!((machine.record(), machine.waiting(), machine.cycles_left()), (&full[..], 16, 17));
-    let last = Block::Line { x: 17, y: 0, feed: 60_000 };
-    for block in [Block::Line { x: 18, y: 0, feed: 60_000 }, last, Block::Line { x: 1 << 40, y: 0, feed: 0 }, arc(0, 0, 0), arc(17, 5, 0)] {
+    let lines = [(17, FASTEST), (18, FASTEST), (1 << 40, 0)].map(|(x, feed)| Block::Line { x, y: 0, feed });
+    for block in lines.into_iter().chain([arc(0, 0, 0), arc(17, 5, 0)]) {
         assert_eq!(machine.load(block), Err(Refused(10)));
         assert_eq!(machine.words(), &full);
     }
@@ -221,14 +222,14 @@ fn words_that_are_no_check() {
     let sound = Check::start(USUAL).0;
     let mut bad =
         vec![([7; BENCH_WORDS], [7; PROGRESS_WORDS]), (*sound.bench(), [7; PROGRESS_WORDS]), ([7; BENCH_WORDS], *sound.progress())];
-    for abi in [0, 1, 2] {
+    for abi in [0, 1, 2, 3] {
         let mut bench = *sound.bench();
         bench[word::ABI] = abi;
         bad.push((bench, *sound.progress()));
     }
-    for (at, value) in
-        [(word::STAGE, 3), (word::STAGE, -1), (word::PROGRESS_G, 4), (word::PROGRESS_F, -2), (word::LINES, -1), (word::AT, -1)]
-    {
+    let counts = [word::AT, word::LINES, word::BLOCKS, word::CYCLES, word::TICKS, word::TICKS_HIGH].map(|at| (at, -1));
+    let others = [(word::STAGE, 3), (word::STAGE, -1), (word::PROGRESS_G, 4), (word::PROGRESS_F, -2), (word::PROGRESS_F, 10_000_000_000)];
+    for (at, value) in counts.into_iter().chain(others).chain([(word::TICKS_HIGH, 1 << 32)]) {
         let mut progress = *sound.progress();
         progress[at] = value;
         bad.push((*sound.bench(), progress));

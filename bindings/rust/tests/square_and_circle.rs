@@ -3,7 +3,8 @@
 use verdaizka::{Block, Machine, Settings, Turn, Why};
 
 const SETTINGS: Settings = Settings { p: 50, w: 5_000, x: (-1_000, 1_000), y: (-1_000, 1_000) };
-const FEED: i64 = 60_000;
+/// 1,200 mm a minute: a cycle of a line takes five ticks.
+const FEED: i64 = 1_200_000 * SETTINGS.p;
 
 fn pulse(code: u8) -> i64 {
     [0, 1, -1, 0][usize::from(code & 3)]
@@ -44,7 +45,7 @@ fn square_and_circle() {
     // tick 8,289 leaves 24 of them.
     let (x, y, ticks) = cut(&mut machine);
     assert_eq!((x, y, ticks), (0, 0, 8_289));
-    assert_eq!((machine.position(), machine.is_busy(), machine.remainder()), ((0, 0), false, 24 * 300_000));
+    assert_eq!((machine.position(), machine.is_busy(), machine.remainder()), ((0, 0), false, 24 * SETTINGS.fastest()));
 }
 
 #[test]

@@ -10,8 +10,7 @@ use std::process::ExitCode;
 use verdaizka::{descriptors, Block, Known, Machine, Refused, Turn, Why, Work, USUAL};
 
 const LONGEST_TEXT: usize = 65_536;
-/// The greatest feed number there is.
-const FASTEST: i64 = 60 * USUAL.w;
+const FASTEST: i64 = USUAL.fastest();
 
 /// What is in work, as a row tells it and as a load takes it from where the machine stands: at the fastest feed, since where a block goes
 /// does not hang on its feed.

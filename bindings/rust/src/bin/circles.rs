@@ -5,11 +5,11 @@ use std::io::{self, BufWriter, Write};
 use std::process::ExitCode;
 use verdaizka::crc::Crc;
 use verdaizka::fields::quarter_cycles;
-use verdaizka::{word, Machine, Why, ABI, WORDS};
+use verdaizka::{word, Machine, Settings, Why, ABI, USUAL, WORDS};
 
 const CLOCK: i64 = 1_000;
 /// The fastest feed number: a tick pays 1,000, all of a straight step's charge and the greater part of a diagonal one's.
-const FEED: i64 = 60 * CLOCK;
+const FEED: i64 = Settings { w: CLOCK, ..USUAL }.fastest();
 
 type Point = (i64, i64);
 

@@ -66,8 +66,8 @@ fn list(check: &mut Check, text: &[u8], sizes: &mut impl Iterator<Item = usize>,
     }
 }
 
-/// What the job leaves: `= RECORD known G F done BLOCKS CYCLES TICKS`. A check's bench is idle between two rows: nothing waits, and no
-/// cycle is to do.
+/// What the job leaves: `= RECORD known G F done BLOCKS CYCLES TICKS`, F in thousandths of a millimetre per minute. A check's bench is idle
+/// between two rows: nothing waits, and no cycle is to do.
 fn write_end(check: &Check, out: &mut impl Write) -> io::Result<()> {
     let mut words = [0; WORDS];
     words[..BENCH_WORDS].copy_from_slice(check.bench());
@@ -78,7 +78,7 @@ fn write_end(check: &Check, out: &mut impl Write) -> io::Result<()> {
     }
     let of = |at: usize| check.progress()[at];
     let (g, f) = (of(word::PROGRESS_G), of(word::PROGRESS_F));
-    writeln!(out, "= {record} known {g} {f} done {} {} {}", of(word::BLOCKS), of(word::CYCLES), of(word::TICKS))
+    writeln!(out, "= {record} known {g} {f} done {} {} {}", of(word::BLOCKS), of(word::CYCLES), check.ticks())
 }
 
 fn list_all(stream: &[u8], out: &mut impl Write) -> io::Result<()> {
