@@ -1,4 +1,4 @@
--- 02 §4, Feeds with decimals: calls whose feed numbers count in a unit u times as fine. No other call has a feed.
+-- 02 §4, Feeds with decimals: calls whose feed numbers count in a unit u times as fine. Only a load has a feed.
 use mathlib.Core.List.{List, [], _∷_}
 use Prim.Native.Nat.{ℕ}
 use Rattle.block.specs.Feed.{finer}

@@ -3,18 +3,23 @@
 use mathlib.Core.Path.{_≡_}
 use mathlib.Core.Bool.{true, false}
 use mathlib.Core.List.{List, [], _∷_, _++_}
-use Prim.Native.Nat.{ℕ, _*_}
+use Prim.Native.Nat.{ℕ, _+_, _*_}
+use Rattle.plane.specs.declared.point.Point.{Point}
 use Rattle.plane.specs.declared.travel.Travel.{Travel}
+use Rattle.block.specs.Feed.{finer}
 use Rattle.letters.specs.declared.letter.Letter.the-variants.{F}
 use Rattle.letters.specs.Word.{oneWord}
-use Rattle.words.specs.Meaning.{number, magnitudeOf}
+use Rattle.words.specs.declared.line.Line.{Line}
+use Rattle.words.specs.Meaning.{number, magnitudeOf, Means}
+use Rattle.words.specs.Whole.{NoPoint}
 use Rattle.settings.specs.declared.Settings.{Settings}
 use Rattle.settings.specs.Settings.{feedUnit, capacityAt}
 use Rattle.bench.specs.Bench.{freshOf}
 use Rattle.machine.specs.declared.Machine.{Machine}
 use Rattle.machine.specs.declared.Answered.{Answered}
 use Rattle.reader.specs.declared.Feed.{Feed}
-use Rattle.reader.specs.Reader.{feedAfter, feedNumberAt}
+use Rattle.reader.specs.declared.Reader.{Reader}
+use Rattle.reader.specs.Reader.{WholeKnown, feedAfter, feedNumberAt, readerAfter}
 use Rattle.book.specs.Book.{Call, Reply, freshBook, replies, closing}
 use Rattle.book.specs.Sums.{tickBytes}
 use Rattle.book.specs.Unit.{finerCalls}
@@ -28,6 +33,7 @@ use Rattle.job.specs.Unit.{WholeText, finerBlocks}
 use Rattle.stream.specs.declared.Stream.{Stream}
 use Rattle.demands.specs.Asked.{AllYes}
 use Rattle.demands.specs.Bench.{settingsQuestions}
+use Rattle.demands.specs.Questions.{lineBlock}
 use Rattle.demands.specs.Texts.{TextMeans, FrontOf, Starts, TellsOver, RowsOut}
 use Rattle.demands.specs.TickBytes.{StartsStream, BytesOut}
 
@@ -58,8 +64,16 @@ pub record EveryWholeFeed : Type 0 where
   -- the unit 1 is 01's: "Capacity q0 = 60 × w. The block's feed number f is pulses per minute: millimetres per minute times p."
   pub capacity : (s : Settings) → capacityAt 1 s ≡ 60 * s .clock
   pub feed : (p millimetres : ℕ) → feedNumberAt 1 p (Feed.Known millimetres 0) ≡ millimetres * p
-  -- and the F of a word without a point is the number that its digits write
+  -- and the unit 1,000 is 02 §4's: "The feed number becomes thousandths of a pulse per minute and q0 becomes 60,000 × w."
+  pub capacity-now : (s : Settings) → capacityAt feedUnit s ≡ 60000 * s .clock
+  pub feed-now : (p millimetres thousandths : ℕ)
+      → feedNumberAt feedUnit p (Feed.Known millimetres thousandths) ≡ (millimetres * 1000 + thousandths) * p
+  -- the F of a word without a point is the number that its digits write
   pub known : (f : Feed) (digits : List ℕ) → feedAfter f (oneWord false (magnitudeOf F digits [])) ≡ Feed.Known (number digits) 0
+  -- a line of such a job, read at a machine wherever its block would start, asks for the same block; what is known after it is whole again
+  pub line : (k : Reader) → WholeKnown (k .feed) → (scale : ℕ) (start : Point) (bytes : List ℕ) → NoPoint bytes
+      → (l : Line) → Means bytes l
+      → (lineBlock feedUnit k scale start l ≡ finer feedUnit (lineBlock 1 k scale start l)) × WholeKnown (readerAfter k (l .words) .feed)
   -- such a job has the same blocks from the same text lines and the same end; their feed numbers count in thousandths
   pub job : (s : Settings) (text : List ℕ) → WholeText text → (made : List Made) (end : End) → TextMeans 1 s text made end
       → TextMeans feedUnit s text (finerBlocks feedUnit made) end

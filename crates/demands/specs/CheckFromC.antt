@@ -1,5 +1,5 @@
 -- The check of a job from C. It works at a bench alone, since "Each block is loaded once the one before has ended": in 19 words of that
--- bench and in 8 words of its progress.
+-- bench and in 9 words of its progress.
 use mathlib.Core.Path.{_≡_}
 use mathlib.Core.List.{List, [], _++_}
 use Prim.Native.Nat.{ℕ}

@@ -12,7 +12,7 @@ use Rattle.circle.specs.declared.plane.Turn.{Turn}
 use Rattle.block.specs.declared.Path.{Path}
 use Rattle.queue.specs.Queue as queue
 use Rattle.settings.specs.declared.Settings.{Settings}
-use Rattle.settings.specs.Settings.{capacityOf}
+use Rattle.settings.specs.Settings.{feedUnit, capacityOf}
 use Rattle.bench.specs.declared.Bench.{Bench}
 use Rattle.machine.specs.declared.Machine.{Machine}
 use Rattle.machine.specs.declared.Answered.{Answered}
@@ -23,7 +23,7 @@ use Rattle.history.specs.Contracts.{Makes, Loads, Ticks, Runs, Holds, Releases,
 use Rattle.reader.specs.declared.Feed.{Feed}
 use Rattle.reader.specs.declared.Reader.{Reader}
 use Rattle.textline.specs.declared.ReadLine.{ReadLine}
-use Rattle.job.specs.computed.Job.{jobOf}
+use Rattle.job.specs.computed.Job.{jobAt}
 use Rattle.job.specs.Listing.{jobListing}
 use Rattle.encoding.specs.Words.{settingsOf}
 use Rattle.record.specs.Words.{encodeOf, over}
@@ -181,4 +181,4 @@ pub record EveryCallFromC : Type 0 where
       → StartsFromC κs words words′ progress progress′ p w xlo xhi ylo yhi n
       → (let s = settingsOf p w xlo xhi ylo yhi in AllYes (settingsQuestions s)
       → (text bytes : List ℕ) (last : ℤ) (ws ps : List ℤ) → RowsOutToC text (now words′) (now progress′) bytes last ws ps
-      → FrontOf (jobListing (capacityOf s) (jobOf s text)) bytes (last ≡ pos 1))
+      → FrontOf (jobListing (capacityOf s) (jobAt feedUnit s text)) bytes (last ≡ pos 1))

@@ -99,6 +99,7 @@ isBlock true false = true
 isBlock true true = false
 isBlock false stays = false
 
+-- the unit does not show in it: no feed is looked at
 abbrev pub makesBlock : (u : ℕ) → Reader → (scale : ℕ) → (start : Point) → Line → Bool
 makesBlock u k scale start l = let b = lineBlock u k scale start l in isBlock (moving (l .words)) (goesNowhere (b .end) start (b .path))
 

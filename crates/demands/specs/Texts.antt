@@ -10,7 +10,7 @@ use denote.Ref.{RefT, now}
 use contract.Lifetimes.{Lfts}
 use Rattle.plane.specs.declared.point.Point.{Point}
 use Rattle.settings.specs.declared.Settings.{Settings}
-use Rattle.settings.specs.Settings.{capacityOf}
+use Rattle.settings.specs.Settings.{feedUnit, capacityOf}
 use Rattle.bench.specs.declared.Bench.{Bench}
 use Rattle.bench.specs.Bench.{freshOf}
 use Rattle.words.specs.declared.line.Line.{Line}
@@ -22,7 +22,7 @@ use Rattle.job.specs.declared.Check.{Check}
 use Rattle.job.specs.declared.Filled.{Filled}
 use Rattle.job.specs.Text.{linesOf}
 use Rattle.job.specs.Job.{Made, End}
-use Rattle.job.specs.computed.Job.{jobAt, jobOf}
+use Rattle.job.specs.computed.Job.{jobAt}
 use Rattle.job.specs.Listing.{jobListing}
 use Rattle.job.specs.Check.{isOver}
 use Rattle.job.proofs.Check.start.Reads as start-reads
@@ -99,13 +99,13 @@ pub data RowsOut (text : List ℕ) (c : Check) : List ℕ → Check → Type 0 w
       → now lent ≡ text → FillsCheck κs d lent out out′ f → RowsOut text c (bytes ++ take (f .len) (now out′)) (f .check)
 
 pub record EveryText : Type 0 where
-  -- `jobAt` is what a text means by the unit u, and it means nothing else; `jobOf` is that by 02 §4's
+  -- `jobAt` is what a text means by the unit u, and it means nothing else
   pub means : (u : ℕ) (s : Settings) (text : List ℕ) (made : List Made) (end : End)
       → TextMeans u s text made end ↔ (jobAt u s text ≡ record { blocks = made; end = end })
-  pub counts : (s : Settings) (text : List ℕ) → EveryCounted (jobOf s text .blocks)
+  pub counts : (s : Settings) (text : List ℕ) → EveryCounted (jobAt feedUnit s text .blocks)
   -- 160 bytes hold every row
   pub fill : (κs : Lfts 2) (c : Check) (text out out′ : RefT (List ℕ)) (f : Filled) → FillsCheck κs c text out out′ f
       → Filling 160 (now out) (now out′) (f .len) (isOver (f .check))
   -- "The check program": whoever fills a check that began at a fresh machine gets the listing of this job, to the byte
   pub listing : (s : Settings) → AllYes (settingsQuestions s) → (c : Check) → Starts (freshOf s) c → (text bytes : List ℕ) (d : Check)
-      → RowsOut text c bytes d → FrontOf (jobListing (capacityOf s) (jobOf s text)) bytes (TellsOver d true)
+      → RowsOut text c bytes d → FrontOf (jobListing (capacityOf s) (jobAt feedUnit s text)) bytes (TellsOver d true)

@@ -11,7 +11,7 @@ use Rattle.plane.specs.Byte.{cyclesMarked}
 use Rattle.block.specs.Block.{blockWidth}
 use Rattle.work.specs.declared.Work.{Work}
 use Rattle.settings.specs.declared.Settings.{Settings}
-use Rattle.settings.specs.Settings.{capacityOf}
+use Rattle.settings.specs.Settings.{feedUnit, capacityOf}
 use Rattle.bench.specs.declared.Bench.{Bench}
 use Rattle.bench.specs.declared.Answer.{Answer}
 use Rattle.bench.specs.Bench.{freshOf as freshBench}
@@ -20,7 +20,7 @@ use Rattle.machine.specs.declared.Answered.{Answered}
 use Rattle.machine.specs.Machine.{freshOf}
 use Rattle.history.specs.Contracts.{Loads}
 use Rattle.job.specs.Job.{Made}
-use Rattle.job.specs.computed.Job.{jobOf}
+use Rattle.job.specs.computed.Job.{jobAt}
 use Rattle.job.specs.Listing.{allCycles, allTicks}
 use Rattle.stream.specs.declared.Stream.{Stream}
 use Rattle.stream.specs.declared.Filled.{Filled}
@@ -42,10 +42,10 @@ pub data BlocksTick : Machine → List Made → List ℕ → Type 0 where
 
 -- the tick bytes of a text's job
 pub record JobBytes (s : Settings) (text bytes : List ℕ) : Type 0 where
-  pub blocks : BlocksTick (freshOf s) (jobOf s text .blocks) bytes
+  pub blocks : BlocksTick (freshOf s) (jobAt feedUnit s text .blocks) bytes
   -- "the last line gives blocks, cycles and ticks": there are as many, and they mark as many cycles
-  pub ticks : length bytes ≡ allTicks (capacityOf s) 0 (jobOf s text .blocks)
-  pub cycles : cyclesMarked bytes ≡ allCycles (jobOf s text .blocks)
+  pub ticks : length bytes ≡ allTicks (capacityOf s) 0 (jobAt feedUnit s text .blocks)
+  pub cycles : cyclesMarked bytes ≡ allCycles (jobAt feedUnit s text .blocks)
 
 -- ---- as they are handed out
 

@@ -1,8 +1,8 @@
 // Reads a number of ticks, the first line of standard input, and a job after it, and tells where the job stands after them. Settings, as
 // for the check program: 50 pulses per millimetre, 5,000 ticks per second, the widest travel. The answer is a line of 16 numbers, which
-// `specs/computed/Row.antt` names. `1 1 1 720 2225 5 11 0 1 0 0 1000 2000 5000 2237 12`: block 1, of line 1, is in work after 720 of its
-// ticks, with 2,225 cycles left, at X 5 Y 11, remainder 0; it is a line from (0, 0) to (1000, 2000), f 5,000, and 12 of its 2,237 cycles
-// are done.
+// `specs/computed/Row.antt` names. `1 1 1 720 2225 5 11 0 1 0 0 1000 2000 5000000 2237 12`: block 1, of line 1, is in work after 720 of
+// its ticks, with 2,225 cycles left, at X 5 Y 11, remainder 0; it is a line from (0, 0) to (1000, 2000), f 5,000,000, and 12 of its 2,237
+// cycles are done.
 ghost use mathlib.Core.Path.{_≡_};
 ghost use Rattle.settings.specs.Settings.{standardSettings};
 ghost use Rattle.seek.specs.computed.Seek.{seekOf};

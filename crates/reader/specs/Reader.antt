@@ -1,4 +1,5 @@
 -- 01, Questions, "Job text": what a line of words asks of the machine.
+use mathlib.Core.Path.{_≡_}
 use mathlib.Core.Bool.{Bool, true, false, cond, _||_}
 use Prim.Native.Nat.{ℕ, _+_, _*_, _/_, _%_}
 use lib.Dec.{eqb}
@@ -36,6 +37,11 @@ feedAfter f w = cond (w .stands) (Feed.Known (w .magnitude / 1000) (w .magnitude
 
 abbrev pub readerAfter : Reader → Words → Reader
 readerAfter k ws = record { motion = motionAfter (k .motion) (ws .g); feed = feedAfter (k .feed) (ws .f) }
+
+-- 02 §4: an F from a word without a point, or none known
+abbrev pub WholeKnown : Feed → Type 0
+WholeKnown Feed.Unknown = Unit {0}
+WholeKnown (Feed.Known millimetres thousandths) = thousandths ≡ 0
 
 -- ---- what the questions ask about
 

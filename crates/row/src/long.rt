@@ -1,6 +1,5 @@
-// A count that may pass 64 bits. With feeds of a thousandth of a millimetre per minute the ticks of a job can: some thousand full turns of
-// the largest radius are more than 2^64 of them. It is kept in two parts, cut where a decimal can be, so that it is printed without a long
-// division.
+// A count that may pass 64 bits. At p 1 and w 20,000 the ticks of a job can: 2,320 full turns of radius 1,000,000 at F0.001 are more than
+// 2^64 of them. It is kept in two parts, cut where a decimal can be, so that it is printed without a long division.
 ghost use mathlib.Core.Path.{_≡_};
 ghost use Prim.Native.Nat.{_+_, _^_, _<_};
 ghost use Rattle.row.specs.computed.Long.{lowLimit, noneCounted, plusOf};

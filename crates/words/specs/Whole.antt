@@ -5,7 +5,7 @@ use Prim.Native.Nat.{ℕ}
 use Rattle.letters.specs.declared.letter.Letter.the-variants.{F}
 use Rattle.words.specs.Grammar.{Item, blank, word, LineOfWords}
 
--- with no digits after it there is no point. 01's grammar is this one with such F words alone: "N, G or F with 1 to 7 digits"
+-- a word without decimals has no point. 01's grammar is this one with such F words alone: "N, G or F with 1 to 7 digits"
 abbrev pub WholeFeed : Item → Type 0
 WholeFeed blank = Unit
 WholeFeed (word letter sign whole decimals) = letter ≡ F → decimals ≡ []

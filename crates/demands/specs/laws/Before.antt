@@ -7,10 +7,17 @@ use native.Mathlib.Omega.{arith}
 use lib.Dec.{leb}
 use lib.IntN.{pos}
 use lib.ListN.{length, drop}
+use Rattle.plane.specs.declared.point.Point.{Point}
 use Rattle.plane.specs.declared.travel.Travel.{Travel}
 use Rattle.block.specs.declared.Block.{Block}
 use Rattle.block.specs.Feed.{finer}
-use Rattle.words.specs.Meaning.{number}
+use Rattle.words.specs.declared.line.Line.{Line}
+use Rattle.words.specs.Meaning.{number, Means}
+use Rattle.words.specs.Whole.{NoPoint}
+use Rattle.words.specs.computed.Meaning.{meaningOf}
+use Rattle.words.specs.laws.Meaning.{meaning-means}
+use Rattle.words.specs.laws.Reading.{means-unique}
+use Rattle.words.specs.laws.Whole.{line-thousands}
 use Rattle.settings.specs.declared.Settings.{Settings}
 use Rattle.settings.specs.Settings.{feedUnit, capacityAt, capacityOf}
 use Rattle.settings.specs.computed.Settings.{settingsNo}
@@ -31,8 +38,8 @@ use Rattle.machine.specs.laws.Alone.{alone, load-alone}
 use Rattle.reader.specs.declared.Reader.{Reader}
 use Rattle.reader.specs.declared.«text_line».ReadLine.{ReadLine}
 use Rattle.reader.specs.computed.Reader.{longestText}
-use Rattle.reader.specs.Reader.{unknown}
-use Rattle.reader.specs.laws.Feed.{feed-01}
+use Rattle.reader.specs.Reader.{WholeKnown, unknown, readerAfter}
+use Rattle.reader.specs.laws.Feed.{feed-01, feed-fine, reader-whole, block-finer}
 use Rattle.book.specs.Book.{Book, Call, Reply, freshBook, replies, closing}
 use Rattle.book.specs.Sums.{tickBytes}
 use Rattle.book.specs.Unit.{finerCall, finerCalls}
@@ -58,6 +65,7 @@ use Rattle.job.specs.laws.Unit.{capacity-times, job-finer, listing-finer}
 use Rattle.stream.specs.computed.Stream.{runThen, isRefused, bytesFrom, tickBytesOf}
 use Rattle.stream.specs.laws.Pieces.{still-idle, nothing-left}
 use Rattle.demands.specs.Before.{jobCalls, bytesTold, bookBytes, AsBefore, EveryWholeFeed}
+use Rattle.demands.specs.Questions.{lineBlock}
 use Rattle.demands.specs.Runs.{TicksTo}
 use Rattle.demands.specs.Texts.{TextMeans, FrontOf, TellsOver}
 use Rattle.demands.specs.laws.Bench.{settings-pass}
@@ -254,13 +262,24 @@ as-before s cs d =
 digits-known : (n : ℕ) → ((n * 1000 + 0) / 1000 ≡ n) × ((n * 1000 + 0) % 1000 ≡ 0)
 digits-known n = (omega arith, omega arith)
 
+line-same : (k : Reader) → WholeKnown (k .feed) → (scale : ℕ) (start : Point) (bytes : List ℕ) → NoPoint bytes
+    → (l : Line) → Means bytes l
+    → (lineBlock feedUnit k scale start l ≡ finer feedUnit (lineBlock 1 k scale start l)) × WholeKnown (readerAfter k (l .words) .feed)
+line-same k known scale start bytes whole l means =
+    let is = means-unique bytes (meaningOf bytes) l (meaning-means bytes) means in
+    let after = reader-whole k (l .words) known (ap (λ (m : Line). m .words .f .magnitude % 1000) (sym is) ∙ line-thousands bytes whole) in
+    (block-finer feedUnit scale (readerAfter k (l .words)) (l .words) start after, after)
+
 pub every-whole-feed : EveryWholeFeed
 unfolding listingAt
 every-whole-feed =
     record {
       capacity = λ s. omega arith;
       feed = feed-01;
+      capacity-now = λ s. refl;
+      feed-now = feed-fine;
       known = λ f digits. rw (digits-known (number digits) .0, digits-known (number digits) .1);
+      line = line-same;
       job = λ s text whole made end means.
           every-text .means feedUnit s text (finerBlocks feedUnit made) end .1 (after s text whole means);
       listing = λ s pass text whole made end means c e bytes d rows.

@@ -58,7 +58,7 @@ use Rattle.calls.specs.laws.Load.{own-words}
 use Rattle.progress.specs.declared.known.DecodedKnown.{DecodedKnown}
 use Rattle.progress.specs.Known.{encodeKnown, feedRead, readerOf}
 use Rattle.progress.specs.computed.Known.{knownIn, decodeKnown}
-use Rattle.progress.specs.laws.Inverse.{FeedFits, known-decode}
+use Rattle.progress.specs.laws.Inverse.{known-decode}
 use Rattle.cmachine.specs.computed.Looks.{ToldAhead, tellsAhead, ticksOf, toldAheadOf}
 use Rattle.cmachine.specs.Looks.{sumWords, noSums}
 use Rattle.cmachine.specs.Texts.{readNumber}
@@ -76,6 +76,7 @@ use Rattle.demands.specs.laws.Answers.{load-answers, tick-answers, run-a
 use Rattle.demands.specs.laws.TextLine.{line-answers, line-taken}
 use Rattle.demands.specs.laws.Carried.{carries-sound, carries-it, carried, carries-told, unsound-words}
 use Rattle.demands.specs.laws.Carried.{run-blanks}
+use Rattle.job.specs.computed.Check.{FeedSmall}
 use Rattle.job.specs.computed.Listing.{listingAt}
 use Rattle.demands.specs.laws.CheckFromC.{started, from-words, check-fills, no-check-fills}
 
@@ -350,7 +351,7 @@ known-words ks t = same-true ks (encodeKnown (readerOf (knownIn ks))) t
 known-told : (ks : List ℤ) (k : Reader) → FeedWritten (k .feed) → ks ≡ encodeKnown k → decodeKnown ks ≡ record { ok = true; reader = k }
 known-told ks k f e = ap decodeKnown e ∙ known-decode k (fits (k .feed) f)
   where
-    fits : (f : Feed) → FeedWritten f → FeedFits f
+    fits : (f : Feed) → FeedWritten f → FeedSmall f
     fits Feed.Unknown h = h
     fits (Feed.Known m t) h = h
 

@@ -78,6 +78,5 @@ jobAt u s text =
 abbrev pub jobFrom : Settings → (textLine : ℕ) (at : Point) (known : Reader) → (lines : List (List ℕ)) → Job
 jobFrom s n at k ls = jobFromAt feedUnit s n at k ls
 
--- Tied: `means` of `EveryText`.
 abbrev pub jobOf : Settings → (text : List ℕ) → Job
 jobOf s text = jobAt feedUnit s text

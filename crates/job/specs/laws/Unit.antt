@@ -22,8 +22,8 @@ use Rattle.words.specs.computed.Meaning.{meaningOf}
 use Rattle.words.specs.laws.Whole.{line-thousands}
 use Rattle.reader.specs.declared.Reader.{Reader}
 use Rattle.reader.specs.computed.Reader.{longestText, lineNo}
-use Rattle.reader.specs.Reader.{unknown, readerAfter, moving, goesNowhere, blockAt}
-use Rattle.reader.specs.laws.Feed.{WholeKnown, reader-whole, block-finer}
+use Rattle.reader.specs.Reader.{WholeKnown, unknown, readerAfter, moving, goesNowhere, blockAt}
+use Rattle.reader.specs.laws.Feed.{reader-whole, block-finer}
 use Rattle.job.specs.Text.{linesOf}
 use Rattle.job.specs.Job.{Made, End, Job}
 use Rattle.job.specs.Listing.{madeLine, rows, allCycles, madeTicks, madeLeaves, allTicks, lastLine, jobListing}
@@ -43,10 +43,10 @@ finerJob u j = record { blocks = finerBlocks u (j .blocks); end = j .end }
 -- ---- the blocks
 
 -- F stays in whole millimetres from line to line
-abbrev Known : Asks → Type 0
-Known (Asks.nothing k) = WholeKnown (k .feed)
-Known (Asks.makes k b) = WholeKnown (k .feed)
-Known (Asks.refuses n) = Unit {0}
+abbrev WholeAfter : Asks → Type 0
+WholeAfter (Asks.nothing k) = WholeKnown (k .feed)
+WholeAfter (Asks.makes k b) = WholeKnown (k .feed)
+WholeAfter (Asks.refuses n) = Unit {0}
 
 pub capacity-times : (u : ℕ) (s : Settings) → capacityAt u s ≡ u * capacityAt 1 s
 capacity-times u s = omega arith
@@ -86,11 +86,11 @@ module _ (u : ℕ) (some : 1 ≤ u) (s : Settings) where
       words-ask at k′ (l .words) (lineNo (s .scale) k′ (length line) l) (reader-whole k (l .words) known (line-thousands line whole))
 
   -- the F known after a line
-  load-known : (k : Reader) (b : Block) (number : ℕ) → WholeKnown (k .feed) → Known (loadAsks k b number)
+  load-known : (k : Reader) (b : Block) (number : ℕ) → WholeKnown (k .feed) → WholeAfter (loadAsks k b number)
   load-known k b zero known = known
   load-known k b (suc n) known = tt
 
-  words-known : (at : Point) (k : Reader) (ws : Words) (number : ℕ) → WholeKnown (k .feed) → Known (wordsAsk 1 s at k ws number)
+  words-known : (at : Point) (k : Reader) (ws : Words) (number : ℕ) → WholeKnown (k .feed) → WholeAfter (wordsAsk 1 s at k ws number)
   words-known at k ws zero known = by (moving ws) (goesNowhere (b .end) at (b .path))
     where
       b : Block
@@ -99,13 +99,13 @@ module _ (u : ℕ) (some : 1 ≤ u) (s : Settings) where
       number : ℕ
       number = loadNo (capacityAt 1 s) (s .travel) true at b
 
-      by : (moves stays : Bool) → Known (cond moves (cond stays (Asks.nothing k) (loadAsks k b number)) (Asks.nothing k))
+      by : (moves stays : Bool) → WholeAfter (cond moves (cond stays (Asks.nothing k) (loadAsks k b number)) (Asks.nothing k))
       by true true = known
       by true false = load-known k b number known
       by false stays = known
   words-known at k ws (suc n) known = tt
 
-  line-known : (at : Point) (k : Reader) (line : List ℕ) → WholeKnown (k .feed) → NoPoint line → Known (lineAsks 1 s at k line)
+  line-known : (at : Point) (k : Reader) (line : List ℕ) → WholeKnown (k .feed) → NoPoint line → WholeAfter (lineAsks 1 s at k line)
   unfolding lineAsks
   line-known at k line known whole =
       let l = meaningOf line in
@@ -116,7 +116,7 @@ module _ (u : ℕ) (some : 1 ≤ u) (s : Settings) where
   abbrev Finer : (n : ℕ) (lines : List (List ℕ)) → Type 0
   Finer n ls = (at : Point) (k : Reader) → WholeKnown (k .feed) → jobFromAt u s n at k ls ≡ finerJob u (jobFromAt 1 s n at k ls)
 
-  read-on : (n : ℕ) (at : Point) (ls : List (List ℕ)) → Finer (n + 1) ls → (a : Asks) → Known a
+  read-on : (n : ℕ) (at : Point) (ls : List (List ℕ)) → Finer (n + 1) ls → (a : Asks) → WholeAfter a
       → readOn n at (finerAsks u a) (λ at′ k′. jobFromAt u s (n + 1) at′ k′ ls)
       ≡ finerJob u (readOn n at a (λ at′ k′. jobFromAt 1 s (n + 1) at′ k′ ls))
   read-on n at ls rest (Asks.nothing k) known = rest at k known

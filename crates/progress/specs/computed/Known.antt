@@ -10,7 +10,7 @@ use Rattle.progress.specs.Known.{encodeKnown, readerOf}
 abbrev pub knownIn : List ℤ → Known
 knownIn ws = record { motion = at ws 0; feed = at ws 1 }
 
--- Words tell what is known if they are those of what they tell. So a G above 3 and an F that is neither -1
--- nor below 10^10 tell nothing.
+-- Words tell what is known if they are those of what they tell. So a G above 3 and an F that is neither -1 nor one of 0 to 10^10 - 1 tell
+-- nothing.
 unfoldable pub decodeKnown : List ℤ → DecodedKnown
 decodeKnown ws = let k = readerOf (knownIn ws) in record { ok = sameWords ws (encodeKnown k); reader = k }

@@ -22,15 +22,11 @@ use Rattle.progress.specs.computed.Known.{decodeKnown}
 use Rattle.progress.specs.Progress.{stageWord, encodeProgress, stageOf, checkIn}
 use Rattle.progress.specs.computed.Progress.{decodeProgress}
 
-abbrev pub FeedFits : Feed → Type 0
-FeedFits Feed.Unknown = Unit {0}
-FeedFits (Feed.Known millimetres thousandths) = (millimetres < 10 ^ 7) × (thousandths < 1000)
-
 -- a check whose numbers are words
 pub record Fits (c : Check) : Type 0 where
   pub sound : soundOf (c .tally .bench) ≡ true
   pub at : c .at < 2 ^ 63
-  pub feed : FeedFits (c .tally .reader .feed)
+  pub feed : FeedSmall (c .tally .reader .feed)
   pub lines : c .tally .lines < 2 ^ 63
   pub blocks : c .tally .blocks < 2 ^ 63
   pub cycles : c .tally .cycles < 2 ^ 63
@@ -48,7 +44,7 @@ motion-back Motion.Line = refl
 motion-back (Motion.Arc Turn.Clockwise) = refl
 motion-back (Motion.Arc Turn.Counterclockwise) = refl
 
-feed-back : (f : Feed) → FeedFits f → feedRead (feedWord f) ≡ f
+feed-back : (f : Feed) → FeedSmall f → feedRead (feedWord f) ≡ f
 feed-back Feed.Unknown h = refl
 feed-back (Feed.Known m t) h =
     let f = m * 1000 + t in
@@ -58,7 +54,7 @@ feed-back (Feed.Known m t) h =
 
 -- ---- what is known
 
-pub known-decode : (k : Reader) → FeedFits (k .feed) → decodeKnown (encodeKnown k) ≡ record { ok = true; reader = k }
+pub known-decode : (k : Reader) → FeedSmall (k .feed) → decodeKnown (encodeKnown k) ≡ record { ok = true; reader = k }
 unfolding decodeKnown encodeKnown
 known-decode k h = rw (motion-back (k .motion), feed-back (k .feed) h, same-self (encodeKnown k))
 
@@ -87,16 +83,12 @@ progress-decode c f = rw (check-back c f, same-self (encodeProgress c))
 abbrev pub ReachedCheck : Check → Type 0
 ReachedCheck c = Reached (c .at) (c .tally)
 
-feed-fits : (f : Feed) → FeedSmall f → FeedFits f
-feed-fits Feed.Unknown h = tt
-feed-fits (Feed.Known m t) h = h
-
 pub reached-fits : (c : Check) → ReachedCheck c → Fits c
 reached-fits c r =
     record {
       sound = r .sound;
       at = omega (arith, r .near);
-      feed = feed-fits (c .tally .reader .feed) (r .feed);
+      feed = r .feed;
       lines = omega (arith, r .lines);
       blocks = omega (arith, r .lines, r .blocks);
       cycles = omega (arith, r .lines, r .cycles);

@@ -11,7 +11,7 @@ use Rattle.letters.specs.declared.word.Words.{Words}
 use Rattle.settings.specs.Settings.{feedUnit}
 use Rattle.reader.specs.declared.Feed.{Feed}
 use Rattle.reader.specs.declared.Reader.{Reader}
-use Rattle.reader.specs.Reader.{feedAfter, feedNumberAt, readerAfter, blockAt}
+use Rattle.reader.specs.Reader.{WholeKnown, feedAfter, feedNumberAt, readerAfter, blockAt}
 
 by-thousand : (n : ℕ) → 1000 * n / 1000 ≡ n
 by-thousand n = mul-div-cancel-left n {n = 1000} (omega arith)
@@ -25,10 +25,6 @@ feed-fine p m t =
     rw turned (by-thousand n)
 
 -- ---- whole millimetres, as 01 had them
-
-abbrev pub WholeKnown : Feed → Type 0
-WholeKnown Feed.Unknown = Unit {0}
-WholeKnown (Feed.Known millimetres thousandths) = thousandths ≡ 0
 
 whole-after : (f : Feed) (w : Word) → WholeKnown f → w .magnitude % 1000 ≡ 0 → WholeKnown (feedAfter f w)
 whole-after f w h t = by (w .stands)
