@@ -3,8 +3,8 @@
 // get 9 and stay as they are.
 ghost use mathlib.Core.Path.{_≡_};
 ghost use Rattle.encoding.specs.Words.{settingsOf};
-ghost use Rattle.calls.specs.computed.Calls.{tells};
-ghost use Rattle.ccheck.specs.computed.Check.{benchMade, startProgress, TellsFill};
+ghost use Rattle.calls.specs.computed.Calls.{tells, benchMade};
+ghost use Rattle.ccheck.specs.computed.Check.{startProgress, TellsFill};
 use bench::Bench;
 use calls::answer::answer_number;
 use encoding::decode::bench_read;

@@ -1,5 +1,5 @@
-// A text from a descriptor: all of it, or that it could not be read. `io::read_full` does not tell a failed read from the end of the input,
-// and a job that was cut off must not pass for a whole one.
+// A text from a descriptor: all of it or the next bytes, or that it could not be read. `io::read_full` does not tell a failed read from the
+// end of the input, and a job that was cut off must not pass for a whole one.
 ghost use Rattle.input.specs.computed.Input.{Read, CountFits};
 use libc::EINTR;
 
@@ -16,8 +16,8 @@ enum Once {
     Failed,
 }
 
-// A read that was interrupted is tried again, this often in all. The programs handle no signal, so none is expected; the bound is there
-// because a proved loop has to end.
+// A read that was interrupted is tried again, this often. The programs handle no signal, so none is expected; the bound is there because a
+// proved loop has to end.
 const INTERRUPTIONS: usize = 1000;
 
 // Reads until the buffer is full or the input ends. Where a read fails, as errno then says, the bytes before it count for nothing.
@@ -25,18 +25,11 @@ pub fn read(fd: i32, buf: &mut [u8]) -> Input
     ensures { λ r. ⌜ CountFits r (now (buf .exit)) ⌝ }
 {
     let mut done = 0;
-    let mut left = INTERRUPTIONS;
     while done < buf.len() {
-        let once = read_once(fd, &mut buf[done..]);
-        match once {
-            Once::Failed => return Input::Failed,
-            Once::Interrupted => {
-                if left == 0 {
-                    return Input::Failed;
-                }
-                left -= 1;
-            }
-            Once::Bytes(more) => {
+        let some = read_some(fd, &mut buf[done..]);
+        match some {
+            Input::Failed => return Input::Failed,
+            Input::Bytes(more) => {
                 if more == 0 {
                     return Input::Bytes(done);
                 }
@@ -45,6 +38,22 @@ pub fn read(fd: i32, buf: &mut [u8]) -> Input
         }
     }
     Input::Bytes(done)
+}
+
+// The next bytes, as many as there are and the buffer holds; 0 at the end of the input.
+pub fn read_some(fd: i32, buf: &mut [u8]) -> Input
+    ensures { λ r. ⌜ CountFits r (now (buf .exit)) ⌝ }
+{
+    let mut left = INTERRUPTIONS;
+    while 0 < left {
+        let once = read_once(fd, buf);
+        match once {
+            Once::Failed => return Input::Failed,
+            Once::Interrupted => left -= 1,
+            Once::Bytes(more) => return Input::Bytes(more),
+        }
+    }
+    Input::Failed
 }
 
 fn read_once(fd: i32, buf: &mut [u8]) -> Once

@@ -10,7 +10,6 @@ use reader::LONGEST_TEXT;
 use row::lines::has_room;
 use tally::Tally;
 use tally::next_place;
-use work::Work;
 
 // What comes next: the header, the row of the next text line, or nothing any more.
 pub enum Stage {
@@ -133,37 +132,17 @@ impl Check {
         }
     }
 
-    // The same check. Between lines nothing is in work: where that is so it is written anew, so that the compiler sees it and carries no
-    // work from line to line, nor copies a record with room for one.
+    // The same check, as the tally says.
     fn settled(self) -> Check
         ensures { λ r. ⌜ r ≡ self ⌝ }
     {
         let stage = self.stage;
         let tally = self.tally;
-        let reader = tally.reader;
-        let bench = tally.bench;
-        let ticks = tally.ticks;
-        let point = bench.at;
-        let work = bench.work;
-        match work {
-            Work::Nothing => {
-                let idle = bench.moved(point, bench.remainder, Work::Nothing);
-                let same = Tally {
-                    reader: reader,
-                    bench: idle,
-                    lines: tally.lines,
-                    blocks: tally.blocks,
-                    cycles: tally.cycles,
-                    ticks: ticks,
-                };
-                Check {
-                    stage: stage,
-                    at: self.at,
-                    tally: same,
-                }
-            }
-            Work::Line(_) => self,
-            Work::Arc(_) => self,
+        let same = tally.settled();
+        Check {
+            stage: stage,
+            at: self.at,
+            tally: same,
         }
     }
 

@@ -14,7 +14,7 @@ pub use command::motion_of;
 pub const LONGEST_TEXT: usize = 65_536;
 
 // Bytes without the LF; question 31.
-const LONGEST_LINE: u64 = 80;
+pub const LONGEST_LINE: u64 = 80;
 
 // The G and the F that are known.
 pub enum Motion {

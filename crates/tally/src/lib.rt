@@ -226,6 +226,33 @@ impl Tally {
         }
     }
 
+    // The same tally. Between lines nothing is in work: where that is so it is written anew, so that the compiler sees it and carries no
+    // work from line to line, nor copies a record with room for one.
+    pub fn settled(self) -> Tally
+        ensures { λ r. ⌜ r ≡ self ⌝ }
+    {
+        let reader = self.reader;
+        let bench = self.bench;
+        let ticks = self.ticks;
+        let point = bench.at;
+        let work = bench.work;
+        match work {
+            Work::Nothing => {
+                let idle = bench.moved(point, bench.remainder, Work::Nothing);
+                Tally {
+                    reader: reader,
+                    bench: idle,
+                    lines: self.lines,
+                    blocks: self.blocks,
+                    cycles: self.cycles,
+                    ticks: ticks,
+                }
+            }
+            Work::Line(_) => self,
+            Work::Arc(_) => self,
+        }
+    }
+
     // The last row of a job that was read to its end.
     pub fn total(self, out: &mut [u8], at: usize) -> Place
         ensures buffer { λ r. ⌜ now (out .exit) ≡ bufferAfter (totalOf self) (now (out .entry)) at ⌝ }

@@ -6,11 +6,13 @@ use lib.IntN.{ℤ, negsuc}
 use lib.ListN.{length}
 use Rattle.run.specs.computed.Run.{written}
 use Rattle.settings.specs.declared.Settings.{Settings}
+use Rattle.bench.specs.computed.Calls.{makeOf as benchMake}
 use Rattle.machine.specs.declared.Machine.{Machine}
 use Rattle.machine.specs.declared.Answered.{Answered}
 use Rattle.machine.specs.declared.Ticked.{Ticked}
 use Rattle.machine.specs.computed.Calls.{makeOf, loadOf, tickOf, holdOf, releaseOf, stopOf}
 use Rattle.machine.specs.computed.Run.{Run, runOf}
+use Rattle.encoding.specs.Words.{encodeOf as benchWords}
 use Rattle.record.specs.Words.{encodeOf, over}
 use Rattle.record.specs.computed.Words.{machineIn, soundWords}
 use Rattle.calls.specs.Calls.{answerNumber, tickNumber, reportNumber, WordCall}
@@ -55,6 +57,10 @@ toldOf ws call = cond (soundWords ws) (callOf ws (machineIn ws) call) (refused w
 -- whatever the words were
 unfoldable pub madeOf : List ℤ → Settings → Told
 madeOf ws s = toldAnswer ws (makeOf s)
+
+-- where a check begins: settings are answered as by a make, and the words are those of its fresh bench
+abbrev pub benchMade : Settings → Told
+benchMade s = tells (answerNumber (benchMake s .answer)) (benchWords (benchMake s .bench))
 
 -- ---- run
 

@@ -14,15 +14,9 @@ use Rattle.encoding.specs.computed.Words.{benchRead, soundWords}
 use Rattle.progress.specs.declared.progress.DecodedProgress.{DecodedProgress}
 use Rattle.progress.specs.Progress.{encodeProgress}
 use Rattle.progress.specs.computed.Progress.{decodeProgress}
-use Rattle.calls.specs.Calls.{answerNumber}
-use Rattle.calls.specs.computed.Calls.{Told, tells}
 use Rattle.ccheck.specs.Check.{Refuses}
 
--- settings are answered as by a make, and the words are those of its fresh bench
-abbrev pub benchMade : Settings → Told
-benchMade s = tells (answerNumber (makeOf s .answer)) (encodeOf (makeOf s .bench))
-
--- the progress of a check that begins there
+-- the progress of a check that begins at the bench that a make answers
 abbrev pub startProgress : Settings → List ℤ
 startProgress s = encodeProgress (checkFrom (makeOf s .bench))
 

@@ -1,20 +1,17 @@
 -- What a start's words have to hand out is the listing, whatever the text; and a caller may hand the words that a start or a fill wrote
 -- to the next fill.
-use mathlib.Core.Path.{_≡_, refl, sym, ap, subst}
+use mathlib.Core.Path.{_≡_, sym, ap, subst}
 use mathlib.Core.Bool.{true}
 use mathlib.Core.List.{List}
-use Prim.Native.Nat.{ℕ, zero, suc}
+use Prim.Native.Nat.{ℕ}
 use lib.IntN.{ℤ}
 use Rattle.settings.specs.declared.Settings.{Settings}
 use Rattle.settings.specs.computed.Settings.{settingsNo}
-use Rattle.settings.specs.Settings.{standardSettings}
-use Rattle.bench.specs.computed.Calls.{makeWith, makeOf}
-use Rattle.settings.specs.laws.Right.{standard-passes}
-use Rattle.finish.specs.laws.Record.{AtRest}
+use Rattle.bench.specs.computed.Calls.{makeOf}
 use Rattle.tally.specs.computed.Tally.{tallyFrom as tallyStart}
 use Rattle.job.specs.declared.Check.{Check}
 use Rattle.job.specs.computed.Check.{checkFrom, Lists}
-use Rattle.job.specs.laws.Listing.{fresh-rests, listing-is}
+use Rattle.job.specs.laws.Listing.{made-rests, listing-is}
 use Rattle.job.specs.laws.Reached.{start-reached as rests-reached}
 use Rattle.encoding.specs.Words.{encodeOf}
 use Rattle.encoding.specs.laws.Record.{machine-back, sound-words}
@@ -44,17 +41,9 @@ reached-told c r =
     }
 
 module _ (s : Settings) where
-  made-rests : AtRest (makeOf s .bench)
-  unfolding makeOf
-  made-rests = by (settingsNo s) refl
-    where
-      by : (n : ℕ) → settingsNo s ≡ n → AtRest (makeWith s n .bench)
-      by zero e = fresh-rests s e
-      by (suc n) e = fresh-rests standardSettings standard-passes
-
   start-reached : ReachedCheck (checkFrom (makeOf s .bench))
   unfolding checkFrom
-  start-reached = rests-reached made-rests
+  start-reached = rests-reached (made-rests s)
 
   pub start-told : Told (encodeOf (makeOf s .bench)) (startProgress s) (checkFrom (makeOf s .bench))
   unfolding checkFrom tallyStart

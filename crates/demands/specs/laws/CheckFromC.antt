@@ -26,8 +26,8 @@ use Rattle.encoding.specs.laws.Record.{machine-back, words-are, told-sound, sou
 use Rattle.progress.specs.Progress.{encodeProgress, checkIn}
 use Rattle.progress.specs.computed.Progress.{decodeProgress}
 use Rattle.calls.specs.Calls.{answerNumber}
-use Rattle.calls.specs.computed.Calls.{Told, tells}
-use Rattle.ccheck.specs.computed.Check.{benchMade, startProgress, checkTold, isCheck, Hands, TellsFill}
+use Rattle.calls.specs.computed.Calls.{Told, tells, benchMade}
+use Rattle.ccheck.specs.computed.Check.{startProgress, checkTold, isCheck, Hands, TellsFill}
 use Rattle.ccheck.specs.Check.{Refuses}
 use Rattle.ccheck.specs.laws.Check.{rows-told, refused-told}
 use Rattle.ccheck.specs.laws.Start.{Told as CheckTold, start-told, start-lists, hands, fill-told}
@@ -106,7 +106,7 @@ from-start s pass text bytes n ws ps rows =
     record { rest = restOf (k .check) text; front = k .front ∙ start-lists s (settings-pass s .1 pass) text; all = k .ended }
 
 -- the bench of the machine that a make answers
-made-bench : (s : Settings) → (makeOf s .answer ≡ machineMake s .answer) × (makeOf s .bench ≡ machineMake s .machine .bench)
+pub made-bench : (s : Settings) → (makeOf s .answer ≡ machineMake s .answer) × (makeOf s .bench ≡ machineMake s .machine .bench)
 unfolding makeOf machineMake machineOf
 made-bench s = by (settingsNo s)
   where

@@ -119,7 +119,7 @@ module _ (u : ℕ) (s : Settings) (n : ℕ) (at : Point) (k : Reader) (bytes : L
   line-means-job rest l means _ (Says.makes y e) =
       LinesMean.block l means y e (rest (lineBlock u k (s .scale) at l .end) (readerAfter k (l .words)))
 
-lines-mean : (u : ℕ) (s : Settings) (n : ℕ) (at : Point) (k : Reader) (lines : List (List ℕ))
+pub lines-mean : (u : ℕ) (s : Settings) (n : ℕ) (at : Point) (k : Reader) (lines : List (List ℕ))
     → (let j = jobFromAt u s n at k lines in LinesMean u s n at k lines (j .blocks) (j .end))
 unfolding jobFromAt
 lines-mean u s n at k [] = LinesMean.over
@@ -129,7 +129,7 @@ lines-mean u s n at k (bytes ∷ lines) =
     (line-says u s at k bytes (meaningOf bytes) (meaning-means bytes))
 
 -- no other job
-lines-once : (u : ℕ) (s : Settings) {n : ℕ} {at : Point} {k : Reader} {lines : List (List ℕ)} {made : List Made} {end : End}
+pub lines-once : (u : ℕ) (s : Settings) {n : ℕ} {at : Point} {k : Reader} {lines : List (List ℕ)} {made : List Made} {end : End}
     → LinesMean u s n at k lines made end
     → jobFromAt u s n at k lines ≡ record { blocks = made; end = end }
 unfolding jobFromAt
@@ -142,7 +142,7 @@ lines-once u s {at = at} {k = k} (LinesMean.block {bytes = bytes} l means y e la
     rw (says-once u s at k bytes l (line-says u s at k bytes l means) (Says.makes y e), lines-once u s later)
 
 module _ (u : ℕ) (s : Settings) (text : List ℕ) where
-  text-means : (let j = jobAt u s text in TextMeans u s text (j .blocks) (j .end))
+  pub text-means : (let j = jobAt u s text in TextMeans u s text (j .blocks) (j .end))
   unfolding jobAt
   text-means = by (leb (length text) longestText) refl
     where
@@ -154,7 +154,7 @@ module _ (u : ℕ) (s : Settings) (text : List ℕ) where
           (lines-mean u s 1 (record { x = pos 0; y = pos 0 }) unknown (linesOf text))
       by false e = TextMeans.long (leb-false (length text) longestText e)
 
-  text-once : {made : List Made} {end : End} → TextMeans u s text made end → jobAt u s text ≡ record { blocks = made; end = end }
+  pub text-once : {made : List Made} {end : End} → TextMeans u s text made end → jobAt u s text ≡ record { blocks = made; end = end }
   unfolding jobAt
   text-once (TextMeans.long h) = rw (lt-leb (length text) longestText h)
   text-once (TextMeans.read h lines) = rw (le-leb (length text) longestText h) (lines-once u s lines)
@@ -193,7 +193,7 @@ path-counted s start b (Path.Arc turn centre) all =
     let right = offset-right centre (centre-is centre .1 (all .0)) in
     counted-arc start b turn centre (on-circle-to _ _ (start-on start centre right) .circle) (all .1 .0)
 
-lines-counted : (u : ℕ) (s : Settings) {n : ℕ} {at : Point} {k : Reader} {lines : List (List ℕ)} {made : List Made} {end : End}
+pub lines-counted : (u : ℕ) (s : Settings) {n : ℕ} {at : Point} {k : Reader} {lines : List (List ℕ)} {made : List Made} {end : End}
     → LinesMean u s n at k lines made end → EveryCounted made
 lines-counted u s LinesMean.over = tt
 lines-counted u s (LinesMean.refused l means number f) = tt
@@ -204,7 +204,7 @@ lines-counted u s {at = at} {k = k} (LinesMean.block {bytes = bytes} l means y e
     let yes-all = block-yes words (makesBlock u k (s .scale) at l) (blockQuestions u (Unit {0}) s at b) e y in
     (path-counted s at b (b .path) (yes-all .1 .1 .1), lines-counted u s later)
 
-text-counted : (u : ℕ) (s : Settings) (text : List ℕ) {made : List Made} {end : End} → TextMeans u s text made end → EveryCounted made
+pub text-counted : (u : ℕ) (s : Settings) (text : List ℕ) {made : List Made} {end : End} → TextMeans u s text made end → EveryCounted made
 text-counted u s text (TextMeans.long h) = tt
 text-counted u s text (TextMeans.read h lines) = lines-counted u s lines
 

@@ -6,8 +6,8 @@ use Prim.Native.Nat.{ℕ, _+_, _-_, _*_, _^_, _≤_, _<_}
 use lib.Dec.{leb}
 use lib.ListN.{length, take, drop}
 use Rattle.row.specs.computed.Buffer.{lineRoom, placed}
-use Rattle.row.specs.computed.Long.{lowLimit}
-use Rattle.row.specs.Lines.{headerLine, refusedLine}
+use Rattle.row.specs.computed.Long.{lowLimit, longOf}
+use Rattle.row.specs.Lines.{headerLine, totalLine, refusedLine}
 use Rattle.work.specs.Work.{isNothing}
 use Rattle.bench.specs.declared.Bench.{Bench}
 use Rattle.bench.specs.computed.Bench.{soundOf}
@@ -15,7 +15,7 @@ use Rattle.settings.specs.declared.Settings.{Settings}
 use Rattle.reader.specs.computed.Reader.{longestText}
 use Rattle.reader.specs.declared.Feed.{Feed}
 use Rattle.tally.specs.declared.Tally.{Tally}
-use Rattle.tally.specs.computed.Tally.{mostBlockCycles, mostBlockTicks, listedOf, totalOf}
+use Rattle.tally.specs.computed.Tally.{mostBlockCycles, mostBlockTicks, listedOf}
 use Rattle.tally.specs.computed.Tally.{tallyFrom as tallyStart}
 use Rattle.job.specs.declared.Stage.{Stage}
 use Rattle.job.specs.declared.Check.{Check}
@@ -34,10 +34,24 @@ abbrev pub unless : (over : Bool) → List ℕ → List ℕ
 unless true rest = []
 unless false rest = rest
 
--- the rows of these text lines, and the last line of the listing
-unfoldable pub rowsFrom : Tally → (lines : List (List ℕ)) → List ℕ
-rowsFrom t [] = totalOf t
-rowsFrom t (l ∷ ls) = let g = listedOf t l in g .bytes ++ unless (g .over) (rowsFrom (g .tally) ls)
+-- the last row, by what was counted till then
+abbrev pub LastRow : Type 0
+LastRow = (lines blocks cycles ticks : ℕ) → List ℕ
+
+abbrev pub lastRow : LastRow → Tally → List ℕ
+lastRow last t = last (t .lines) (t .blocks) (t .cycles) (longOf (t .ticks))
+
+-- the rows of these text lines, and then the last row; a refused line has the last row itself
+unfoldable pub rowsThen : LastRow → Tally → (lines : List (List ℕ)) → List ℕ
+rowsThen last t [] = lastRow last t
+rowsThen last t (l ∷ ls) = let g = listedOf t l in g .bytes ++ unless (g .over) (rowsThen last (g .tally) ls)
+
+-- of a text that is read to its end
+abbrev pub totals : LastRow
+totals lines blocks cycles ticks = totalLine blocks cycles ticks
+
+abbrev pub rowsFrom : Tally → (lines : List (List ℕ)) → List ℕ
+rowsFrom t ls = rowsThen totals t ls
 
 -- 01: "is the text at most 65,536 bytes (asked once, line 1)? 30."
 abbrev pub linesRest : Check → (text : List ℕ) → List ℕ

@@ -65,12 +65,16 @@ unfoldable pub jobFromAt : (u : ℕ) → Settings → (textLine : ℕ) (at : Poi
 jobFromAt u s n at k [] = record { blocks = []; end = End.complete }
 jobFromAt u s n at k (l ∷ ls) = readOn n at (lineAsks u s at k l) (λ at′ k′. jobFromAt u s (n + 1) at′ k′ ls)
 
--- "is the text at most 65,536 bytes (asked once, line 1)? 30." "A fresh machine stands at (0, 0)."
+-- "A fresh machine stands at (0, 0)", and nothing is known before its first line.
+abbrev pub jobOfLines : (u : ℕ) → Settings → (lines : List (List ℕ)) → Job
+jobOfLines u s lines = jobFromAt u s 1 (record { x = pos 0; y = pos 0 }) unknown lines
+
+-- "is the text at most 65,536 bytes (asked once, line 1)? 30."
 -- Tied: `means` of `EveryText`.
 unfoldable pub jobAt : (u : ℕ) → Settings → (text : List ℕ) → Job
 jobAt u s text =
     cond (leb (length text) longestText)
-    (jobFromAt u s 1 (record { x = pos 0; y = pos 0 }) unknown (linesOf text))
+    (jobOfLines u s (linesOf text))
     (record { blocks = []; end = End.refused 1 30 })
 
 -- ---- by 02 §4's unit

@@ -2,31 +2,34 @@
 use mathlib.Core.Path.{_≡_, refl, ap, _∙_}
 use mathlib.Core.Bool.{Bool, true, false, cond}
 use mathlib.Core.List.{List, [], _∷_, _++_}
-use Prim.Native.Nat.{ℕ, suc, _≤_}
+use Prim.Native.Nat.{ℕ, zero, suc, _≤_}
 use native.Mathlib.Omega.{arith}
 use lib.Dec.{eqb, leb}
 use lib.ListN.{length}
 use borrow.Author.Tests.{leb-true}
 use Rattle.row.specs.Lines.{headerLine, refusedLine}
 use Rattle.settings.specs.declared.Settings.{Settings}
-use Rattle.settings.specs.Settings.{capacityOf}
+use Rattle.settings.specs.Settings.{standardSettings, capacityOf}
 use Rattle.settings.specs.computed.Settings.{settingsNo}
-use Rattle.settings.specs.laws.Right.{settings-right}
+use Rattle.settings.specs.laws.Right.{settings-right, standard-passes}
 use Rattle.finish.specs.laws.Record.{AtRest}
+use Rattle.bench.specs.declared.Bench.{Bench}
 use Rattle.bench.specs.Bench.{freshOf}
+use Rattle.bench.specs.computed.Calls.{makeWith, makeOf}
 use Rattle.invariant.specs.laws.Make.{fresh-sound}
 use lib.IntN.{pos}
 use Rattle.reader.specs.computed.Reader.{longestText}
 use Rattle.reader.specs.Reader.{unknown}
 use Rattle.tally.specs.computed.Tally.{tallyFrom as tallyStart}
+use Rattle.tally.specs.laws.Counts.{Counts}
 use Rattle.job.specs.Text.{lineOr, linesOf}
 use Rattle.job.specs.Job.{Made, End}
 use Rattle.job.specs.computed.Job.{jobAt, jobFrom}
 use Rattle.job.specs.Listing.{rows, lastLine}
 use Rattle.job.specs.computed.Listing.{listingAt, listingOf}
-use Rattle.job.specs.computed.Check.{checkFrom, rowsFrom, restOf}
+use Rattle.job.specs.computed.Check.{totals, rowsFrom, checkFrom, restOf}
 use Rattle.job.specs.laws.Ended.{Low}
-use Rattle.job.specs.laws.Rows.{lastAfter, total-same, lists}
+use Rattle.job.specs.laws.Rows.{lastAfter, last-same, lists}
 
 pub lines-few : (s : List ℕ) → length (linesOf s) ≤ length s
 unfolding linesOf
@@ -42,13 +45,26 @@ pub fresh-rests : (s : Settings) → settingsNo s ≡ 0 → AtRest (freshOf s)
 unfolding freshOf
 fresh-rests s passed = record { sound = fresh-sound s passed; idle = refl; free = refl }
 
+-- of whatever settings
+pub made-rests : (s : Settings) → AtRest (makeOf s .bench)
+unfolding makeOf
+made-rests s = by (settingsNo s) refl
+  where
+    by : (n : ℕ) → settingsNo s ≡ n → AtRest (makeWith s n .bench)
+    by zero e = fresh-rests s e
+    by (suc n) e = fresh-rests standardSettings standard-passes
+
 pub fresh-low : (s : Settings) → settingsNo s ≡ 0 → Low (freshOf s)
 unfolding freshOf
 fresh-low s passed = omega (arith, settings-right s passed .clock-some)
 
-last-is : (q0 : ℕ) (ms : List Made) (end : End) → lastAfter 0 0 0 q0 0 ms end ≡ lastLine q0 ms end
-last-is q0 ms End.complete = total-same (omega arith) (omega arith) (omega arith)
-last-is q0 ms (End.refused n number) = refl
+pub fresh-counts : (m : Bench) → Counts (tallyStart m)
+unfolding tallyStart
+fresh-counts m = record { lines = omega arith; blocks = omega arith; cycles = omega arith; high = omega arith; low = omega arith }
+
+last-is : (lines q0 : ℕ) (ms : List Made) (end : End) → lastAfter totals lines 0 0 0 q0 0 ms end ≡ lastLine q0 ms end
+last-is lines q0 ms End.complete = last-same totals {n = lines} refl (omega arith) (omega arith) (omega arith)
+last-is lines q0 ms (End.refused n number) = refl
 
 -- from a machine made fresh
 pub listing-is : (s : Settings) → settingsNo s ≡ 0 → (text : List ℕ) → restOf (checkFrom (freshOf s)) text ≡ listingOf s text
@@ -62,8 +78,9 @@ listing-is s passed text = ap (λ (rest : List ℕ). headerLine ++ rest) (by (le
         rows 1 (j .blocks) ++ lastLine (capacityOf s) (j .blocks) (j .end))
     by true e =
         let j = jobFrom s 1 (record { x = pos 0; y = pos 0 }) unknown (linesOf text) in
-        lists (linesOf text) (tallyStart (freshOf s)) (fresh-rests s passed) (fresh-low s passed)
-        (record { lines = omega arith; blocks = omega arith; cycles = omega arith; high = omega arith; low = omega arith })
+        let n = length (linesOf text) in
+        lists totals n (linesOf text) (tallyStart (freshOf s)) (fresh-rests s passed) (fresh-low s passed) (fresh-counts (freshOf s))
+        (omega arith)
         (omega (arith, lines-few text, leb-true (length text) longestText e))
-        ∙ ap (λ (last : List ℕ). rows 1 (j .blocks) ++ last) (last-is (capacityOf s) (j .blocks) (j .end))
+        ∙ ap (λ (last : List ℕ). rows 1 (j .blocks) ++ last) (last-is n (capacityOf s) (j .blocks) (j .end))
     by false e = refl

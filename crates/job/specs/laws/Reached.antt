@@ -101,7 +101,7 @@ module _ (t : Tally) {at next : ℕ} (r : Reached at t) (near : next ≤ longest
   rests : AtRest (t .bench)
   rests = record { sound = r .sound; free = r .free; idle = r .idle }
 
-  stays : Reached next t
+  pub stays : Reached next t
   stays =
       record {
         sound = r .sound;

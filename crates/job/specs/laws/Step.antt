@@ -20,7 +20,7 @@ use Rattle.job.specs.declared.Check.{Check}
 use Rattle.words.specs.computed.Scan.{firstLine}
 use Rattle.words.specs.laws.FirstLine.{first-short}
 use Rattle.job.specs.Text.{linesOf}
-use Rattle.job.specs.computed.Check.{rowsFrom, unless, restOf, lastOf, Steps}
+use Rattle.job.specs.computed.Check.{rowsThen, rowsFrom, unless, restOf, lastOf, Steps}
 use Rattle.job.specs.laws.Text.{lines-next}
 use Rattle.job.specs.laws.Reached.{line-reached}
 
@@ -75,7 +75,7 @@ module _ (c : Check) (text old : List ℕ) (at : ℕ) {new : List ℕ} where
       pub step-total : {p : Place}
           → (let line = totalOf (c .tally) in
           length line ≤ lineRoom → length text ≤ c .at → Wrote line old at p new → Steps c text old at (lastOf c (placeAfterRow p at)) new)
-      unfolding restOf rowsFrom linesOf
+      unfolding restOf rowsThen linesOf
       step-total few end w =
           last-written (totalOf (c .tally)) few w
           (rw (lines, le-leb (length text) longestText short, drop-of-length-le text end))
@@ -97,7 +97,7 @@ module _ (c : Check) (text old : List ℕ) (at : ℕ) {new : List ℕ} where
         cut :
             restOf c text
             ≡ listedOf (c .tally) line .bytes ++ unless (l .over) (rowsFrom (l .tally) (linesOf (drop (c .at + length line + 1) text)))
-        unfolding restOf rowsFrom
+        unfolding restOf rowsThen
         cut = rw (
           lines,
           le-leb (length text) longestText short,

@@ -30,7 +30,8 @@ use Rattle.job.specs.Listing.{madeLine, rows, allCycles, madeTicks, made
 use Rattle.job.specs.Unit.{AllWhole, WholeText, finerMade, finerBlocks}
 use Rattle.job.specs.computed.Job.{Asks, loadAsks, blockAsks, wordsAsk, lineAsks, readOn, jobFromAt, jobAt}
 use Rattle.job.specs.computed.Listing.{listingAt}
-use Rattle.job.specs.laws.Rows.{total-same}
+use Rattle.job.specs.computed.Check.{totals}
+use Rattle.job.specs.laws.Rows.{last-same}
 
 abbrev finerAsks : (u : ℕ) → Asks → Asks
 finerAsks u (Asks.nothing k) = Asks.nothing k
@@ -182,7 +183,7 @@ module _ (u : ℕ) (some : 1 ≤ u) where
 
   last-finer : (q0 : ℕ) (ms : List Made) (e : End) → lastLine (u * q0) (finerBlocks u ms) e ≡ lastLine q0 ms e
   last-finer q0 ms End.complete =
-      total-same (many-finer ms) (cycles-finer ms)
+      last-same totals {n = 0} refl (many-finer ms) (cycles-finer ms)
       (ap (λ (r : ℕ). allTicks (u * q0) r (finerBlocks u ms)) none ∙ all-ticks q0 0 ms)
   last-finer q0 ms (End.refused n number) = refl
 
