@@ -3,7 +3,7 @@
 use mathlib.Core.Path.{_≡_}
 use mathlib.Core.Logic.{_⊎_}
 use mathlib.Core.List.{List}
-use Prim.Native.Nat.{ℕ, zero, suc, _-_, _^_, _<_}
+use Prim.Native.Nat.{ℕ, zero, suc, _-_, _^_, _≤_, _<_}
 use lib.IntN.{ℤ, pos, negsuc}
 use lib.ListN.{length, take, drop, replicate}
 use denote.Ref.{RefT, now}
@@ -25,6 +25,7 @@ use Rattle.reader.specs.declared.Reader.{Reader}
 use Rattle.textline.specs.declared.ReadLine.{ReadLine}
 use Rattle.job.specs.computed.Job.{jobAt}
 use Rattle.job.specs.Listing.{jobListing}
+use Rattle.panel.specs.computed.Listing.{panelJob}
 use Rattle.encoding.specs.Words.{settingsOf}
 use Rattle.record.specs.Words.{encodeOf, over}
 use Rattle.progress.specs.Known.{encodeKnown}
@@ -34,6 +35,7 @@ use Rattle.cmachine.specs.Given.{arcPath, blockGiven}
 use Rattle.cmachine.specs.Looks.{sumWords, noSums}
 use Rattle.cmachine.specs.Texts.{readNumber}
 use Rattle.ccheck.specs.Check.{Refuses}
+use Rattle.cpanel.specs.Words.{panelIn}
 use Rattle.cmachine.proofs.vz_make.Reads as make-reads
 use Rattle.cmachine.proofs.vz_load_line.Reads as line-reads
 use Rattle.cmachine.proofs.vz_load_cw.Reads as cw-reads
@@ -50,6 +52,8 @@ use Rattle.demands.specs.Bench.{settingsQuestions}
 use Rattle.demands.specs.Sound.{Sound}
 use Rattle.demands.specs.Texts.{FrontOf}
 use Rattle.demands.specs.CheckFromC.{StartsFromC, StartedWords, FillsFromC, OwnFill, IsCheck, RowsOutToC}
+use Rattle.demands.specs.PanelFromC.{StartsPanelFromC, StartedPanel, ReadCall, ReadsFromC, Unchanged, OwnRead, IsPanel}
+use Rattle.demands.specs.PanelFromC.{RowsReadToC, MoreToC}
 
 -- ---- the machine's own call on the record m: it may give the answer n, as C has it, and the record m′
 
@@ -182,3 +186,32 @@ pub record EveryCallFromC : Type 0 where
       → (let s = settingsOf p w xlo xhi ylo yhi in AllYes (settingsQuestions s)
       → (text bytes : List ℕ) (last : ℤ) (ws ps : List ℤ) → RowsOutToC text (now words′) (now progress′) bytes last ws ps
       → FrontOf (jobListing (capacityOf s) (jobAt feedUnit s text)) bytes (last ≡ pos 1))
+  pub panel-start : (κs : Lfts 2) (words words′ panel panel′ : RefT (List ℤ)) (p w xlo xhi ylo yhi n : ℤ)
+      → StartsPanelFromC κs words words′ panel panel′ p w xlo xhi ylo yhi n
+      → StartedPanel (settingsOf p w xlo xhi ylo yhi) n (now words′) (now panel′)
+  pub panel-read : (f : ReadCall) → ReadsFromC f → (k : Bench) → IsPanel (now (f .words)) (now (f .panel)) k
+      → OwnRead (panelIn k (now (f .panel))) f
+  -- all other words get 9, and nothing is written
+  pub no-panel : (f : ReadCall) → ReadsFromC f → ((k : Bench) → ¬ (IsPanel (now (f .words)) (now (f .panel)) k)) → Unchanged (negsuc 8) f
+  -- nor where a buffer is too short
+  pub panel-short : (f : ReadCall) → ReadsFromC f → f .answer ≡ pos 2 → Unchanged (pos 2) f
+  -- 02 §5: however the text is cut, whoever goes on from the words of a start gets the panel's listing, to the byte, and the answer 1 at
+  -- its
+  -- end
+  pub panel-listing : (κs : Lfts 2) (words words′ panel panel′ : RefT (List ℤ)) (p w xlo xhi ylo yhi n : ℤ)
+      → StartsPanelFromC κs words words′ panel panel′ p w xlo xhi ylo yhi n
+      → (let s = settingsOf p w xlo xhi ylo yhi in AllYes (settingsQuestions s)
+      → (text left scratch bytes : List ℕ) (last : ℤ) (ws ps : List ℤ)
+      → RowsReadToC text (now words′) (now panel′) left scratch bytes last ws ps
+      → FrontOf (jobListing (capacityOf s) (panelJob s text)) bytes (last ≡ pos 1))
+  -- words that a start or a call wrote are a panel's check, whatever the settings, so that the next call does not get 9,
+  pub panel-keeps : (κs : Lfts 2) (words words′ panel panel′ : RefT (List ℤ)) (p w xlo xhi ylo yhi n : ℤ)
+      → StartsPanelFromC κs words words′ panel panel′ p w xlo xhi ylo yhi n
+      → (text left scratch bytes : List ℕ) (last : ℤ) (ws ps : List ℤ)
+      → RowsReadToC text (now words′) (now panel′) left scratch bytes last ws ps
+      → (k : Bench) × IsPanel ws ps k
+  -- and a loop that brings a byte or the end of the text at each call ends: so many of them answer 0 at most
+  pub panel-ends : (κs : Lfts 2) (words words′ panel panel′ : RefT (List ℤ)) (p w xlo xhi ylo yhi n : ℤ)
+      → StartsPanelFromC κs words words′ panel panel′ p w xlo xhi ylo yhi n
+      → (calls : ℕ) → MoreToC (now words′) (now panel′) calls
+      → calls ≤ 131073

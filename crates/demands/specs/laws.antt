@@ -11,8 +11,10 @@ pub mod Arcs
 pub mod Calls
 pub mod Claims
 pub mod Texts
+pub mod Panel
 pub mod TickBytes
 pub mod Before
 pub mod Carried
 pub mod CheckFromC
+pub mod PanelFromC
 pub mod FromC

@@ -8,6 +8,7 @@ ghost use Rattle.demands.specs.Before.{EveryWholeFeed};
 ghost use Rattle.demands.specs.Calls.{EveryCall};
 ghost use Rattle.demands.specs.FromC.{EveryCallFromC};
 ghost use Rattle.demands.specs.Lines.{EveryLine};
+ghost use Rattle.demands.specs.Panel.{EveryPanel};
 ghost use Rattle.demands.specs.Records.{EveryRecord};
 ghost use Rattle.demands.specs.Runs.{EveryRun};
 ghost use Rattle.demands.specs.Texts.{EveryText};
@@ -86,6 +87,11 @@ pub fn every_look_on()
 // Request 4: jobs whose F words have no point give the same pulses on the same ticks as before.
 pub fn every_whole_feed()
     ensures { λ _. ⌜ EveryWholeFeed ⌝ }
+{}
+
+// Request 5: what the panel lists of a text, and its check's calls, however the text is cut into pieces.
+pub fn every_panel()
+    ensures { λ _. ⌜ EveryPanel ⌝ }
 {}
 
 // The demands from C: its calls are the machine's.

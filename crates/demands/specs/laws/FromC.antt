@@ -78,7 +78,10 @@ use Rattle.demands.specs.laws.Carried.{carries-sound, carries-it, carrie
 use Rattle.demands.specs.laws.Carried.{run-blanks}
 use Rattle.job.specs.computed.Check.{FeedSmall}
 use Rattle.job.specs.computed.Listing.{listingAt}
+use Rattle.panel.specs.computed.Listing.{panelListing}
 use Rattle.demands.specs.laws.CheckFromC.{started, from-words, check-fills, no-check-fills}
+use Rattle.demands.specs.laws.PanelFromC.{started as panel-started, from-words as panel-from-words}
+use Rattle.demands.specs.laws.PanelFromC.{panel-reads, no-panel-reads, short-reads, panel-kept, panel-few}
 
 -- ---- the calls
 
@@ -479,7 +482,7 @@ module _ (before known : List ℤ) (line : RefT (List ℕ)) (n : ℤ) (after kno
 -- ---- the claim
 
 pub every-call-from-c : EveryCallFromC
-unfolding listingAt
+unfolding listingAt panelListing
 every-call-from-c =
     record {
       make = λ κs words words′ p w xlo xhi ylo yhi n h. made-words _ (now words) n (now words′) h;
@@ -498,4 +501,14 @@ every-call-from-c =
       no-check = λ κs ws ws′ ps ps′ text out out′ len len′ n h none. no-check-fills (now ws) (now ps) none h;
       listing = λ κs words words′ progress progress′ p w xlo xhi ylo yhi n h pass text bytes last ws ps rows.
           from-words _ pass (now words′) (now progress′) (h .0) (h .1) text bytes last ws ps rows;
+      panel-start = λ κs words words′ panel panel′ p w xlo xhi ylo yhi n h. panel-started _ n (now words′) (now panel′) (h .0) (h .1);
+      panel-read = panel-reads;
+      no-panel = no-panel-reads;
+      panel-short = short-reads;
+      panel-listing = λ κs words words′ panel panel′ p w xlo xhi ylo yhi n h pass text left scratch bytes last ws ps rows.
+          panel-from-words _ pass (now words′) (now panel′) (h .0) (h .1) text left scratch bytes last ws ps rows;
+      panel-keeps = λ κs words words′ panel panel′ p w xlo xhi ylo yhi n h text left scratch bytes last ws ps rows.
+          panel-kept _ (now words′) (now panel′) (h .0) (h .1) ws ps rows;
+      panel-ends = λ κs words words′ panel panel′ p w xlo xhi ylo yhi n h calls more.
+          panel-few _ (now words′) (now panel′) (h .0) (h .1) calls more;
     }

@@ -1,0 +1,4 @@
+pub mod Over
+pub mod Listing
+pub mod Piece
+pub mod Rest

@@ -1,0 +1,9 @@
+pub mod First
+pub mod Rows
+pub mod Whole
+pub mod Listing
+pub mod Taken
+pub mod Hand
+pub mod Line
+pub mod Piece
+pub mod Pieces
