@@ -11,19 +11,20 @@
  * Use: vz_make once; then a vz_load_.. for each block as it comes, while fewer than 16 wait behind the one in work, and meanwhile vz_tick
  * (from the clock's interrupt) or vz_run. While a block waits, the knife does not halt where one ends, however late the sender is. vz_ahead
  * tells where so many more ticks will leave it. A board that is given a job text reads it line by line with vz_read_line; vz_check_start
- * and vz_check_fill list it beforehand.
+ * and vz_check_fill list it beforehand, and where the text can't be held, vz_panel_start and vz_panel_read, from pieces of it as they come.
  *
  * Needed: C11 or C++11, and an x86-64 machine: tools/archive writes target/libverdaizka.a for it.
  * From outside the archive needs memmove and memset alone.
  *     cc -std=c11 -Iinclude program.c target/libverdaizka.a
- * examples/c has whole programs: square_and_circle.c, look_ahead.c, run_a_job.c, check_a_job.c.
+ * examples/c has whole programs: square_and_circle.c, look_ahead.c, run_a_job.c, check_a_job.c, slow_line.c.
  *
  * Answers: a refusal is negative everywhere, minus the number of the question that was answered by no, so `if (answer < 0)` sees
- * every one. What a refusal writes: vz_run sets *ticks and vz_check_fill *written to 0; vz_ahead copies the record to *then and sets
- * both sums to 0; vz_make and vz_check_start make their words anew. All else stays as it was, every word and every byte.
+ * every one. What a refusal writes: vz_run sets *ticks, vz_check_fill *written, and vz_panel_read *took and *written to 0; vz_ahead copies
+ * the record to *then and sets both sums to 0; vz_make, vz_check_start and vz_panel_start make their words anew. All else stays as it was,
+ * every word and every byte.
  *
- * Work: every call does a bounded number of steps but for what it writes or reads. Each but vz_make and the check's two first tests the
- * whole record: 22 words and, in a loop, seven for each block that waits, by sums, products and comparisons alone, without a root or a
+ * Work: every call does a bounded number of steps but for what it writes or reads. Each but vz_make and those of the two checks first tests
+ * the whole record: 22 words and, in a loop, seven for each block that waits, by sums, products and comparisons alone, without a root or a
  * division. Beside that test, and beside sums, products and comparisons, at most:
  *     vz_make                       no root, no division; the 22 words that it writes
  *     vz_hold, vz_release, vz_stop  no loop, no root, no division
@@ -39,6 +40,9 @@
  *     vz_check_start                as vz_make
  *     vz_check_fill                 its 19 and 9 words tested; for each text line it lists: a turn for each byte, a load, of an arc two
  *                                   such roots, a division, the row's digits; no block waits there
+ *     vz_panel_start                as vz_make
+ *     vz_panel_read                 its 19 and 10 words tested; a turn for each byte that it takes, and for a whole line as vz_check_fill
+ *                                   for one
  * Whole numbers confirm the guess, so no setting of the floating-point unit makes an answer another; a program that has unmasked its
  * exceptions masks them again before it calls.
  *
@@ -158,7 +162,7 @@ enum vz_refusal {
     VZ_REFUSED_TRAVEL = 3,  /* an axis is not -1,000,000 <= lower <= 0 <= upper <= 1,000,000. Put (0, 0) inside the travel. */
     VZ_REFUSED_RECORD = 9,  /* the words are no sound record: never made, saved under another layout, or written by something
                                else than these calls. Call vz_make, find the table's zero again, and look for what wrote there.
-                               Of the calls on a job text also: the known G and F, or the progress, are none. */
+                               Of the calls on a job text also: the known G and F, the progress, or the panel's words are none. */
     VZ_REFUSED_FULL = 10,   /* 16 blocks wait already. Tick until the block in work has ended, then give the same one again. */
     VZ_REFUSED_FEED = 11,   /* the feed is not in 1..60,000 * w. Slow down, or make with a faster clock. */
     VZ_REFUSED_END = 12,    /* the end is outside the travel. */
@@ -172,7 +176,8 @@ enum vz_refusal {
 
 /* Of a job text these too, before those of a load. vz_read_line answers them but the first; a listing has them all. */
 enum vz_text_refusal {
-    VZ_REFUSED_LONG_TEXT = 30, /* the text has more than VZ_TEXT_BYTES bytes; told of line 1. Cut the job into two. */
+    VZ_REFUSED_LONG_TEXT = 30, /* the text has more than VZ_TEXT_BYTES bytes; told of line 1, on the panel of the line that holds byte
+                                  65,537. Cut the job into two. */
     VZ_REFUSED_LONG_LINE = 31, /* the line has more than VZ_LINE_BYTES bytes without its LF. */
     VZ_REFUSED_WORDS = 32,     /* it is not made of words: N or G with 1 to 7 digits; F with 1 to 7 digits and optionally a point with
                                   1 to 3 digits; X, Y, I or J the same, with an optional sign before them; blanks between. A carriage
@@ -354,6 +359,77 @@ VZ_ANSWERS int64_t vz_check_start(vz_bench *bench, vz_progress *progress, int64_
  * than VZ_TEXT_BYTES is refused by question 30, whatever stands in it: one byte more than that is enough to hand over. */
 VZ_ANSWERS int64_t vz_check_fill(vz_bench *bench, vz_progress *progress, const uint8_t *text, size_t text_length, uint8_t *out,
                                  size_t out_length, uint64_t *written);
+
+/* ---- panel: the same listing where memory is too little for the text. It comes in pieces of any length, as a line brings them, and is
+ * not kept: a scratch buffer of 81 bytes holds the line that is being read. Rows come one at a time. A panel's loop, in which receive
+ * answers how many bytes came, and 0 once the text has ended, again and again. Where it fails the loop must be left: that is not the end of
+ * the text, and half a job is another job.
+ *
+ *     uint8_t scratch[VZ_SCRATCH_BYTES], rows[VZ_ROW_BYTES], piece[7];
+ *     uint64_t took, written, at = 0, length = 0;
+ *     int64_t told = vz_panel_start(&bench, &panel, 50, 5000, -1000000, 1000000, -1000000, 1000000);
+ *     while (told == VZ_PANEL_MORE) {
+ *         if (at == length)
+ *             length = receive(piece, sizeof piece), at = 0;
+ *         told = vz_panel_read(&bench, &panel, scratch, sizeof scratch, piece + at, length - at, length == 0, rows, sizeof rows,
+ *                              &took, &written);
+ *         at += took, show(rows, written);
+ *     }
+ *
+ * For a text of at most VZ_TEXT_BYTES bytes the rows are those of vz_check_fill, in every byte. Of a longer one vz_check_fill lists no
+ * block; here the rows of the whole lines before byte 65,537 come first, where bytes count from 1 and LFs count. Unless one of those lines
+ * is refused, 30 follows with the line that holds that byte, whatever else is wrong with it. */
+
+#define VZ_SCRATCH_BYTES 81
+#define VZ_PANEL_WORDS 10
+
+/* Beside a bench, all that such a check knows but for the bytes in the scratch buffer. Written by the calls alone; it may be copied and
+ * saved with its bench and the scratch buffer. */
+typedef struct vz_panel {
+    int64_t word[VZ_PANEL_WORDS];
+} vz_panel;
+
+VZ_ASSERT(sizeof(vz_panel) == 8 * VZ_PANEL_WORDS, "a panel's check is 10 words of 64 bits");
+
+enum vz_panel_word {
+    VZ_PANEL_STAGE = 0,      /* as VZ_PROGRESS_STAGE: 0 the header comes next, 1 rows, 2 nothing any more */
+    VZ_PANEL_LEFT = 1,       /* bytes that the text may still have: VZ_TEXT_BYTES at first */
+    VZ_PANEL_MOTION = 2,     /* from here on as in vz_progress */
+    VZ_PANEL_FEED = 3,
+    VZ_PANEL_LINES = 4,
+    VZ_PANEL_BLOCKS = 5,
+    VZ_PANEL_CYCLES = 6,
+    VZ_PANEL_TICKS = 7,
+    VZ_PANEL_TICKS_HIGH = 8,
+    VZ_PANEL_HELD = 9        /* bytes of the line being read that the scratch buffer holds, its first 81 at most: 0 to 81 */
+};
+
+/* To vz_panel_read what vz_check_start is to vz_check_fill: settings taken and answered as by vz_make, whatever the words were before. */
+VZ_ANSWERS int64_t vz_panel_start(vz_bench *bench, vz_panel *panel, int64_t p, int64_t w, int64_t x_lower, int64_t x_upper,
+                                  int64_t y_lower, int64_t y_upper);
+
+enum vz_panel_told {
+    VZ_PANEL_MORE = 0, /* call again */
+    VZ_PANEL_OVER = 1, /* all is handed out: the last row, a total or a refused line, was written by this call or an earlier one; words
+                          with counts that no text has get none. Calls after that, with room, take and write nothing, and answer so
+                          again. */
+    VZ_PANEL_SHORT = 2 /* less scratch than VZ_SCRATCH_BYTES, or less room for rows than VZ_ROW_BYTES: nothing taken, nothing written,
+                          every word and byte as it was */
+};
+
+/* Does one thing a call: it writes the header; or it takes bytes of the piece up to the end of a line, its LF included, of the piece, or
+ * of what a text may have, and writes the row that this completes, if there is one: a block's, a refused line's or the total. A row goes
+ * to the front of rows; its later bytes stay. *took and *written are always set: how many bytes of the piece were taken, and how many of
+ * rows written. What was not taken comes again at the front of the next piece. last other than 0 says that the text ends with this piece;
+ * a piece may have 0 bytes, and an empty last one is how a caller says that the text has ended. Answers as above; or -9 where the words
+ * are no sound bench and panel's check, asked before the lengths, with 0 and 0 and nothing else changed.
+ *
+ * Between two calls the caller leaves the scratch buffer as it is. Of its bytes only the first word[VZ_PANEL_HELD] count; what stands in
+ * the others is free, and in all of them once a line is whole or refused. Of a line of more than 80 bytes those behind the first 81 are
+ * counted and not kept. No pointer is null, even where a length is 0. A loop in which each call has room, and brings a byte or the end of
+ * the text, ends after at most 131,074 calls, whatever the text. */
+VZ_ANSWERS int64_t vz_panel_read(vz_bench *bench, vz_panel *panel, uint8_t *scratch, size_t scratch_length, const uint8_t *piece,
+                                 size_t piece_length, int64_t last, uint8_t *rows, size_t rows_length, uint64_t *took, uint64_t *written);
 
 #undef VZ_ASSERT
 

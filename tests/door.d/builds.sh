@@ -15,7 +15,7 @@ built() {
 }
 
 fake "$work/bare"
-for words in "check $good" "ticks $good $work/file" "plot $good $work/file" calls bench; do
+for words in "check $good" "panel $good" "ticks $good $work/file" "plot $good $work/file" calls bench; do
     # shellcheck disable=SC2086
     ok "${words%% *} without a toolchain: the exit status is not 3" built 3 $words
 done

@@ -27,6 +27,7 @@ dash() (
     "$door" "$1" - <"$other" >"$work/out" 2>"$work/err" && grep -q "$4" "$work/out"
 )
 ok "check -- - reads standard input" dash check "$good" examples/gasket.job '^total 20 '
+ok "panel -- - reads standard input" dash panel "$good" examples/gasket.job '^total 20 '
 ok "calls -- - reads standard input" dash calls examples/calls/{worked,text}.calls '^> text '
 
 # A message shows a name so that no byte of it does harm.

@@ -7,10 +7,12 @@ file=$work/status/file
 # ends N WORDS..: counts the command by its exit status
 ends() { ok "${*:2}: the exit status is not $1" status "$@"; }
 
-ends 0 check "$good"
-ends 0 check - <"$good"
-ends 1 check "$bad"
-ends 1 check <"$bad"
+for command in check panel; do
+    ends 0 $command "$good"
+    ends 0 $command - <"$good"
+    ends 1 $command "$bad"
+    ends 1 $command <"$bad"
+done
 ends 0 ticks "$good" "$file"
 ends 1 ticks "$bad" "$file"
 ends 0 plot "$good" "$file"
@@ -26,12 +28,12 @@ ends 2 ""
 ends 2 cut
 # A function of the script is no command.
 ends 2 clean
-for words in "check a b" ticks "ticks $good" "ticks a b c" plot "plot $good" "plot a b c" "calls a b" explain "explain 15 16" "explain x" \
-    "explain 99" "bench x"; do
+for words in "check a b" "panel a b" ticks "ticks $good" "ticks a b c" plot "plot $good" "plot a b c" "calls a b" explain \
+    "explain 15 16" "explain x" "explain 99" "bench x"; do
     # shellcheck disable=SC2086
     ends 2 $words
 done
-for command in check calls; do
+for command in check panel calls; do
     ends 2 $command "$work/none"
     ends 2 $command tests
     ends 2 $command ""
@@ -39,8 +41,8 @@ for command in check calls; do
 done
 explained() { status 0 explain 15 && grep -q '^15 (load, arc): is the end a point of the circle?$' "$work/out"; }
 ok "explain 15 does not say what it means" explained
-empty_name() { status 2 check "" && grep -q "cannot read ''" "$work/err"; }
-ok "check '' does not say what it cannot read" empty_name
+empty_name() { status 2 "$1" "" && grep -q "cannot read ''" "$work/err"; }
+for command in check panel; do ok "$command '' does not say what it cannot read" empty_name $command; done
 
 # closed WORDS.., full WORDS..: with a standard output that takes nothing
 closed() {
@@ -51,7 +53,7 @@ full() {
     "$door" "$@" >/dev/full 2>"$work/err"
     [[ $? -eq 2 ]]
 }
-for words in "check $good" "check $bad" "explain 15" --help; do
+for words in "check $good" "check $bad" "panel $good" "panel $bad" "explain 15" --help; do
     # shellcheck disable=SC2086
     ok "$words, standard output closed: the exit status is not 2" closed $words
     # shellcheck disable=SC2086
@@ -59,21 +61,21 @@ for words in "check $good" "check $bad" "explain 15" --help; do
 done
 ok "calls, standard output closed: the exit status is not 2" closed calls examples/calls/worked.calls
 gone() {
-    "$door" check "$good" | true
+    "$door" "$1" "$good" | true
     [[ ${PIPESTATUS[0]} -eq 2 ]]
 } 2>/dev/null
-ok "check, nobody reads: the exit status is not 2" gone
+for command in check panel; do ok "$command, nobody reads: the exit status is not 2" gone $command; done
 alone() { "$door" ticks "$good" "$file" <&- >&- 2>&-; }
 ok "ticks need an open descriptor" alone
-no_input() { "$door" check "$good" <&- | cmp -s - examples/sole.listing; }
-ok "check of a file needs standard input" no_input
+no_input() { "$door" "$1" "$good" <&- | cmp -s - examples/sole.listing; }
+for command in check panel; do ok "$command of a file needs standard input" no_input $command; done
 rm "$file"
 
 no_tmp() (
     export TMPDIR=$work/none
     status 2 "$@"
 )
-ok "check, no folder for temporary files: the exit status is not 2" no_tmp check "$good"
+for command in check panel; do ok "$command, no folder for temporary files: the exit status is not 2" no_tmp $command "$good"; done
 # A tick byte file and a picture have more than 1,024 bytes, this job and its listing less.
 limited_to_file() (
     ulimit -f 1

@@ -24,6 +24,15 @@ pub const KNOWN_WORDS: usize = 2;
 /// How far a check has come, in words of 64 bits.
 pub const PROGRESS_WORDS: usize = 9;
 
+/// How far a check on the panel has come, in words of 64 bits.
+pub const PANEL_WORDS: usize = 10;
+
+/// A check on the panel holds so much of the text: a line, and a byte more that tells it to be too long.
+pub const SCRATCH_BYTES: usize = 81;
+
+/// A row of a listing has at most so many bytes.
+pub const ROW_BYTES: usize = 160;
+
 /// As far as a look-ahead goes, in ticks.
 pub const AHEAD_TICKS: u64 = 1_000_000;
 
@@ -78,6 +87,11 @@ pub mod word {
     pub const TICKS: usize = 7;
     pub const TICKS_HIGH: usize = 8;
     pub const TICKS_UNIT: i64 = 1_000_000_000_000_000_000;
+
+    /// Of a check on the panel the words of a progress, but for these: how many bytes the text may still have, in the place of `AT`,
+    pub const PANEL_LEFT: usize = 1;
+    /// and how many of the line being read the scratch buffer holds.
+    pub const PANEL_HELD: usize = 9;
 }
 
 // A slice passes as its pointer and its length.
@@ -101,6 +115,20 @@ extern "C" {
         text_length: usize,
         out: *mut u8,
         out_length: usize,
+        written: *mut u64,
+    ) -> i64;
+    fn vz_panel_start(bench: *mut i64, panel: *mut i64, p: i64, w: i64, xlo: i64, xhi: i64, ylo: i64, yhi: i64) -> i64;
+    fn vz_panel_read(
+        bench: *mut i64,
+        panel: *mut i64,
+        scratch: *mut u8,
+        scratch_length: usize,
+        piece: *const u8,
+        piece_length: usize,
+        last: i64,
+        rows: *mut u8,
+        rows_length: usize,
+        took: *mut u64,
         written: *mut u64,
     ) -> i64;
 }
@@ -448,12 +476,11 @@ impl Check {
 
     /// The ticks of the blocks so far, as its two words say it, sound or not.
     pub fn ticks(&self) -> i128 {
-        let [low, high] = [word::TICKS, word::TICKS_HIGH].map(|at| i128::from(self.progress[at]));
-        high * i128::from(word::TICKS_UNIT) + low
+        ticks_of(&self.progress)
     }
 
     /// How many bytes of the listing stand at the front of the buffer, and whether they were the last. The text is the whole one, the
-    /// same at each fill; a buffer of less than 160 bytes gets none.
+    /// same at each fill; a buffer of less than `ROW_BYTES` gets none.
     pub fn fill(&mut self, text: &[u8], out: &mut [u8]) -> Result<(usize, bool), Refused> {
         let mut written = 0;
         let (record, way) = (self.bench.as_mut_ptr(), self.progress.as_mut_ptr());
@@ -461,5 +488,123 @@ impl Check {
         let told = unsafe { vz_check_fill(record, way, text.as_ptr(), text.len(), out.as_mut_ptr(), out.len(), &mut written) };
         let over = answered(told)? == 1;
         Ok((usize::try_from(written).expect("a length"), over))
+    }
+}
+
+/// The ticks that two words of a progress, or of a check on the panel, say.
+fn ticks_of(words: &[i64]) -> i128 {
+    let [low, high] = [word::TICKS, word::TICKS_HIGH].map(|at| i128::from(words[at]));
+    high * i128::from(word::TICKS_UNIT) + low
+}
+
+/// Whether a listing goes on after a read.
+#[derive(Clone, Copy, PartialEq, Eq, Debug)]
+pub enum Told {
+    More,
+    /// The last row, a total or a refused line, was written by this read or an earlier one.
+    Over,
+    /// Less than `SCRATCH_BYTES` or `ROW_BYTES` of room: nothing was done.
+    Short,
+}
+
+/// What a read did: how many bytes it took off the front of the piece, how many of a row stand at the front of the rows, and what follows.
+#[derive(Clone, Copy, PartialEq, Eq, Debug)]
+pub struct PieceRead {
+    pub took: usize,
+    pub written: usize,
+    pub told: Told,
+}
+
+/// The check of a job text that comes in pieces and is never held: the bench, as in a `Check`, and how far it has come. The caller keeps a
+/// scratch buffer beside it. Any words may stand in it: a read of words that are no check is refused by 9 and leaves them.
+#[derive(Clone, PartialEq, Eq, Debug)]
+pub struct PanelCheck {
+    bench: [i64; BENCH_WORDS],
+    panel: [i64; PANEL_WORDS],
+}
+
+impl PanelCheck {
+    /// The check of a job at a fresh machine with these settings, and the number where they are refused, as a make answers them.
+    pub fn start(s: Settings) -> (PanelCheck, Result<(), Refused>) {
+        let (mut bench, mut panel) = ([0; BENCH_WORDS], [0; PANEL_WORDS]);
+        // SAFETY: the core writes the words of the record and of the panel that it is lent, and no others.
+        let told = unsafe { vz_panel_start(bench.as_mut_ptr(), panel.as_mut_ptr(), s.p, s.w, s.x.0, s.x.1, s.y.0, s.y.1) };
+        (PanelCheck { bench, panel }, answered(told).map(|_| ()))
+    }
+
+    pub fn from_words(bench: [i64; BENCH_WORDS], panel: [i64; PANEL_WORDS]) -> PanelCheck {
+        PanelCheck { bench, panel }
+    }
+
+    /// The words of its bench's record, where the last block ended: as the first of a machine's.
+    pub fn bench(&self) -> &[i64; BENCH_WORDS] {
+        &self.bench
+    }
+
+    /// The words of how far it has come.
+    pub fn panel(&self) -> &[i64; PANEL_WORDS] {
+        &self.panel
+    }
+
+    /// The ticks of the blocks so far, as its two words say it, sound or not.
+    pub fn ticks(&self) -> i128 {
+        ticks_of(&self.panel)
+    }
+
+    /// How many bytes of the line being read stand at the front of the scratch buffer, as its word says it, sound or not. No answer depends
+    /// on the bytes behind them.
+    pub fn held(&self) -> i64 {
+        self.panel[word::PANEL_HELD]
+    }
+
+    /// Writes the header, or takes bytes of the piece up to the end of a line, of the piece or of what a text may have, and writes the row
+    /// that this completes, if there is one. What it did not take comes again at the front of the next piece; the text ends with the piece
+    /// that is the last one. The scratch buffer stays as it is between two reads.
+    ///
+    /// ```
+    /// use verdaizka::{PanelCheck, Told, ROW_BYTES, SCRATCH_BYTES, USUAL};
+    ///
+    /// let (mut check, _) = PanelCheck::start(USUAL);
+    /// let (mut scratch, mut rows, mut listing) = ([0; SCRATCH_BYTES], [0; ROW_BYTES], Vec::new());
+    /// let mut pieces = [b"G1 X1".as_slice(), b"0 F300\nX", b"0\n"].into_iter();
+    /// let mut piece = b"".as_slice();
+    /// loop {
+    ///     if piece.is_empty() {
+    ///         piece = pieces.next().unwrap_or(b"");
+    ///     }
+    ///     let done = check.read(&mut scratch, piece, piece.is_empty(), &mut rows).expect("a check");
+    ///     piece = &piece[done.took..];
+    ///     listing.extend_from_slice(&rows[..done.written]);
+    ///     if done.told == Told::Over {
+    ///         break;
+    ///     }
+    /// }
+    /// assert_eq!(listing, b"block line kind cycles x y bits\n1 1 L 500 500 0 9\n2 2 L 500 0 0 9\ntotal 2 1000 20000\n");
+    /// ```
+    pub fn read(&mut self, scratch: &mut [u8], piece: &[u8], last: bool, rows: &mut [u8]) -> Result<PieceRead, Refused> {
+        let (mut took, mut written) = (0, 0);
+        // SAFETY: as in start; the scratch buffer, the piece and the rows are lent with their own lengths.
+        let told = unsafe {
+            vz_panel_read(
+                self.bench.as_mut_ptr(),
+                self.panel.as_mut_ptr(),
+                scratch.as_mut_ptr(),
+                scratch.len(),
+                piece.as_ptr(),
+                piece.len(),
+                i64::from(last),
+                rows.as_mut_ptr(),
+                rows.len(),
+                &mut took,
+                &mut written,
+            )
+        };
+        let told = match answered(told)? {
+            0 => Told::More,
+            1 => Told::Over,
+            _ => Told::Short,
+        };
+        let [took, written] = [took, written].map(|count| usize::try_from(count).expect("a length"));
+        Ok(PieceRead { took, written, told })
     }
 }

@@ -1,7 +1,7 @@
 //! A refused call carries its number and leaves every word and every byte.
 
-use verdaizka::{word, Ahead, Block, Check, Known, Machine, Refused, Settings, Turn, ABI, AHEAD_TICKS, USUAL};
-use verdaizka::{BENCH_WORDS, BLOCK_WORDS, MOST_WAITING, PROGRESS_WORDS, WORDS};
+use verdaizka::{word, Ahead, Block, Check, Known, Machine, PanelCheck, Refused, Settings, Turn, ABI, AHEAD_TICKS, USUAL};
+use verdaizka::{BENCH_WORDS, BLOCK_WORDS, MOST_WAITING, PANEL_WORDS, PROGRESS_WORDS, ROW_BYTES, SCRATCH_BYTES, WORDS};
 
 const FASTEST: i64 = USUAL.fastest();
 const LINE: Block = Block::Line { x: 300, y: -400, feed: FASTEST / 5 };
@@ -213,6 +213,7 @@ fn a_refused_make_is_the_usual_machine() {
     for (settings, number) in bad {
         assert_eq!(Machine::make(settings), (usual.clone(), Err(Refused(number))));
         assert_eq!(Check::start(settings), (Check::start(USUAL).0, Err(Refused(number))));
+        assert_eq!(PanelCheck::start(settings), (PanelCheck::start(USUAL).0, Err(Refused(number))));
     }
 }
 
@@ -239,5 +240,35 @@ fn words_that_are_no_check() {
         let mut out = [7; 200];
         assert_eq!(check.fill(b"G1 X10 F300\n", &mut out), Err(Refused(9)), "{progress:?}");
         assert_eq!((check.bench(), check.progress(), out), (&bench, &progress, [7; 200]));
+    }
+}
+
+/// A feed of words that are no check on the panel leaves them and both buffers, whatever the lengths of these.
+#[test]
+fn words_that_are_no_panel_check() {
+    let sound = PanelCheck::start(USUAL).0;
+    let mut bad = vec![([7; BENCH_WORDS], [7; PANEL_WORDS]), (*sound.bench(), [82; PANEL_WORDS]), ([7; BENCH_WORDS], *sound.panel())];
+    for at in 0..BENCH_WORDS {
+        let mut bench = *sound.bench();
+        bench[at] = i64::MIN;
+        bad.push((bench, *sound.panel()));
+    }
+    let least = (0..PANEL_WORDS).map(|at| (at, i64::MIN));
+    let counts = [word::PANEL_LEFT, word::LINES, word::BLOCKS, word::CYCLES, word::TICKS, word::TICKS_HIGH, word::PANEL_HELD];
+    let others = [(word::STAGE, 3), (word::STAGE, -1), (word::PROGRESS_G, 4), (word::PROGRESS_F, -2), (word::PROGRESS_F, 10_000_000_000)];
+    let most = [(word::PANEL_LEFT, 65_537), (word::TICKS_HIGH, 1 << 32), (word::PANEL_HELD, 82), (word::PANEL_HELD, i64::MAX)];
+    for (at, value) in least.chain(counts.map(|at| (at, -1))).chain(others).chain(most) {
+        let mut panel = *sound.panel();
+        panel[at] = value;
+        bad.push((*sound.bench(), panel));
+    }
+    for (bench, panel) in bad {
+        let mut check = PanelCheck::from_words(bench, panel);
+        let (mut scratch, mut rows) = ([7; SCRATCH_BYTES], [7; ROW_BYTES]);
+        for (held, room) in [(SCRATCH_BYTES, ROW_BYTES), (SCRATCH_BYTES - 1, ROW_BYTES), (SCRATCH_BYTES, ROW_BYTES - 1), (0, 0)] {
+            let fed = check.feed(&mut scratch[..held], b"G1 X10 F300\n", true, &mut rows[..room]);
+            assert_eq!(fed, Err(Refused(9)), "{bench:?} {panel:?}");
+        }
+        assert_eq!((check.bench(), check.panel(), scratch, rows), (&bench, &panel, [7; SCRATCH_BYTES], [7; ROW_BYTES]));
     }
 }

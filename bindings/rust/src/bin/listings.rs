@@ -5,10 +5,10 @@
 use std::io::{self, BufWriter, Read, Write};
 use std::process::ExitCode;
 use verdaizka::fields::{is_of, record_told, Fields};
-use verdaizka::{word, Check, Machine, Refused, Settings, BENCH_WORDS, USUAL, WORDS};
+use verdaizka::{word, Check, Machine, Refused, Settings, BENCH_WORDS, ROW_BYTES, USUAL, WORDS};
 
-/// A row has at most this many bytes; less room gets none.
-const LEAST: usize = 160;
+/// Less room gets no row.
+const LEAST: usize = ROW_BYTES;
 const MOST: usize = 400;
 
 /// Of what a fill does not write every byte stays this one.
