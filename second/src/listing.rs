@@ -37,32 +37,44 @@ impl fmt::Display for Check {
     }
 }
 
-/// The check at a machine with these settings. Where they are refused a first line tells it, and the machine is the one that such
-/// a make answers.
+/// The check at a machine with these settings.
 pub fn check(text: &[u8], settings: &Settings, pace: Pace, out: &mut impl Write) -> io::Result<Check> {
+    check_by(made(settings, out)?, text, pace, out)
+}
+
+/// The machine of a check. Where its settings are refused a first line tells it, and the machine is the one that such a make answers.
+pub fn made(settings: &Settings, out: &mut impl Write) -> io::Result<Book> {
     let (book, refusal) = Book::make(*settings);
     if let Some(number) = refusal {
         writeln!(out, "settings refused {number}")?;
     }
-    check_by(book, text, pace, out)
+    Ok(book)
 }
 
 /// The check by a book of its own.
 pub fn check_by(book: Book, text: &[u8], pace: Pace, out: &mut impl Write) -> io::Result<Check> {
-    writeln!(out, "block line kind cycles x y bits")?;
-    let mut check = Check { book, known: Reader::default(), pace, blocks: 0, cycles: 0, ticks: 0 };
+    let mut check = Check::begin(book, pace, out)?;
     let refused = if text.len() > LONGEST_TEXT { Some((1, 30)) } else { check.rows(text, out)? };
-    match refused {
-        // "At a refusal the rows so far stand and the last line is `line 3 refused 15`"
-        Some((line, number)) => writeln!(out, "line {line} refused {number}")?,
-        None => writeln!(out, "total {} {} {}", check.blocks, check.cycles, check.ticks)?,
-    }
+    check.end(refused, out)?;
     Ok(check)
 }
 
 impl Check {
+    pub fn begin(book: Book, pace: Pace, out: &mut impl Write) -> io::Result<Check> {
+        writeln!(out, "block line kind cycles x y bits")?;
+        Ok(Check { book, known: Reader::default(), pace, blocks: 0, cycles: 0, ticks: 0 })
+    }
+
+    /// "At a refusal the rows so far stand and the last line is `line 3 refused 15`", else it is the total.
+    pub fn end(&self, refused: Option<(usize, u32)>, out: &mut impl Write) -> io::Result<()> {
+        match refused {
+            Some((line, number)) => writeln!(out, "line {line} refused {number}"),
+            None => writeln!(out, "total {} {} {}", self.blocks, self.cycles, self.ticks),
+        }
+    }
+
     /// A row for each block; the text line that is refused, if one is, with its number.
-    fn rows(&mut self, text: &[u8], out: &mut impl Write) -> io::Result<Option<(usize, u32)>> {
+    pub fn rows(&mut self, text: &[u8], out: &mut impl Write) -> io::Result<Option<(usize, u32)>> {
         for (at, line) in lines(text).enumerate() {
             match self.known.line(&mut self.book, line) {
                 Meaning::NoBlock => (),

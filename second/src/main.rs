@@ -12,10 +12,12 @@ mod demand3;
 mod fields;
 mod gen;
 mod gen_jobs;
+mod gen_long;
 mod job;
 mod line;
 mod listing;
 mod machine;
+mod panel;
 mod place;
 mod point;
 mod rng;
@@ -40,6 +42,7 @@ use settings::{Settings, USUAL};
 const USAGE: &str = "\
 second check [AT] [FILE]             job text to its listing
 second check-slow [AT] [FILE]        the same, every tick ticked
+second panel [AT] [FILE]             job text to the listing of the panel, which has 30 last
 second ticks MOST [AT] [FILE]        the tick bytes of a job text, at most so many
 second where TICKS [AT] [FILE]       where a job stands after so many ticks, as the row of jobwhere
 second checks [FILE]                 a stream of jobs to their `%job` lines, listings and what they leave
@@ -49,6 +52,7 @@ second gen jobs SEED COUNT [DIR]     so many job texts, as a stream or as files 
 second gen job SEED INDEX            the one job text of that number
 second gen jobs-at SEED COUNT        as a stream, each with settings of its own
 second gen job-at SEED INDEX         the one of that number, as a stream
+second gen long SEED COUNT [DIR]     texts about as long as one may be, as a stream or as files
 second circles MAXN [totals]         all arcs of all circles to MAXN
 AT is --at P W XLO XHI YLO YHI, the settings; without it p 50, w 5,000 and the widest travel";
 
@@ -90,6 +94,10 @@ fn run(arguments: &[&str], out: &mut impl Write) -> Result<(), Failure> {
     match *arguments {
         ["check", ref rest @ ..] => check(rest, Pace::AtOnce, out),
         ["check-slow", ref rest @ ..] => check(rest, Pace::TickByTick, out),
+        ["panel", ref rest @ ..] => {
+            let (settings, file) = at(rest)?;
+            Ok(panel::list(&all_of(file)?, &settings, out)?)
+        }
         ["ticks", most, ref rest @ ..] => {
             let (settings, file) = at(rest)?;
             Ok(listing::ticks(&all_of(file)?, &settings, number(most)?, out)?)
@@ -103,12 +111,20 @@ fn run(arguments: &[&str], out: &mut impl Write) -> Result<(), Failure> {
         ["calls", ref file @ ..] => Ok(calls::answer_file(&mut opened(file)?, Told::Answers, out)?),
         ["gen", "calls", seed, count] => Ok(gen::write_calls(number(seed)?, number(count)?, out)?),
         ["gen", "jobs", seed, count] => Ok(gen_jobs::write_jobs(number(seed)?, number(count)?, out)?),
-        ["gen", "jobs", seed, count, directory] => job_files(number(seed)?, number(count)?, Path::new(directory)),
+        ["gen", "jobs", seed, count, directory] => {
+            let seed = number(seed)?;
+            files(number(count)?, |index| gen_jobs::job(seed, index), Path::new(directory))
+        }
         ["gen", "job", seed, index] => Ok(out.write_all(&gen_jobs::job(number(seed)?, number(index)?))?),
         ["gen", "jobs-at", seed, count] => Ok(gen_jobs::write_jobs_at(number(seed)?, 0..number(count)?, out)?),
         ["gen", "job-at", seed, index] => {
             let index = number(index)?;
             Ok(gen_jobs::write_jobs_at(number(seed)?, index..index.saturating_add(1), out)?)
+        }
+        ["gen", "long", seed, count] => Ok(gen_long::write_texts(number(seed)?, number(count)?, out)?),
+        ["gen", "long", seed, count, directory] => {
+            let seed = number(seed)?;
+            files(number(count)?, |index| gen_long::text(seed, index), Path::new(directory))
         }
         ["circles", most] => Ok(circles::write_all(largest_n(most)?, out)?),
         ["circles", most, "totals"] => Ok(circles::write_totals(largest_n(most)?, out)?),
@@ -161,10 +177,10 @@ fn all_of(file: &[&str]) -> Result<Vec<u8>, Failure> {
     Ok(text)
 }
 
-fn job_files(seed: u64, count: u64, directory: &Path) -> Result<(), Failure> {
+fn files(count: u64, text: impl Fn(u64) -> Vec<u8>, directory: &Path) -> Result<(), Failure> {
     fs::create_dir_all(directory)?;
     for index in 0..count {
-        fs::write(directory.join(format!("{index:06}.txt")), gen_jobs::job(seed, index))?;
+        fs::write(directory.join(format!("{index:06}.txt")), text(index))?;
     }
     Ok(())
 }
