@@ -266,8 +266,8 @@ fn words_that_are_no_panel_check() {
         let mut check = PanelCheck::from_words(bench, panel);
         let (mut scratch, mut rows) = ([7; SCRATCH_BYTES], [7; ROW_BYTES]);
         for (held, room) in [(SCRATCH_BYTES, ROW_BYTES), (SCRATCH_BYTES - 1, ROW_BYTES), (SCRATCH_BYTES, ROW_BYTES - 1), (0, 0)] {
-            let fed = check.feed(&mut scratch[..held], b"G1 X10 F300\n", true, &mut rows[..room]);
-            assert_eq!(fed, Err(Refused(9)), "{bench:?} {panel:?}");
+            let done = check.read(&mut scratch[..held], b"G1 X10 F300\n", true, &mut rows[..room]);
+            assert_eq!(done, Err(Refused(9)), "{bench:?} {panel:?}");
         }
         assert_eq!((check.bench(), check.panel(), scratch, rows), (&bench, &panel, [7; SCRATCH_BYTES], [7; ROW_BYTES]));
     }
