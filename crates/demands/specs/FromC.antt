@@ -196,8 +196,7 @@ pub record EveryCallFromC : Type 0 where
   -- nor where a buffer is too short
   pub panel-short : (f : ReadCall) → ReadsFromC f → f .answer ≡ pos 2 → Unchanged (pos 2) f
   -- 02 §5: however the text is cut, whoever goes on from the words of a start gets the panel's listing, to the byte, and the answer 1 at
-  -- its
-  -- end
+  -- its end
   pub panel-listing : (κs : Lfts 2) (words words′ panel panel′ : RefT (List ℤ)) (p w xlo xhi ylo yhi n : ℤ)
       → StartsPanelFromC κs words words′ panel panel′ p w xlo xhi ylo yhi n
       → (let s = settingsOf p w xlo xhi ylo yhi in AllYes (settingsQuestions s)

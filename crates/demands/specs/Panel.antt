@@ -61,9 +61,8 @@ abbrev pub TellsPanelOver : PanelCheck → Bool → Type 0
 TellsPanelOver c r = over-reads.Learnt tt (c, tt) r (c, tt)
 
 -- what a call with buffers that are long enough does to them: of the piece its first bytes are taken, those of "one line at a time", so
--- that
--- only the last of them may be an LF; a row goes to the front of the buffer for rows, and its later bytes keep their contents. What the
--- scratch buffer then holds is free.
+-- that only the last of them may be an LF; a row goes to the front of the buffer for rows, and its later bytes keep their contents. What
+-- the scratch buffer then holds is free.
 pub record Reading (piece rows rows′ : List ℕ) (f : PieceRead) : Type 0 where
   pub took : f .took ≤ length piece
   pub line : lfsIn (take (f .took - 1) piece) ≡ 0
@@ -118,7 +117,7 @@ pub record EveryPanel : Type 0 where
   pub short : (κs : Lfts 3) (c : PanelCheck) (scratch free piece : RefT (List ℕ)) (last : Bool) (rows rows′ : RefT (List ℕ)) (f : PieceRead)
       → ReadsPanel κs c scratch free piece last rows rows′ f → (length (now scratch) < 81) ⊎ (length (now rows) < 160)
       → Unread c (now scratch) (now free) (now rows) (now rows′) f
-  -- whoever reads a check that began at a fresh machine, however the text is cut, gets the panel's listing, to the byte
+  -- whoever hands a text to a check that began at a fresh machine, however it is cut, gets the panel's listing, to the byte
   pub listing : (s : Settings) → AllYes (settingsQuestions s) → (c : PanelCheck) → StartsPanel (freshOf s) c
       → (text left scratch bytes : List ℕ) (d : PanelCheck) → RowsRead text c left scratch bytes d
       → FrontOf (jobListing (capacityOf s) (panelJob s text)) bytes (TellsPanelOver d true)

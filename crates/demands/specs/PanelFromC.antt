@@ -39,7 +39,7 @@ abbrev pub StartedPanel : Settings → (n : ℤ) (ws ps : List ℤ) → Type 0
 StartedPanel s n ws ps =
     (r : Answered) × Makes s r × (n ≡ answerNumber (r .answer)) × (c : PanelCheck) × StartsPanel (r .machine .bench) c × TellsPanel c ws ps
 
--- what a read is lent, and what that is after it, and its answer; a piece is lent for reading
+-- what a call is lent, and what that is after it, and its answer; a piece is lent for reading
 pub record ReadCall : Type 0 where
   pub lifetimes : Lfts 7
   pub words : RefT (List ℤ)
@@ -58,7 +58,7 @@ pub record ReadCall : Type 0 where
   pub written′ : RefT ℕ
   pub answer : ℤ
 
--- a read may do so
+-- a call may do so
 abbrev pub ReadsFromC : ReadCall → Type 0
 ReadsFromC f =
     read-reads.Learnt (f .lifetimes)
@@ -74,7 +74,7 @@ readTold f =
 abbrev pub Unchanged : (answer : ℤ) → ReadCall → Type 0
 Unchanged n f = readTold f ≡ unchanged n (now (f .words)) (now (f .panel)) (now (f .scratch)) (now (f .rows))
 
--- the own read of the panel's check c: 0 where there is more to come, 1 once all is handed out, 2 where a buffer is too short
+-- the call of the panel's check c itself: 0 where there is more to come, 1 once all is handed out, 2 where a buffer is too short
 abbrev pub OwnRead : PanelCheck → ReadCall → Type 0
 OwnRead c f =
     (read : PieceRead) × ((κs : Lfts 3) → ReadsPanel κs c (f .scratch) (f .free) (f .piece) (isLast (f .last)) (f .rows) (f .rows′) read)

@@ -76,8 +76,7 @@ abbrev pub waitHanded : Tally → (left took : ℕ) (line : List ℕ) → Handed
 waitHanded t left took line = record { row = []; took = took; line = line; check = checkAt Stage.Lines left (length line) t }
 
 -- Where a byte stands behind those taken, it is a byte too many, or the LF of the line; else the piece is used up, and where it was the
--- last
--- a line that lacks its LF ends there, or the text does.
+-- last a line that lacks its LF ends there, or the text does.
 abbrev pub comeOf : (more : Bool) (left : ℕ) (last : Bool) (held : ℕ) → Come
 comeOf more left last held =
     cond more (cond (eqb left 0) Come.TooMany (Come.Line 1)) (cond last (cond (eqb held 0) Come.End (Come.Line 0)) Come.Wait)
