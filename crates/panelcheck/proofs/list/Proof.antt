@@ -116,18 +116,22 @@ returns-2 c = tt
 
 loop-less-2 : tie.Need-loop-less-2 Inv-loop μ-loop
 loop-less-2 c =
-    let l = c .before .before .before .before .before .before .before .before .before .before .before .before .before .before .before .before .before .before .before .loop in
+    let a = c .before .before .before .before .before .before .before .before .before .before in
+    let u = a .before .before .before .before .before in
+    let l = u .before .before .before .before .loop in
     let i = l .inv in
     turn-piece (l .check) (l .scratch) (l .piece) (l .rows) (l .from) (l .len) (l .last) (l .waiting)
-    (sym (c .before .before .before .before .before .before .before .before .before .before .before .before .before .before .before .before .before .before .is-over .ensures) ∙ not-true _ (c .before .before .before .before .before .before .before .before .before .before .before .before .before .before .before .before .before .if1 .taken)) (i .0 .0) (i .1 .1 .0) (omega (arith, i .0 .1, i .1 .1 .1 .0))
+    (sym (u .before .before .before .is-over .ensures) ∙ not-true _ (u .before .before .if1 .taken))
+    (i .0 .0) (i .1 .1 .0) (omega (arith, i .0 .1, i .1 .1 .1 .0))
     (omega (arith, i .1 .0, i .1 .1 .1 .1)) (sym
-    (c .before .before .before .before .before .before .before .before .before .before .before .before .before .before .before .before .used-up .ensures) ∙ c .before .before .before .before .before .before .before .before .before .before .before .before .before .before .before .if2 .left) (c .before .before .before .before .before .before .before .before .before .before .read .ensures) _
+    (u .before .used-up .ensures) ∙ u .if2 .left) (a .read .ensures) _
 
 loop-again-2 : tie.Need-loop-again-2 Inv-loop μ-loop
 loop-again-2 c =
-    let l = c .before .before .before .before .before .before .before .before .before .before .before .before .before .before .before .before .before .before .before .loop in
+    let a = c .before .before .before .before .before .before .before .before .before .before in
+    let l = a .before .before .before .before .before .before .before .before .before .loop in
     let i = l .inv in
-    let read = c .before .before .before .before .before .before .before .before .before .before .read in
+    let read = a .read in
     let free = rw (c .before .written .given .1) at (c .before .before .before .write .ensures) in
     let rows : 1792 ≡ length (read .last .1 .1 .1 .1 .0) = search needs in (
       (search needs, i .0 .1),

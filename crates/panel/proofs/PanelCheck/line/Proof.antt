@@ -68,12 +68,14 @@ slice-aggregate-row : tie.Need-slice-aggregate-row
 slice-aggregate-row c = sym (length-take-le _ _ (within (c .before .before .before .before .before .before .before .before)))
 
 lf : (c : tie.After-row-arg)
-    → (let s = c .before .before .before .before .before .before .before .before .before .before .before .before .before .before .before .args in
-    let n = c .before .before .before .before .before .before .before .before .before .before .before .taken .result in
+    → (let a = c .before .before .before .before .before .before .before .before .before .before .before in
+    let s = a .before .before .before .before .args in
+    let n = a .taken .result in
     let k = c .before .before .come .given .0 .0 in (k ≤ s .self .left - n) × (n + k ≤ length (s .piece .now)))
 lf c =
-    let s = c .before .before .before .before .before .before .before .before .before .before .before .before .before .before .before .args in
-    let took = c .before .before .before .before .before .before .before .before .before .before .before .taken in
+    let a = c .before .before .before .before .before .before .before .before .before .before .before in
+    let s = a .before .before .before .before .args in
+    let took = a .taken in
     let few : took .result ≤ length (s .piece .now) = omega (arith, took .ensures, taken-few (s .self .left) (s .piece .now)) in
     lf-within (took .result) (length (s .piece .now)) (s .self .left - took .result) (s .last)
     (c .before .before .before .before .before .before .before .before .keep .result) _ few
@@ -99,9 +101,9 @@ same-length-2 c = search needs
 
 returns : tie.Need-returns
 returns c =
-    let s = c .before .before .before .before .before .before .before .before .before .before .before .before .before .before .before .before .before .args in
-    line-handed (s .self) (s .scratch .now) (s .piece .now) (s .last) (come
-    (c .before .before .before .before .before .before .before .before .before .before)) (sym
+    let a = c .before .before .before .before .before .before .before .before .before .before in
+    let s = a .before .before .before .before .before .before .before .args in
+    line-handed (s .self) (s .scratch .now) (s .piece .now) (s .last) (come a) (sym
     (c .before .before .before .before .enum-told .given .1) ∙ c .before .before .before .before .before .before .come-to .ensures)
     (c .before .before .too-long .ensures _)
 
@@ -113,9 +115,9 @@ same-length-4 c = search needs
 
 returns-2 : tie.Need-returns-2
 returns-2 c =
-    let s = c .before .before .before .before .before .before .before .before .before .before .before .before .before .before .before .before .before .args in
-    line-handed (s .self) (s .scratch .now) (s .piece .now) (s .last) (come
-    (c .before .before .before .before .before .before .before .before .before .before)) (sym
+    let a = c .before .before .before .before .before .before .before .before .before .before in
+    let s = a .before .before .before .before .before .before .before .args in
+    line-handed (s .self) (s .scratch .now) (s .piece .now) (s .last) (come a) (sym
     (c .before .before .before .before .enum-told2 .given .1) ∙ c .before .before .before .before .before .before .come-to .ensures)
     (c .before .before .total .ensures _)
 
@@ -138,9 +140,9 @@ same-length-7 c = search needs
 
 returns-4 : tie.Need-returns-4
 returns-4 c =
-    let s = c .before .before .before .before .before .before .before .before .before .before .before .before .before .before .before .before .before .before .before .args in
-    line-handed (s .self) (s .scratch .now) (s .piece .now) (s .last) (come
-    (c .before .before .before .before .before .before .before .before .before .before .before .before)) (sym
+    let a = c .before .before .before .before .before .before .before .before .before .before .before .before in
+    let s = a .before .before .before .before .before .before .before .args in
+    line-handed (s .self) (s .scratch .now) (s .piece .now) (s .last) (come a) (sym
     (c .before .before .before .before .before .before .come .given .1)
     ∙ c .before .before .before .before .before .before .before .before .come-to .ensures)
     (c .before .before .row .ensures _)
