@@ -1,8 +1,8 @@
 // The bench after so many ticks. No tick is done: the block in work gives its point by closed forms, so the cost does not grow with the
 // ticks, on lines and arcs alike. At a block's end nothing comes into work: a job loads its next block itself.
 ghost use Rattle.std.specs.Prelude.{◌≡◌, true};
-ghost use Rattle.bench.specs.computed.Bench.{soundOf};
-ghost use Rattle.ahead.specs.computed.Ahead.{tickingOf};
+ghost use Rattle.bench.specs.computed.Bench.{sound_of};
+ghost use Rattle.ahead.specs.computed.Ahead.{ticking_of};
 
 use bench::Bench;
 use finish::works;
@@ -11,8 +11,8 @@ use settings::capacity;
 
 // The record after so many ticks, of a record that has been tested; ticks that are no working ones leave it as it was.
 pub fn after_ticks(m: Bench, ticks: u64) -> Bench
-    requires { soundOf m ≡ true }
-    ensures { result ≡ (tickingOf ticks m).bench }
+    requires { sound_of m ≡ true }
+    ensures { result ≡ (ticking_of ticks m).bench }
 {
     if !works(m) {
         return m;

@@ -1,14 +1,14 @@
 // An arc in work: the points that it visits, its test, one cycle onward or many, and what they are charged.
 ghost use Rattle.std.specs.Prelude.{◌≡◌, true, ◌<◌};
-ghost use Rattle.plane.specs.Travel.{insideOf, visitsInside};
+ghost use Rattle.plane.specs.Travel.{inside_of, visits_inside};
 ghost use Rattle.plane.specs.Point.{Near};
 ghost use Rattle.plane.specs.computed.Travel.{Wide};
-ghost use Rattle.circle.specs.Circle.{onCircle};
-ghost use Rattle.circle.specs.Circle.{quarterOf};
-ghost use Rattle.arc.specs.Centre.{seenFrom};
-ghost use Rattle.arc.specs.computed.Charge.{arcCharge, arcSpanOf, arcPaidOf};
-ghost use Rattle.arc.specs.computed.Arc.{StandsOnArc, arcAfter, arcCycles, arcAt, arcStepped, centres};
-ghost use Rattle.arc.specs.Arc.{arcWidth};
+ghost use Rattle.circle.specs.Circle.{on_circle};
+ghost use Rattle.circle.specs.Circle.{quarter_of};
+ghost use Rattle.arc.specs.Centre.{seen_from};
+ghost use Rattle.arc.specs.computed.Charge.{arc_charge, arc_span_of, arc_paid_of};
+ghost use Rattle.arc.specs.computed.Arc.{StandsOnArc, arc_after, arc_cycles, arc_at, arc_stepped, centres};
+ghost use Rattle.arc.specs.Arc.{arc_width};
 
 use crate::centre::{back, room, seen};
 use charges::Span;
@@ -45,7 +45,7 @@ pub struct ArcPaid {
 
 // Whether the centre is one that an arc in work can have.
 fn is_centre(p: Point) -> bool
-    ensures { result ≡ insideOf centres p }
+    ensures { result ≡ inside_of centres p }
 {
     let range = Range {
         lower: -2_000_000,
@@ -58,7 +58,7 @@ impl Arc {
     // Question 15: whether the end is a circle point.
     pub fn ends_on_circle(self) -> bool
         requires { Near 2000000 self.centre × Near 2000000 self.end }
-        ensures { result ≡ onCircle self.square (seenFrom self.centre self.end) }
+        ensures { result ≡ on_circle self.square (seen_from self.centre self.end) }
     {
         let centre = self.centre;
         let end = self.end;
@@ -67,8 +67,8 @@ impl Arc {
 
     // Question 16: whether every point still to visit is in travel, without walking there.
     pub fn stays(self, travel: Travel, at: Point) -> bool
-        requires { StandsOnArc self at × Wide travel × (insideOf travel at ≡ true) }
-        ensures { result ≡ visitsInside travel (arcAfter self at) (arcCycles self at) }
+        requires { StandsOnArc self at × Wide travel × (inside_of travel at ≡ true) }
+        ensures { result ≡ visits_inside travel (arc_after self at) (arc_cycles self at) }
     {
         let centre = self.centre;
         let end = self.end;
@@ -84,8 +84,8 @@ impl Arc {
 
     // Whether this is an arc in work at this point, whatever its numbers.
     pub fn is_at(self, travel: Travel, at: Point) -> bool
-        requires { Wide travel × (insideOf travel at ≡ true) }
-        ensures { result ≡ arcAt travel self at }
+        requires { Wide travel × (inside_of travel at ≡ true) }
+        ensures { result ≡ arc_at travel self at }
     {
         let centre = self.centre;
         let end = self.end;
@@ -107,7 +107,7 @@ impl Arc {
     // One cycle onward.
     pub fn step(self, at: Point) -> Stepped
         requires { StandsOnArc self at }
-        ensures { result ≡ arcStepped self at }
+        ensures { result ≡ arc_stepped self at }
     {
         let centre = self.centre;
         let turn = self.turn;
@@ -124,7 +124,7 @@ impl Arc {
     // The span from here to the end, without walking it: its cycles, and what they are charged.
     pub fn span(self, at: Point) -> Span
         requires { StandsOnArc self at }
-        ensures { result ≡ arcSpanOf self at }
+        ensures { result ≡ arc_span_of self at }
     {
         let centre = self.centre;
         let end = self.end;
@@ -134,8 +134,8 @@ impl Arc {
 
     // The cycles of that span alone, from those of a quarter turn, which the caller knows: no root is taken.
     pub fn cycles(self, quarter: u64, at: Point) -> u64
-        requires { StandsOnArc self at × (quarter ≡ quarterOf self.square) }
-        ensures { result ≡ arcCycles self at }
+        requires { StandsOnArc self at × (quarter ≡ quarter_of self.square) }
+        ensures { result ≡ arc_cycles self at }
     {
         let centre = self.centre;
         let end = self.end;
@@ -152,7 +152,7 @@ impl Arc {
     // What the next cycle is charged.
     pub fn charge(self, at: Point) -> u64
         requires { StandsOnArc self at }
-        ensures { result ≡ arcCharge self at }
+        ensures { result ≡ arc_charge self at }
     {
         let centre = self.centre;
         let turn = self.turn;
@@ -161,8 +161,8 @@ impl Arc {
 
     // The most cycles from here on, at most so many, whose charges the sum holds, without walking them.
     pub fn paid(self, at: Point, most: u64, sum: u64) -> ArcPaid
-        requires { StandsOnArc self at × (most < arcCycles self at) }
-        ensures { result ≡ arcPaidOf self at most sum }
+        requires { StandsOnArc self at × (most < arc_cycles self at) }
+        ensures { result ≡ arc_paid_of self at most sum }
     {
         let centre = self.centre;
         let turn = self.turn;
@@ -177,7 +177,7 @@ impl Arc {
 
     // The register width that a load answers.
     pub fn width(self) -> u64
-        ensures { result ≡ arcWidth self }
+        ensures { result ≡ arc_width self }
     {
         whole::width::root_width(self.square)
     }

@@ -2,8 +2,8 @@
 ghost use Rattle.std.specs.Prelude.{◌≡◌};
 ghost use Rattle.plane.specs.Point.{Near};
 ghost use Rattle.plane.specs.computed.Travel.{Wide};
-ghost use Rattle.arc.specs.computed.Centre.{Reach, roomOf};
-ghost use Rattle.arc.specs.Centre.{seenFrom, backFrom};
+ghost use Rattle.arc.specs.computed.Centre.{Reach, room_of};
+ghost use Rattle.arc.specs.Centre.{seen_from, back_from};
 
 use circle::plane::Offset;
 use clearance::Room;
@@ -13,7 +13,7 @@ use plane::travel::Travel;
 // A point seen from the centre.
 pub fn seen(centre: Point, at: Point) -> Offset
     requires { Near 2000000 centre × Near 2000000 at }
-    ensures { result ≡ seenFrom centre at }
+    ensures { result ≡ seen_from centre at }
 {
     Offset {
         x: at.x - centre.x,
@@ -24,7 +24,7 @@ pub fn seen(centre: Point, at: Point) -> Offset
 // A point seen from the centre, back on the table.
 pub fn back(centre: Point, seen: Offset) -> Point
     requires { Near 2000000 centre × Reach seen }
-    ensures { result ≡ backFrom centre seen }
+    ensures { result ≡ back_from centre seen }
 {
     Point {
         x: centre.x + seen.x,
@@ -35,7 +35,7 @@ pub fn back(centre: Point, seen: Offset) -> Point
 // How far travel reaches from the centre on each side.
 pub fn room(travel: Travel, centre: Point) -> Room
     requires { Near 2000000 centre × Wide travel }
-    ensures { result ≡ roomOf travel centre }
+    ensures { result ≡ room_of travel centre }
 {
     let x = travel.x;
     let y = travel.y;

@@ -10,9 +10,9 @@ unfoldable pub fresh_of : Settings → Bench
 fresh_of s = record { settings = s; at = record { x = pos 0; y = pos 0 }; held = false; remainder = 0; work = Work.Nothing }
 
 -- the record with another point, remainder and work; settings and mark stay
-unfoldable pub movedOf : Bench → (at : Point) (remainder : ℕ) → Work → Bench
-movedOf m at r w = record { settings = m.settings; at = at; held = m.held; remainder = r; work = w }
+unfoldable pub moved_of : Bench → (at : Point) (remainder : ℕ) → Work → Bench
+moved_of m at r w = record { settings = m.settings; at = at; held = m.held; remainder = r; work = w }
 
 -- "Hold and release only set a mark."
-abbrev pub markedOf : Bench → Bool → Bench
-markedOf m mark = record { settings = m.settings; at = m.at; held = mark; remainder = m.remainder; work = m.work }
+abbrev pub marked_of : Bench → Bool → Bench
+marked_of m mark = record { settings = m.settings; at = m.at; held = mark; remainder = m.remainder; work = m.work }

@@ -1,11 +1,11 @@
 // The bench of a cutting table: 01's machine, which works one block at a time. Crate machine puts a queue behind it; the check of a job
 // works at a bench alone. It goes in by value and comes back by value, beside the answer.
 ghost use Rattle.std.specs.Prelude.{◌≡◌, true, length};
-ghost use Rattle.bench.specs.computed.Bench.{soundParts, soundOf};
-ghost use Rattle.bench.specs.Bench.{fresh_of, movedOf};
+ghost use Rattle.bench.specs.computed.Bench.{sound_parts, sound_of};
+ghost use Rattle.bench.specs.Bench.{fresh_of, moved_of};
 ghost use Rattle.run.specs.computed.Run.{written};
-ghost use Rattle.bench.specs.computed.Run.{reportOf, run_of};
-ghost use Rattle.bench.specs.computed.Calls.{makeOf, load_of, tickOf};
+ghost use Rattle.bench.specs.computed.Run.{report_of, run_of};
+ghost use Rattle.bench.specs.computed.Calls.{make_of, load_of, tick_of};
 
 use block::Block;
 use block::questions::load_no;
@@ -78,7 +78,7 @@ pub struct Ran {
 
 // Whether a record of these parts is sound. The parts and not the record, so that a call copies little.
 pub fn sound(settings: Settings, at: Point, remainder: u64, work: Work) -> bool
-    ensures { result ≡ soundParts settings at remainder work }
+    ensures { result ≡ sound_parts settings at remainder work }
 {
     if settings_no(settings) != 0 {
         return false;
@@ -95,7 +95,7 @@ pub fn sound(settings: Settings, at: Point, remainder: u64, work: Work) -> bool
 }
 
 fn report_of(ended: bool, spent: bool) -> Report
-    ensures { result ≡ reportOf ended spent }
+    ensures { result ≡ report_of ended spent }
 {
     if ended {
         return Report::Ended;
@@ -123,7 +123,7 @@ impl Bench {
     // The only place beside `fresh` that writes a record; public for what moves a bench without ticks (finish, ahead, look) or puts a queue
     // behind it (machine).
     pub fn moved(self, at: Point, remainder: u64, work: Work) -> Bench
-        ensures { result ≡ movedOf self at remainder work }
+        ensures { result ≡ moved_of self at remainder work }
     {
         let settings = self.settings;
         Bench {
@@ -136,7 +136,7 @@ impl Bench {
     }
 
     pub fn make(settings: Settings) -> Answered
-        ensures { result ≡ makeOf settings }
+        ensures { result ≡ make_of settings }
     {
         let no = settings_no(settings);
         if no != 0 {
@@ -153,7 +153,7 @@ impl Bench {
 
     // Gives the bench a block, which begins where it stands, of a record that has been tested.
     pub fn load_sound(self, b: Block) -> Answered
-        requires { soundOf self ≡ true }
+        requires { sound_of self ≡ true }
         ensures { result ≡ load_of self b }
     {
         let settings = self.settings;
@@ -177,8 +177,8 @@ impl Bench {
 
     // One clock tick, of a record that has been tested.
     pub fn tick_sound(self) -> Ticked
-        requires { soundOf self ≡ true }
-        ensures { result ≡ tickOf self }
+        requires { sound_of self ≡ true }
+        ensures { result ≡ tick_of self }
     {
         let settings = self.settings;
         let at = self.at;
@@ -225,7 +225,7 @@ impl Bench {
 
     // The same of a record that has been tested.
     pub fn run_sound(self, budget: u64, out: &mut [u8]) -> Ran
-        requires { soundOf self ≡ true }
+        requires { sound_of self ≡ true }
         ensures value { result ≡ (run_of self budget (length out.old)).ran }
         ensures out_after { out.new ≡ written (run_of self budget (length out.old)).bytes out.old }
     {

@@ -2,9 +2,9 @@
 use Rattle.std.specs.Prelude.{ℕ, ◌*◌}
 use Rattle.block.specs.declared.Block.{Block}
 
-abbrev pub atFeed : (f : ℕ) → Block → Block
-atFeed f b = record { path = b.path; end = b.end; feed = f }
+abbrev pub at_feed : (f : ℕ) → Block → Block
+at_feed f b = record { path = b.path; end = b.end; feed = f }
 
 -- the same block, its feed number counted in a unit u times as fine
 abbrev pub finer : (u : ℕ) → Block → Block
-finer u b = atFeed (u * b.feed) b
+finer u b = at_feed (u * b.feed) b

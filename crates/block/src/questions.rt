@@ -1,11 +1,11 @@
 // Load's questions in document 01's order. Each answers the number of the first "no", or 0.
 ghost use Rattle.std.specs.Prelude.{◌≡◌, true};
-ghost use Rattle.plane.specs.Travel.{insideOf};
+ghost use Rattle.plane.specs.Travel.{inside_of};
 ghost use Rattle.plane.specs.Point.{Near};
 ghost use Rattle.plane.specs.computed.Travel.{Wide};
-ghost use Rattle.block.specs.Block.{arcOf};
+ghost use Rattle.block.specs.Block.{arc_of};
 ghost use Rattle.block.specs.computed.Questions.{Begins};
-ghost use Rattle.block.specs.Questions.{feedRight, offsetRight, arcNo, pathNo, loadNo};
+ghost use Rattle.block.specs.Questions.{feed_right, offset_right, arc_no, path_no, load_no};
 
 use crate::{Block, Path};
 use arc::arc::Arc;
@@ -16,7 +16,7 @@ use plane::travel::{Travel, inside};
 use whole::sign::part;
 
 fn feed_right(capacity: u64, feed: u64) -> bool
-    ensures { result ≡ feedRight capacity feed }
+    ensures { result ≡ feed_right capacity feed }
 {
     if feed < 1 {
         return false;
@@ -26,7 +26,7 @@ fn feed_right(capacity: u64, feed: u64) -> bool
 
 // Question 14, for any I and J.
 fn offset_right(o: Offset) -> bool
-    ensures { result ≡ offsetRight o }
+    ensures { result ≡ offset_right o }
 {
     let x = part(o.x);
     let y = part(o.y);
@@ -44,8 +44,8 @@ fn offset_right(o: Offset) -> bool
 
 // The arc that a block makes from its start.
 pub fn arc_of(start: Point, b: Block, turn: Turn, centre: Offset) -> Arc
-    requires { Near 1000000 start × (offsetRight centre ≡ true) }
-    ensures { result ≡ arcOf start b turn centre }
+    requires { Near 1000000 start × (offset_right centre ≡ true) }
+    ensures { result ≡ arc_of start b turn centre }
 {
     let x = part(centre.x);
     let y = part(centre.y);
@@ -62,7 +62,7 @@ pub fn arc_of(start: Point, b: Block, turn: Turn, centre: Offset) -> Arc
 // Questions 15 and 16 of an arc that begins here.
 fn arc_no(travel: Travel, start: Point, a: Arc) -> u64
     requires { Begins travel start a }
-    ensures { result ≡ arcNo travel a start }
+    ensures { result ≡ arc_no travel a start }
 {
     if !a.ends_on_circle() {
         return 15;
@@ -75,8 +75,8 @@ fn arc_no(travel: Travel, start: Point, a: Arc) -> u64
 
 // Questions 13 to 16.
 fn path_no(travel: Travel, start: Point, b: Block) -> u64
-    requires { Wide travel × (insideOf travel start ≡ true) × (insideOf travel b.end ≡ true) }
-    ensures { result ≡ pathNo travel start b b.path }
+    requires { Wide travel × (inside_of travel start ≡ true) × (inside_of travel b.end ≡ true) }
+    ensures { result ≡ path_no travel start b b.path }
 {
     let end = b.end;
     let path = b.path;
@@ -98,8 +98,8 @@ fn path_no(travel: Travel, start: Point, b: Block) -> u64
 
 // Questions 10 to 16.
 pub fn load_no(capacity: u64, travel: Travel, room: bool, start: Point, b: Block) -> u64
-    requires { Wide travel × (insideOf travel start ≡ true) }
-    ensures { result ≡ loadNo capacity travel room start b }
+    requires { Wide travel × (inside_of travel start ≡ true) }
+    ensures { result ≡ load_no capacity travel room start b }
 {
     if !room {
         return 10;

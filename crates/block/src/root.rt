@@ -1,10 +1,10 @@
 // The root of a block: q of a line, the cycles of a quarter turn of an arc. Its cycles are known from it without taking one.
 ghost use Rattle.std.specs.Prelude.{◌≡◌, true, eqb};
-ghost use Rattle.line.specs.Line.{lineCycles};
+ghost use Rattle.line.specs.Line.{line_cycles};
 ghost use Rattle.line.specs.computed.Line.{short_of};
-ghost use Rattle.block.specs.Block.{squareOf, blockCycles};
-ghost use Rattle.block.specs.Questions.{offsetRight};
-ghost use Rattle.block.specs.Chain.{rootOf};
+ghost use Rattle.block.specs.Block.{square_of, block_cycles};
+ghost use Rattle.block.specs.Questions.{offset_right};
+ghost use Rattle.block.specs.Chain.{root_of};
 ghost use Rattle.block.specs.computed.Chain.{Accepted};
 
 use crate::questions::arc_of;
@@ -17,7 +17,7 @@ use whole::sign::part;
 // Whether a line takes so many cycles.
 fn takes(start: Point, end: Point, q: u64) -> bool
     requires { short_of start end ≡ true }
-    ensures { result ≡ eqb q (lineCycles start end) }
+    ensures { result ≡ eqb q (line_cycles start end) }
 {
     let way = between(start, end);
     let x = way.x;
@@ -27,8 +27,8 @@ fn takes(start: Point, end: Point, q: u64) -> bool
 
 // An arc's N, from its centre seen from the start.
 fn square(o: Offset) -> u64
-    requires { offsetRight o ≡ true }
-    ensures { result ≡ squareOf o }
+    requires { offset_right o ≡ true }
+    ensures { result ≡ square_of o }
 {
     let x = part(o.x);
     let y = part(o.y);
@@ -38,7 +38,7 @@ fn square(o: Offset) -> u64
 // Whether this is its root, by squares; any number may be asked.
 pub fn is_root(start: Point, b: Block, root: u64) -> bool
     requires { Accepted start b }
-    ensures { result ≡ eqb root (rootOf start b) }
+    ensures { result ≡ eqb root (root_of start b) }
 {
     let end = b.end;
     let path = b.path;
@@ -50,8 +50,8 @@ pub fn is_root(start: Point, b: Block, root: u64) -> bool
 
 // Its cycles, from its root.
 pub fn cycles_by(start: Point, b: Block, root: u64) -> u64
-    requires { Accepted start b × (root ≡ rootOf start b) }
-    ensures { result ≡ blockCycles start b }
+    requires { Accepted start b × (root ≡ root_of start b) }
+    ensures { result ≡ block_cycles start b }
 {
     let path = b.path;
     match path {

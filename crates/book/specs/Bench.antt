@@ -2,14 +2,14 @@
 -- The feed capacity q0 is a setting and never changes.
 use Rattle.std.specs.Prelude.{Bool, true, false, cond, List, [], ◌∷◌, ℕ, zero, suc, ◌+◌, ◌-◌, ◌*◌, min, leb, eqb, pos, length}
 use Rattle.plane.specs.declared.point.Point.{Point}
-use Rattle.plane.specs.Pulse.{pulsesBetween}
-use Rattle.plane.specs.Byte.{cycleByte}
+use Rattle.plane.specs.Pulse.{pulses_between}
+use Rattle.plane.specs.Byte.{cycle_byte}
 use Rattle.divider.specs.declared.Fed.{Fed}
-use Rattle.divider.specs.Divider.{fedOf, addedAt}
+use Rattle.divider.specs.Divider.{fed_of, added_at}
 use Rattle.block.specs.declared.Block.{Block}
-use Rattle.block.specs.Block.{blockCycles, blockPoint}
-use Rattle.block.specs.Chain.{endAfter}
-use Rattle.block.specs.Charge.{blockCharge}
+use Rattle.block.specs.Block.{block_cycles, block_point}
+use Rattle.block.specs.Chain.{end_after}
+use Rattle.block.specs.Charge.{block_charge}
 
 -- "It holds a point, a mark, a remainder and the block in work with its start and its cycles done c."
 pub record BlockInWork : Type 0 where
@@ -28,38 +28,38 @@ pub record Bench : Type 0 where
   pub work : InWork
 
 -- "It begins as a fresh machine": "A fresh machine stands at (0, 0), idle, not held, remainder 0."
-abbrev pub freshBench : Bench
-freshBench = record { at = record { x = pos 0; y = pos 0 }; mark = false; remainder = 0; work = nothing }
+abbrev pub fresh_bench : Bench
+fresh_bench = record { at = record { x = pos 0; y = pos 0 }; mark = false; remainder = 0; work = nothing }
 
-abbrev pub isNothing : InWork → Bool
-isNothing nothing = true
-isNothing (working j) = false
+abbrev pub is_nothing : InWork → Bool
+is_nothing nothing = true
+is_nothing (working j) = false
 
 -- where the block in work ends, else the point
 abbrev pub end_in : (at : Point) → InWork → Point
 end_in at nothing = at
-end_in at (working j) = endAfter j.start j.block
+end_in at (working j) = end_after j.start j.block
 
-abbrev pub workEnd : Bench → Point
-workEnd b = end_in b.at b.work
+abbrev pub work_end : Bench → Point
+work_end b = end_in b.at b.work
 
 -- the cycles that the block in work has still to do
-abbrev pub leftIn : InWork → ℕ
-leftIn nothing = 0
-leftIn (working j) = blockCycles j.start j.block - j.done
+abbrev pub left_in : InWork → ℕ
+left_in nothing = 0
+left_in (working j) = block_cycles j.start j.block - j.done
 
 -- "the block comes into work with c 0", at the point
 abbrev pub begun : Bench → Block → Bench
 begun b k = record { at = b.at; mark = b.mark; remainder = b.remainder; work = working (record { block = k; start = b.at; done = 0 }) }
 
 -- 01, "The remainder grows by f."; 02 §2, "A tick adds 1,000 × f."
-abbrev pub addedBy : Block → ℕ
-addedBy k = addedAt k.feed
+abbrev pub added_by : Block → ℕ
+added_by k = added_at k.feed
 
 -- 01, "If it is then q0 or more, q0 comes off"; 02 §2, "A cycle is due when the remainder reaches its charge times q0, at most one a tick."
 -- The charge is that of the cycle to come, the one after those done.
-abbrev pub cycleDue : (q0 : ℕ) → BlockInWork → ℕ
-cycleDue q0 j = blockCharge j.start j.block j.done * q0
+abbrev pub cycle_due : (q0 : ℕ) → BlockInWork → ℕ
+cycle_due q0 j = block_charge j.start j.block j.done * q0
 
 -- ---- tick
 
@@ -73,13 +73,13 @@ resting b = record { byte = 0; after = b }
 
 -- ".. c grows by 1 and the point becomes the one of "Lines" or "Arcs" after c cycles. At c = k the block has ended and nothing is in work.
 -- The byte tells the pulses, the cycle and the end, coded as under "Ticks and runs"."
-unfoldable pub cycleTick : Bench → BlockInWork → (remainder : ℕ) → Ticked
-cycleTick b j r =
+unfoldable pub cycle_tick : Bench → BlockInWork → (remainder : ℕ) → Ticked
+cycle_tick b j r =
     let c = j.done + 1 in
-    let at = blockPoint j.start j.block c in
-    let last = eqb c (blockCycles j.start j.block) in
+    let at = block_point j.start j.block c in
+    let last = eqb c (block_cycles j.start j.block) in
     record {
-      byte = cycleByte (pulsesBetween b.at at) last;
+      byte = cycle_byte (pulses_between b.at at) last;
       after = record {
         at = at;
         mark = b.mark;
@@ -89,18 +89,18 @@ cycleTick b j r =
     }
 
 -- after the divider's tick: a working tick without a cycle has byte 0
-abbrev pub fedTick : Bench → BlockInWork → Fed → Ticked
-fedTick b j f =
-    cond f.cycle (cycleTick b j f.remainder)
+abbrev pub fed_tick : Bench → BlockInWork → Fed → Ticked
+fed_tick b j f =
+    cond f.cycle (cycle_tick b j f.remainder)
     (record { byte = 0; after = record { at = b.at; mark = b.mark; remainder = f.remainder; work = b.work } })
 
 -- "Tick: with a block and no mark it is a working tick. .. Any other tick gives 0 and changes nothing."
-abbrev pub tickWith : (q0 : ℕ) → Bench → InWork → Ticked
-tickWith q0 b nothing = resting b
-tickWith q0 b (working j) = cond b.mark (resting b) (fedTick b j (fedOf (cycleDue q0 j) (addedBy j.block) b.remainder))
+abbrev pub tick_with : (q0 : ℕ) → Bench → InWork → Ticked
+tick_with q0 b nothing = resting b
+tick_with q0 b (working j) = cond b.mark (resting b) (fed_tick b j (fed_of (cycle_due q0 j) (added_by j.block) b.remainder))
 
-unfoldable pub benchTick : (q0 : ℕ) → Bench → Ticked
-benchTick q0 b = tickWith q0 b b.work
+unfoldable pub bench_tick : (q0 : ℕ) → Bench → Ticked
+bench_tick q0 b = tick_with q0 b b.work
 
 -- ---- run
 
@@ -111,23 +111,23 @@ pub record TicksDone : Type 0 where
   pub ended : Bool
 
 -- a tick in front of what follows, of which there is nothing where the tick ended the block
-abbrev pub inFront : (ended : Bool) → Ticked → TicksDone → TicksDone
-inFront true t s = record { bytes = t.byte ∷ []; last = t.after; ended = true }
-inFront false t s = record { bytes = t.byte ∷ s.bytes; last = s.last; ended = s.ended }
+abbrev pub in_front : (ended : Bool) → Ticked → TicksDone → TicksDone
+in_front true t s = record { bytes = t.byte ∷ []; last = t.after; ended = true }
+in_front false t s = record { bytes = t.byte ∷ s.bytes; last = s.last; ended = s.ended }
 
 -- "Run: ticks until the budget or the buffer is used up or the block ends"
-unfoldable pub ticksDone : (q0 : ℕ) → (most : ℕ) → Bench → TicksDone
-ticksDone q0 zero b = record { bytes = []; last = b; ended = false }
-ticksDone q0 (suc n) b = let t = benchTick q0 b in inFront (isNothing t.after.work) t (ticksDone q0 n t.after)
+unfoldable pub ticks_done : (q0 : ℕ) → (most : ℕ) → Bench → TicksDone
+ticks_done q0 zero b = record { bytes = []; last = b; ended = false }
+ticks_done q0 (suc n) b = let t = bench_tick q0 b in in_front (is_nothing t.after.work) t (ticks_done q0 n t.after)
 
 pub data Report : Type 0 where
   idle held ended spent full : Report
 
 -- 01, Ticks and runs: "else ended, spent or full, the first that is true"
-abbrev pub reportOf : (blockEnded budgetUsed : Bool) → Report
-reportOf true budgetUsed = ended
-reportOf false true = spent
-reportOf false false = full
+abbrev pub report_of : (block_ended budget_used : Bool) → Report
+report_of true budget_used = ended
+report_of false true = spent
+report_of false false = full
 
 -- what a run gives: its report, its bytes and the bench after it
 pub record Ran : Type 0 where
@@ -135,14 +135,14 @@ pub record Ran : Type 0 where
   pub bytes : List ℕ
   pub after : Bench
 
-abbrev pub ranOver : (budget : ℕ) → TicksDone → Ran
-ranOver budget s = record { report = reportOf s.ended (leb budget (length s.bytes)); bytes = s.bytes; after = s.last }
+abbrev pub ran_over : (budget : ℕ) → TicksDone → Ran
+ran_over budget s = record { report = report_of s.ended (leb budget (length s.bytes)); bytes = s.bytes; after = s.last }
 
 -- ".. none if idle or held": "It answers idle or held (idle first) with 0 ticks"
-abbrev pub runWith : (q0 : ℕ) → Bench → InWork → (budget buffer : ℕ) → Ran
-runWith q0 b nothing budget buffer = record { report = idle; bytes = []; after = b }
-runWith q0 b (working j) budget buffer =
-    cond b.mark (record { report = held; bytes = []; after = b }) (ranOver budget (ticksDone q0 (min budget buffer) b))
+abbrev pub run_with : (q0 : ℕ) → Bench → InWork → (budget buffer : ℕ) → Ran
+run_with q0 b nothing budget buffer = record { report = idle; bytes = []; after = b }
+run_with q0 b (working j) budget buffer =
+    cond b.mark (record { report = held; bytes = []; after = b }) (ran_over budget (ticks_done q0 (min budget buffer) b))
 
-unfoldable pub benchRun : (q0 : ℕ) → Bench → (budget buffer : ℕ) → Ran
-benchRun q0 b budget buffer = runWith q0 b b.work budget buffer
+unfoldable pub bench_run : (q0 : ℕ) → Bench → (budget buffer : ℕ) → Ran
+bench_run q0 b budget buffer = run_with q0 b b.work budget buffer

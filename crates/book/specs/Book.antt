@@ -5,10 +5,10 @@ use Rattle.std.specs.Prelude.{Bool, true, false, List, [], ◌∷◌, ◌++◌, 
 use Rattle.plane.specs.declared.point.Point.{Point}
 use Rattle.plane.specs.declared.travel.Travel.{Travel}
 use Rattle.block.specs.declared.Block.{Block}
-use Rattle.block.specs.Block.{blockWidth}
-use Rattle.block.specs.Questions.{loadNo}
-use Rattle.block.specs.Chain.{chainEnd, chainCycles}
-use Rattle.book.specs.Bench.{InWork, Bench, Report, freshBench, workEnd, leftIn, begun, benchTick, benchRun}
+use Rattle.block.specs.Block.{block_width}
+use Rattle.block.specs.Questions.{load_no}
+use Rattle.block.specs.Chain.{chain_end, chain_cycles}
+use Rattle.book.specs.Bench.{InWork, Bench, Report, fresh_bench, work_end, left_in, begun, bench_tick, bench_run}
 
 -- "It holds a point, a mark, a remainder and the block in work with its start and its cycles done c." 02 §3: "The machine shall hold up to
 -- 16 blocks after the one in work, first come first cut." The one that comes next is in front.
@@ -17,29 +17,29 @@ pub record Book : Type 0 where
   pub waiting : List Block
 
 -- "It begins as a fresh machine"
-abbrev pub freshBook : Book
-freshBook = record { bench = freshBench; waiting = [] }
+abbrev pub fresh_book : Book
+fresh_book = record { bench = fresh_bench; waiting = [] }
 
 -- 02 §3: "The other load questions .. start from the end of the last waiting block, else of the block in work, else from the point"
 abbrev pub start_of : Book → Point
-start_of b = chainEnd (workEnd b.bench) b.waiting
+start_of b = chain_end (work_end b.bench) b.waiting
 
 -- 02 §3: "Question 10 becomes: are fewer than 16 waiting?"
-abbrev pub fewerWait : Book → Bool
-fewerWait b = ltb (length b.waiting) 16
+abbrev pub fewer_wait : Book → Bool
+fewer_wait b = ltb (length b.waiting) 16
 
 -- 02 §3: "the cycles still to do over the block in work and all waiting"
-abbrev pub figureOf : Book → ℕ
-figureOf b = leftIn b.bench.work + chainCycles (workEnd b.bench) b.waiting
+abbrev pub figure_of : Book → ℕ
+figure_of b = left_in b.bench.work + chain_cycles (work_end b.bench) b.waiting
 
 -- 02 §3: "When a block ends, the first waiting one becomes the one in work": from the point, with the remainder as it is
-abbrev pub settledWith : Bench → InWork → List Block → Book
-settledWith k (InWork.working j) l = record { bench = k; waiting = l }
-settledWith k InWork.nothing [] = record { bench = k; waiting = [] }
-settledWith k InWork.nothing (b ∷ l) = record { bench = begun k b; waiting = l }
+abbrev pub settled_with : Bench → InWork → List Block → Book
+settled_with k (InWork.working j) l = record { bench = k; waiting = l }
+settled_with k InWork.nothing [] = record { bench = k; waiting = [] }
+settled_with k InWork.nothing (b ∷ l) = record { bench = begun k b; waiting = l }
 
 unfoldable pub settled : Bench → List Block → Book
-settled k l = settledWith k k.work l
+settled k l = settled_with k k.work l
 
 -- ---- the calls with their arguments, and what they answer
 
@@ -85,30 +85,30 @@ stopped b =
 -- "Load: the first no among 10 to 16, put to the book, is the answer and nothing changes. Else the block comes into work with c 0, and the
 -- answer is its register width." With a block in work it waits, behind those that came before it.
 abbrev pub loaded : Book → Block → (number : ℕ) → Entry
-loaded b k zero = answers (width (blockWidth (start_of b) k)) (settled b.bench (b.waiting ++ (k ∷ [])))
+loaded b k zero = answers (width (block_width (start_of b) k)) (settled b.bench (b.waiting ++ (k ∷ [])))
 loaded b k (suc n) = answers (refused (suc n)) b
 
-unfoldable pub loadEntry : (q0 : ℕ) → Travel → Book → Block → Entry
-loadEntry q0 travel b k = loaded b k (loadNo q0 travel (fewerWait b) (start_of b) k)
+unfoldable pub load_entry : (q0 : ℕ) → Travel → Book → Block → Entry
+load_entry q0 travel b k = loaded b k (load_no q0 travel (fewer_wait b) (start_of b) k)
 
 -- ---- tick and run: the tick that ends a block brings in the next and does nothing for it, "and a run still stops there"
 
-abbrev pub tickEntry : (q0 : ℕ) → Book → Entry
-tickEntry q0 b = let t = benchTick q0 b.bench in answers (byte t.byte) (settled t.after b.waiting)
+abbrev pub tick_entry : (q0 : ℕ) → Book → Entry
+tick_entry q0 b = let t = bench_tick q0 b.bench in answers (byte t.byte) (settled t.after b.waiting)
 
 -- "It answers their number and the report, and its tick bytes are theirs."
-abbrev pub runEntry : (q0 : ℕ) → Book → (budget buffer : ℕ) → Entry
-runEntry q0 b budget buffer =
-    let r = benchRun q0 b.bench budget buffer in
+abbrev pub run_entry : (q0 : ℕ) → Book → (budget buffer : ℕ) → Entry
+run_entry q0 b budget buffer =
+    let r = bench_run q0 b.bench budget buffer in
     answers (ran r.report (length r.bytes) r.bytes) (settled r.after b.waiting)
 
 -- ---- the whole history
 
 module _ (q0 : ℕ) (travel : Travel) where
   abbrev pub entry : Book → Call → Entry
-  entry b (load k) = loadEntry q0 travel b k
-  entry b tick = tickEntry q0 b
-  entry b (run budget buffer) = runEntry q0 b budget buffer
+  entry b (load k) = load_entry q0 travel b k
+  entry b tick = tick_entry q0 b
+  entry b (run budget buffer) = run_entry q0 b budget buffer
   entry b hold = marked true b
   entry b release = marked false b
   entry b stop = stopped b

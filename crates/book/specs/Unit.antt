@@ -3,14 +3,14 @@ use Rattle.std.specs.Prelude.{List, [], ◌∷◌, ℕ}
 use Rattle.block.specs.Feed.{finer}
 use Rattle.book.specs.Book.{Call}
 
-abbrev pub finerCall : (u : ℕ) → Call → Call
-finerCall u (Call.load b) = Call.load (finer u b)
-finerCall u Call.tick = Call.tick
-finerCall u (Call.run budget buffer) = Call.run budget buffer
-finerCall u Call.hold = Call.hold
-finerCall u Call.release = Call.release
-finerCall u Call.stop = Call.stop
+abbrev pub finer_call : (u : ℕ) → Call → Call
+finer_call u (Call.load b) = Call.load (finer u b)
+finer_call u Call.tick = Call.tick
+finer_call u (Call.run budget buffer) = Call.run budget buffer
+finer_call u Call.hold = Call.hold
+finer_call u Call.release = Call.release
+finer_call u Call.stop = Call.stop
 
-abbrev pub finerCalls : (u : ℕ) → List Call → List Call
-finerCalls u [] = []
-finerCalls u (c ∷ cs) = finerCall u c ∷ finerCalls u cs
+abbrev pub finer_calls : (u : ℕ) → List Call → List Call
+finer_calls u [] = []
+finer_calls u (c ∷ cs) = finer_call u c ∷ finer_calls u cs

@@ -4,26 +4,26 @@ use Rattle.block.specs.declared.Block.{Block}
 use Rattle.bench.specs.declared.Answer.{Answer}
 use Rattle.bench.specs.declared.Tick.{Tick}
 use Rattle.bench.specs.declared.Report.{Report}
-use Rattle.encoding.specs.Words.{word_of, refusalOf}
+use Rattle.encoding.specs.Words.{word_of, refusal_of}
 
 -- ---- answers as numbers: a refusal is minus the number of the question
 
-abbrev pub answerNumber : Answer → ℤ
-answerNumber Answer.Done = pos 0
-answerNumber (Answer.Width n) = word_of n
-answerNumber (Answer.Refused n) = refusalOf n
+abbrev pub answer_number : Answer → ℤ
+answer_number Answer.Done = pos 0
+answer_number (Answer.Width n) = word_of n
+answer_number (Answer.Refused n) = refusal_of n
 
-abbrev pub tickNumber : Tick → ℤ
-tickNumber (Tick.Byte b) = pos b
-tickNumber (Tick.Refused n) = refusalOf n
+abbrev pub tick_number : Tick → ℤ
+tick_number (Tick.Byte b) = pos b
+tick_number (Tick.Refused n) = refusal_of n
 
-abbrev pub reportNumber : Report → ℤ
-reportNumber Report.Idle = pos 0
-reportNumber Report.Held = pos 1
-reportNumber Report.Ended = pos 2
-reportNumber Report.Spent = pos 3
-reportNumber Report.Full = pos 4
-reportNumber (Report.Refused n) = refusalOf n
+abbrev pub report_number : Report → ℤ
+report_number Report.Idle = pos 0
+report_number Report.Held = pos 1
+report_number Report.Ended = pos 2
+report_number Report.Spent = pos 3
+report_number Report.Full = pos 4
+report_number (Report.Refused n) = refusal_of n
 
 -- ---- a call on a record
 

@@ -1,12 +1,12 @@
 // The machine's answers as numbers: a refusal is minus the number of the question.
 ghost use Rattle.std.specs.Prelude.{◌≡◌};
-ghost use Rattle.calls.specs.Calls.{answerNumber, tickNumber, reportNumber};
+ghost use Rattle.calls.specs.Calls.{answer_number, tick_number, report_number};
 
 use bench::{Answer, Report, Tick};
 use encoding::number::{refusal, word};
 
 pub fn answer_number(answer: Answer) -> i64
-    ensures { result ≡ answerNumber answer }
+    ensures { result ≡ answer_number answer }
 {
     match answer {
         Answer::Done => 0,
@@ -16,7 +16,7 @@ pub fn answer_number(answer: Answer) -> i64
 }
 
 pub fn tick_number(tick: Tick) -> i64
-    ensures { result ≡ tickNumber tick }
+    ensures { result ≡ tick_number tick }
 {
     match tick {
         Tick::Byte(b) => b as i64,
@@ -25,7 +25,7 @@ pub fn tick_number(tick: Tick) -> i64
 }
 
 pub fn report_number(report: Report) -> i64
-    ensures { result ≡ reportNumber report }
+    ensures { result ≡ report_number report }
 {
     match report {
         Report::Idle => 0,

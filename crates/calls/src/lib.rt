@@ -1,12 +1,12 @@
 // The calls of the machine on 134 words that a caller in C owns. Each answers for any words: those that are no sound record get 9 and stay
 // as they are, and so do those of a refused load. No record is built: a call reads the words that it needs and writes those that change.
 ghost use Rattle.std.specs.Prelude.{◌≡◌};
-ghost use Rattle.encoding.specs.Words.{settingsOf};
+ghost use Rattle.encoding.specs.Words.{settings_of};
 ghost use Rattle.machine.specs.computed.Calls.{load_of};
-ghost use Rattle.record.specs.Words.{encodeOf, over};
-ghost use Rattle.record.specs.computed.Words.{machineIn};
+ghost use Rattle.record.specs.Words.{encode_of, over};
+ghost use Rattle.record.specs.computed.Words.{machine_in};
 ghost use Rattle.calls.specs.Calls.{WordCall};
-ghost use Rattle.calls.specs.computed.Calls.{tells, toldOf, made_of, tellsRun, toldRunOf};
+ghost use Rattle.calls.specs.computed.Calls.{tells, told_of, made_of, tells_run, told_run_of};
 ghost use Rattle.calls.specs.computed.Asked.{Asking, marks};
 
 use crate::answer::{answer_number, report_number, tick_number};
@@ -29,7 +29,7 @@ pub mod answer;
 
 // While idle or held it writes nothing.
 pub fn tick(words: &mut [i64; 134]) -> i64
-    ensures { tells result words.new ≡ toldOf words.old WordCall.tick }
+    ensures { tells result words.new ≡ told_of words.old WordCall.tick }
 {
     if !is_sound(words) {
         return -9;
@@ -52,7 +52,7 @@ pub fn tick(words: &mut [i64; 134]) -> i64
 // ---- hold, release, stop
 
 fn marked(words: &mut [i64; 134], held: bool) -> i64
-    ensures { tells result words.new ≡ toldOf words.old (marks held) }
+    ensures { tells result words.new ≡ told_of words.old (marks held) }
 {
     if !is_sound(words) {
         return -9;
@@ -62,19 +62,19 @@ fn marked(words: &mut [i64; 134], held: bool) -> i64
 }
 
 pub fn hold(words: &mut [i64; 134]) -> i64
-    ensures { tells result words.new ≡ toldOf words.old WordCall.hold }
+    ensures { tells result words.new ≡ told_of words.old WordCall.hold }
 {
     marked(words, true)
 }
 
 pub fn release(words: &mut [i64; 134]) -> i64
-    ensures { tells result words.new ≡ toldOf words.old WordCall.release }
+    ensures { tells result words.new ≡ told_of words.old WordCall.release }
 {
     marked(words, false)
 }
 
 pub fn stop(words: &mut [i64; 134]) -> i64
-    ensures { tells result words.new ≡ toldOf words.old WordCall.stop }
+    ensures { tells result words.new ≡ told_of words.old WordCall.stop }
 {
     if !is_sound(words) {
         return -9;
@@ -89,8 +89,8 @@ pub fn stop(words: &mut [i64; 134]) -> i64
 // nothing.
 pub fn load_sound(words: &mut [i64; 134], k: Bench, start: Point, b: Block) -> Answer
     requires { Asking words.old k start }
-    ensures value { result ≡ (load_of (machineIn words.old) b).answer }
-    ensures words_after { words.new ≡ over (encodeOf (load_of (machineIn words.old) b).machine) words.old }
+    ensures value { result ≡ (load_of (machine_in words.old) b).answer }
+    ensures words_after { words.new ≡ over (encode_of (load_of (machine_in words.old) b).machine) words.old }
 {
     let settings = k.settings;
     let travel = settings.travel;
@@ -105,7 +105,7 @@ pub fn load_sound(words: &mut [i64; 134], k: Bench, start: Point, b: Block) -> A
 
 // Gives the machine a block, which begins where the last one before it ends.
 pub fn load(words: &mut [i64; 134], b: Block) -> i64
-    ensures { tells result words.new ≡ toldOf words.old (WordCall.load b) }
+    ensures { tells result words.new ≡ told_of words.old (WordCall.load b) }
 {
     if !is_sound(words) {
         return -9;
@@ -134,7 +134,7 @@ fn lay(words: &mut [i64; 134], front: &[i64; 19])
 
 // Whatever the words were, those in front are a record after it: the bench's own, and no root, no cycle and no block to do.
 pub fn make(words: &mut [i64; 134], p: i64, w: i64, xlo: i64, xhi: i64, ylo: i64, yhi: i64) -> i64
-    ensures { tells result words.new ≡ made_of words.old (settingsOf p w xlo xhi ylo yhi) }
+    ensures { tells result words.new ≡ made_of words.old (settings_of p w xlo xhi ylo yhi) }
 {
     seen(words);
     let a = Bench::make(settings(p, w, xlo, xhi, ylo, yhi));
@@ -151,8 +151,8 @@ pub fn make(words: &mut [i64; 134], p: i64, w: i64, xlo: i64, xhi: i64, ylo: i64
 
 // The tick bytes go to the front of the buffer; the rest of it stays.
 pub fn run(words: &mut [i64; 134], budget: u64, out: &mut [u8], ticks: &mut u64) -> i64
-    ensures { tellsRun result ticks.new words.new out.new
-        ≡ toldRunOf words.old budget out.old }
+    ensures { tells_run result ticks.new words.new out.new
+        ≡ told_run_of words.old budget out.old }
 {
     *ticks = 0;
     if !is_sound(words) {

@@ -5,6 +5,6 @@ use Rattle.std.specs.Prelude.{◌≡◌, List, ℕ, ℤ, negsuc}
 pub record Refuses (ws ps : List ℤ) (old : List ℕ) (answer : ℤ) (len : ℕ) (ws' ps' : List ℤ) (new : List ℕ) : Type 0 where
   pub nine : answer ≡ negsuc 8
   pub none : len ≡ 0
-  pub record-kept : ws' ≡ ws
-  pub progress-kept : ps' ≡ ps
-  pub buffer-kept : new ≡ old
+  pub record_kept : ws' ≡ ws
+  pub progress_kept : ps' ≡ ps
+  pub buffer_kept : new ≡ old

@@ -2,9 +2,9 @@
 // record is that of a bench. What the check has come to stands in 9 words beside it. Words that are no sound record, or tell no progress,
 // get 9 and stay as they are.
 ghost use Rattle.std.specs.Prelude.{◌≡◌};
-ghost use Rattle.encoding.specs.Words.{settingsOf};
-ghost use Rattle.calls.specs.computed.Calls.{tells, benchMade};
-ghost use Rattle.ccheck.specs.computed.Check.{startProgress, TellsFill};
+ghost use Rattle.encoding.specs.Words.{settings_of};
+ghost use Rattle.calls.specs.computed.Calls.{tells, bench_made};
+ghost use Rattle.ccheck.specs.computed.Check.{start_progress, TellsFill};
 
 use bench::Bench;
 use calls::answer::answer_number;
@@ -26,8 +26,8 @@ pub extern "C" fn vz_check_start(
     ylo: i64,
     yhi: i64,
 ) -> i64
-    ensures bench { tells result bench.new ≡ benchMade (settingsOf p w xlo xhi ylo yhi) }
-    ensures progress { progress.new ≡ startProgress (settingsOf p w xlo xhi ylo yhi) }
+    ensures bench { tells result bench.new ≡ bench_made (settings_of p w xlo xhi ylo yhi) }
+    ensures progress { progress.new ≡ start_progress (settings_of p w xlo xhi ylo yhi) }
 {
     let a = Bench::make(settings(p, w, xlo, xhi, ylo, yhi));
     let answer = a.answer;

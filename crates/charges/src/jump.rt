@@ -1,8 +1,8 @@
 // So many cycles on from a point, without walking there: one root for the points of a quarter, one for the radius, and one for each place.
 ghost use Rattle.std.specs.Prelude.{◌≡◌, true, ◌*◌, ◌≤◌};
-ghost use Rattle.circle.specs.Circle.{largestN, onCircle};
-ghost use Rattle.circle.specs.Circle.{quarterOf};
-ghost use Rattle.charges.specs.computed.Jump.{place_in, placeAt, jumpStart, arrivedOf};
+ghost use Rattle.circle.specs.Circle.{largest_n, on_circle};
+ghost use Rattle.circle.specs.Circle.{quarter_of};
+ghost use Rattle.charges.specs.computed.Jump.{place_in, place_at, jump_start, arrived_of};
 ghost use Rattle.charges.specs.computed.Asked.{Placed, Started};
 
 use crate::Span;
@@ -56,16 +56,16 @@ fn place_in(n: u64, quarter: u64, quadrant: u64, i: u64) -> Place
 
 // The place of a rank, round and round.
 fn place_at(n: u64, quarter: u64, rank: u64) -> Place
-    requires { (1 ≤ n) × (n ≤ largestN) × (quarter ≡ quarterOf n) }
-    ensures { result ≡ placeAt n quarter rank }
+    requires { (1 ≤ n) × (n ≤ largest_n) × (quarter ≡ quarter_of n) }
+    ensures { result ≡ place_at n quarter rank }
 {
     place_in(n, quarter, rank / quarter % 4, rank % quarter)
 }
 
 impl Start {
     pub fn enter(n: u64, turn: Turn, p: Offset) -> Start
-        requires { onCircle n p ≡ true }
-        ensures { result ≡ jumpStart n turn p }
+        requires { on_circle n p ≡ true }
+        ensures { result ≡ jump_start n turn p }
     {
         let quarter = nearest_root(2 * n);
         let radius = nearest_root(n);
@@ -84,7 +84,7 @@ impl Start {
     // Where so many cycles lead, from 1 to those of a full turn.
     pub fn after(self, cycles: u64) -> Arrived
         requires { Started self × (1 ≤ cycles) × (cycles ≤ 4 * self.quarter) }
-        ensures { result ≡ arrivedOf self cycles }
+        ensures { result ≡ arrived_of self cycles }
     {
         let from = self.from;
         let place = place_at(self.n, self.quarter, from.cycles + cycles);

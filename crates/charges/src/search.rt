@@ -2,11 +2,11 @@
 // one for the guess, and one for each number of cycles that is tried. The guess was off by one at most wherever it was measured, so one
 // number or two are tried; whatever the guess, 44 at most.
 ghost use Rattle.std.specs.Prelude.{◌≡◌, true, ◌+◌, ◌-◌, ◌*◌, ◌/◌, ◌≤◌, ◌<◌, min};
-ghost use Rattle.circle.specs.Circle.{largestN, onCircle};
-ghost use Rattle.circle.specs.Circle.{quarterOf};
-ghost use Rattle.charges.specs.Paid.{mostPaid};
-ghost use Rattle.charges.specs.computed.Paid.{paidOf};
-ghost use Rattle.charges.specs.computed.Jump.{chargesOn, arrivedOf};
+ghost use Rattle.circle.specs.Circle.{largest_n, on_circle};
+ghost use Rattle.circle.specs.Circle.{quarter_of};
+ghost use Rattle.charges.specs.Paid.{most_paid};
+ghost use Rattle.charges.specs.computed.Paid.{paid_of};
+ghost use Rattle.charges.specs.computed.Jump.{charges_on, arrived_of};
 ghost use Rattle.charges.specs.computed.Asked.{Started};
 
 use crate::Paid;
@@ -34,7 +34,7 @@ fn less(a: u64, b: u64) -> u64
 // where a * a + b * b is about n. With d = m - 414 R that is a quadratic equation: 1,171,396 b = 1,000 d + 414 √(1,171,396 n - d * d).
 // The root is taken of a 512 * 512th, which is small enough for a quick one. Nothing is claimed of the number but its size.
 fn across_near(n: u64, radius: u64, toll: u64) -> u64
-    requires { (n ≤ largestN) × (radius ≤ 1414214) × (toll ≤ 2400000000) }
+    requires { (n ≤ largest_n) × (radius ≤ 1414214) × (toll ≤ 2400000000) }
     ensures { result ≤ 10000000 }
 {
     let middle = 414 * radius;
@@ -45,7 +45,7 @@ fn across_near(n: u64, radius: u64, toll: u64) -> u64
 
 // About the rank that has this toll, of which nothing is claimed but its size. Past the diagonal it is found from the quadrant's other end.
 fn rank_near(n: u64, quarter: u64, radius: u64, toll: u64) -> u64
-    requires { (n ≤ largestN) × (1 ≤ quarter) × (quarter ≤ 2000000) × (radius ≤ 1414214) × (toll ≤ 20000000000) }
+    requires { (n ≤ largest_n) × (1 ≤ quarter) × (quarter ≤ 2000000) × (radius ≤ 1414214) × (toll ≤ 20000000000) }
     ensures { result ≤ 50000000000000000 }
 {
     let quadrant = quadrant_charges(quarter, radius);
@@ -90,7 +90,7 @@ fn stride(last: u64, left: u64) -> u64
 // The most cycles that the sum pays: `low` are paid, `high` are not, or are more than are asked, and `next` lies between.
 fn search(s: Start, most: u64, sum: u64) -> Arrived
     requires { Started s × (most < 4 * s.quarter) }
-    ensures { result ≡ arrivedOf s (mostPaid (chargesOn s) sum most) }
+    ensures { result ≡ arrived_of s (most_paid (charges_on s) sum most) }
 {
     let place = s.place;
     let mut low = Arrived {
@@ -119,8 +119,8 @@ fn search(s: Start, most: u64, sum: u64) -> Arrived
 
 // The most cycles from p on, at most so many, whose charges the sum holds.
 pub fn paid(n: u64, turn: Turn, p: Offset, most: u64, sum: u64) -> Paid
-    requires { (onCircle n p ≡ true) × (most < 4 * quarterOf n) }
-    ensures { result ≡ paidOf n turn p most sum }
+    requires { (on_circle n p ≡ true) × (most < 4 * quarter_of n) }
+    ensures { result ≡ paid_of n turn p most sum }
 {
     let r = search(Start::enter(n, turn, p), most, sum);
     let place = r.place;

@@ -1,10 +1,10 @@
 // The way from one circle point to another, without walking it: its cycles, and what they are charged.
 ghost use Rattle.std.specs.Prelude.{◌≡◌, true, ◌≤◌};
-ghost use Rattle.whole.specs.Root.{nearestRoot};
-ghost use Rattle.circle.specs.Circle.{onCircle};
-ghost use Rattle.circle.specs.computed.Step.{seenPlace};
-ghost use Rattle.circle.specs.Circle.{quarterOf};
-ghost use Rattle.charges.specs.computed.Sum.{quadrantChargesOf, spanTo, span_of};
+ghost use Rattle.whole.specs.Root.{nearest_root};
+ghost use Rattle.circle.specs.Circle.{on_circle};
+ghost use Rattle.circle.specs.computed.Step.{seen_place};
+ghost use Rattle.circle.specs.Circle.{quarter_of};
+ghost use Rattle.charges.specs.computed.Sum.{quadrant_charges_of, span_to, span_of};
 ghost use Rattle.charges.specs.computed.Asked.{Tolled};
 
 use crate::Span;
@@ -16,7 +16,7 @@ use whole::root::nearest_root;
 // The charges of a quadrant, 586 for each cycle and 414 for each pulse: its pulses are twice the radius.
 pub fn quadrant_charges(quarter: u64, radius: u64) -> u64
     requires { (quarter ≤ 2000000) × (radius ≤ 1414214) }
-    ensures { result ≡ quadrantChargesOf quarter radius }
+    ensures { result ≡ quadrant_charges_of quarter radius }
 {
     586 * quarter + 828 * radius
 }
@@ -24,7 +24,7 @@ pub fn quadrant_charges(quarter: u64, radius: u64) -> u64
 // The way from the X axis on to a place: its rank, and the charges, 586 for each cycle and 414 for each pulse.
 pub fn span_to(quarter: u64, radius: u64, q: Place) -> Span
     requires { Tolled quarter radius q }
-    ensures { result ≡ spanTo quarter radius q }
+    ensures { result ≡ span_to quarter radius q }
 {
     let cycles = rank(quarter, q);
     let pulses = q.quadrant * (2 * radius) + (radius + q.across - q.along);
@@ -34,15 +34,15 @@ pub fn span_to(quarter: u64, radius: u64, q: Place) -> Span
 
 // The same to a circle point, seen the way round that it goes.
 fn seen_span(n: u64, quarter: u64, radius: u64, turn: Turn, p: Offset) -> Span
-    requires { (onCircle n p ≡ true) × (quarter ≡ quarterOf n) × (radius ≡ nearestRoot n) }
-    ensures { result ≡ spanTo quarter radius (seenPlace turn p) }
+    requires { (on_circle n p ≡ true) × (quarter ≡ quarter_of n) × (radius ≡ nearest_root n) }
+    ensures { result ≡ span_to quarter radius (seen_place turn p) }
 {
     span_to(quarter, radius, place_of(seen_from(turn, p)))
 }
 
 // The way from p on to e: 1 cycle or more, and for p equal to e a full turn.
 pub fn span(n: u64, turn: Turn, p: Offset, e: Offset) -> Span
-    requires { (onCircle n p ≡ true) × (onCircle n e ≡ true) }
+    requires { (on_circle n p ≡ true) × (on_circle n e ≡ true) }
     ensures { result ≡ span_of n turn p e }
 {
     let quarter = nearest_root(2 * n);

@@ -1,7 +1,7 @@
 -- The circle points of N, seen from the centre, and the distance of a point from the circle.
 use Rattle.std.specs.Prelude.{Bool, ◌&&◌, ℕ, ◌+◌, ◌*◌, max, leb, ltb, ℤ, pos, neg_ℤ, nat_abs, ◌+ℤ◌, ◌-ℤ◌, ◌*ℤ◌, ◌≤ℤ◌, ◌<ℤ◌}
 use Rattle.circle.specs.declared.plane.Offset.{Offset}
-use Rattle.whole.specs.Root.{nearestRoot}
+use Rattle.whole.specs.Root.{nearest_root}
 
 abbrev pub offset : ℤ → ℤ → Offset
 offset x y = record { x = x; y = y }
@@ -34,16 +34,16 @@ pub record Within (t N : ℕ) (p : Offset) : Type 0 where
   pub inside : pos 0 <ℤ past t (neg_ℤ (excess N p)) → square (past t (neg_ℤ (excess N p))) <ℤ (pos (16 * (t * t)) *ℤ squares p)
 
 -- 01, Job and machine: "N in 1..2,000,000,000,000, point and end both circle points of N"
-abbrev pub largestN : ℕ
-largestN = 2000000000000
+abbrev pub largest_n : ℕ
+largest_n = 2000000000000
 
 -- -m ≤ F < m over magnitudes and without signs
-abbrev pub circleTest : (N a b : ℕ) → Bool
-circleTest N a b = ltb (a * a + b * b) (N + max a b) && leb N (a * a + b * b + max a b)
+abbrev pub circle_test : (N a b : ℕ) → Bool
+circle_test N a b = ltb (a * a + b * b) (N + max a b) && leb N (a * a + b * b + max a b)
 
-unfoldable pub onCircle : ℕ → Offset → Bool
-onCircle N p = leb 1 N && (leb N largestN && circleTest N (nat_abs p.x) (nat_abs p.y))
+unfoldable pub on_circle : ℕ → Offset → Bool
+on_circle N p = leb 1 N && (leb N largest_n && circle_test N (nat_abs p.x) (nat_abs p.y))
 
 -- the cycles of a quarter turn: √2 times the radius √N, to the nearest
-abbrev pub quarterOf : ℕ → ℕ
-quarterOf N = nearestRoot (2 * N)
+abbrev pub quarter_of : ℕ → ℕ
+quarter_of N = nearest_root (2 * N)

@@ -1,6 +1,6 @@
 // Points seen from the centre, the two ways round, and the circle test.
 ghost use Rattle.std.specs.Prelude.{◌≡◌, ◌≤◌, ◌<◌, ◌^◌, max, nat_abs};
-ghost use Rattle.circle.specs.Circle.{largestN, circleTest, onCircle};
+ghost use Rattle.circle.specs.Circle.{largest_n, circle_test, on_circle};
 ghost use Rattle.circle.specs.computed.Step.{seen};
 
 use whole::sign::part;
@@ -29,8 +29,8 @@ fn larger(a: u64, b: u64) -> u64
 
 // -m <= F < m without signs: F is a * a + b * b - n.
 fn near_circle(n: u64, a: u64, b: u64) -> bool
-    requires { (n ≤ largestN) × (a ≤ 2000000) × (b ≤ 2000000) }
-    ensures { result ≡ circleTest n a b }
+    requires { (n ≤ largest_n) × (a ≤ 2000000) × (b ≤ 2000000) }
+    ensures { result ≡ circle_test n a b }
 {
     let m = larger(a, b);
     let s = a * a + b * b;
@@ -43,7 +43,7 @@ fn near_circle(n: u64, a: u64, b: u64) -> bool
 // Whether n is in 1..2,000,000,000,000 and p a circle point of n, for any values.
 // Coordinates beyond 2,000,000 are refused before they are squared; those of a circle point are at most 1,414,214.
 pub fn on_circle(n: u64, p: Offset) -> bool
-    ensures { result ≡ onCircle n p }
+    ensures { result ≡ on_circle n p }
 {
     if n < 1 {
         return false;

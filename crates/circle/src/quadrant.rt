@@ -1,6 +1,6 @@
 // The quadrant form of a point: the rules are written for the first quadrant and turned into the others.
 ghost use Rattle.std.specs.Prelude.{◌≡◌, ◌<◌, ◌^◌, nat_abs};
-ghost use Rattle.circle.specs.computed.Step.{turned, placeOf, pointAt};
+ghost use Rattle.circle.specs.computed.Step.{turned, place_of, point_at};
 
 use crate::plane::Offset;
 use whole::sign::part;
@@ -15,7 +15,7 @@ pub struct Place {
 }
 
 pub fn place_of(p: Offset) -> Place
-    ensures { result ≡ placeOf p.x p.y }
+    ensures { result ≡ place_of p.x p.y }
 {
     let x = part(p.x);
     let y = part(p.y);
@@ -83,7 +83,7 @@ pub fn turned_by(k: u64, p: Offset) -> Offset
 
 pub fn point_of(q: Place) -> Offset
     requires { (q.quadrant < 4) × (q.along < 2 ^ 63) × (q.across < 2 ^ 63) }
-    ensures { result ≡ pointAt q }
+    ensures { result ≡ point_at q }
 {
     turned_by(
         q.quadrant,

@@ -1,9 +1,9 @@
 // The step to the next point, and the stepper that carries what the next step needs.
 ghost use Rattle.std.specs.Prelude.{◌≡◌, true, ◌<◌};
-ghost use Rattle.circle.specs.Circle.{onCircle};
-ghost use Rattle.circle.specs.computed.Step.{nextQuadrant, step_of};
-ghost use Rattle.circle.specs.computed.Stepper.{Entered, enterOf, move_of, moved, broughtOn, advancedBy, cycledOf, leaveOf};
-ghost use Rattle.circle.specs.computed.Charge.{moveCharge, stepCharge};
+ghost use Rattle.circle.specs.Circle.{on_circle};
+ghost use Rattle.circle.specs.computed.Step.{next_quadrant, step_of};
+ghost use Rattle.circle.specs.computed.Stepper.{Entered, enter_of, move_of, moved, brought_on, advanced_by, cycled_of, leave_of};
+ghost use Rattle.circle.specs.computed.Charge.{move_charge, step_charge};
 ghost use Rattle.circle.specs.computed.Asked.{Movable};
 
 use crate::plane::{Offset, Turn, seen_from};
@@ -47,7 +47,7 @@ pub struct Cycled {
 
 // A move that takes both axes is diagonal.
 pub fn move_charge(m: Move) -> u64
-    ensures { result ≡ moveCharge m }
+    ensures { result ≡ move_charge m }
 {
     match m {
         Move::Rise => STRAIGHT,
@@ -58,7 +58,7 @@ pub fn move_charge(m: Move) -> u64
 
 pub fn next_quadrant(k: u64) -> u64
     requires { k < 4 }
-    ensures { result ≡ nextQuadrant k }
+    ensures { result ≡ next_quadrant k }
 {
     if k == 3 { 0 } else { k + 1 }
 }
@@ -66,8 +66,8 @@ pub fn next_quadrant(k: u64) -> u64
 impl Stepper {
     // The two products are here.
     pub fn enter(n: u64, turn: Turn, p: Offset) -> Stepper
-        requires { onCircle n p ≡ true }
-        ensures { result ≡ enterOf n turn p }
+        requires { on_circle n p ≡ true }
+        ensures { result ≡ enter_of n turn p }
     {
         let q = place_of(seen_from(turn, p));
         let squares = q.along * q.along + q.across * q.across;
@@ -131,7 +131,7 @@ impl Stepper {
     // An axis belongs to the quadrant that it begins.
     fn settle(self) -> Stepper
         requires { self.quadrant < 4 }
-        ensures { result ≡ broughtOn self }
+        ensures { result ≡ brought_on self }
     {
         let turn = self.turn;
         if self.along == 0 {
@@ -149,7 +149,7 @@ impl Stepper {
     // The stepper after its next move, for callers that know it.
     pub fn advance(self, m: Move) -> Stepper
         requires { Entered self × (m ≡ move_of self) }
-        ensures { result ≡ advancedBy self }
+        ensures { result ≡ advanced_by self }
     {
         let s = self.moved_by(m);
         s.settle()
@@ -158,7 +158,7 @@ impl Stepper {
     // One cycle onward. The move gives its pulses, without leaving quadrant form.
     pub fn cycle(self) -> Cycled
         requires { Entered self }
-        ensures { result ≡ cycledOf self }
+        ensures { result ≡ cycled_of self }
     {
         let m = self.next_move();
         let s = self.moved_by(m);
@@ -170,7 +170,7 @@ impl Stepper {
 
     pub fn leave(self) -> Offset
         requires { Entered self }
-        ensures { result ≡ leaveOf self }
+        ensures { result ≡ leave_of self }
     {
         let p = point_of(Place {
             quadrant: self.quadrant,
@@ -184,7 +184,7 @@ impl Stepper {
 
 // The next point.
 pub fn step(n: u64, turn: Turn, p: Offset) -> Offset
-    requires { onCircle n p ≡ true }
+    requires { on_circle n p ≡ true }
     ensures { result ≡ step_of n turn p }
 {
     let s = Stepper::enter(n, turn, p);
@@ -195,8 +195,8 @@ pub fn step(n: u64, turn: Turn, p: Offset) -> Offset
 
 // What the step to the next point is charged.
 pub fn charge(n: u64, turn: Turn, p: Offset) -> u64
-    requires { onCircle n p ≡ true }
-    ensures { result ≡ stepCharge n turn p }
+    requires { on_circle n p ≡ true }
+    ensures { result ≡ step_charge n turn p }
 {
     let s = Stepper::enter(n, turn, p);
     move_charge(s.next_move())

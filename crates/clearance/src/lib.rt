@@ -1,10 +1,10 @@
 // Whether an arc stays inside travel, without walking it.
 ghost use Rattle.std.specs.Prelude.{◌≡◌, true, false, ◌≤◌, ◌<◌, ◌^◌, nat_abs};
 ghost use Rattle.circle.specs.declared.plane.Offset.{Offset};
-ghost use Rattle.circle.specs.Circle.{Circle, largestN, onCircle};
+ghost use Rattle.circle.specs.Circle.{Circle, largest_n, on_circle};
 ghost use Rattle.clearance.specs.computed.Inside.{Inside};
-ghost use Rattle.clearance.specs.computed.Travel.{belowTest, insideTest, seenRoom, wayInside, staysInside};
-ghost use Rattle.clearance.specs.computed.Travel.{reaches, axesPassed, axisTest, axesTest, smallerOf};
+ghost use Rattle.clearance.specs.computed.Travel.{below_test, inside_test, seen_room, way_inside, stays_inside};
+ghost use Rattle.clearance.specs.computed.Travel.{reaches, axes_passed, axis_test, axes_test, smaller_of};
 ghost use Rattle.clearance.specs.computed.Asked.{Crossing};
 
 use circle::count::way_on;
@@ -23,7 +23,7 @@ pub struct Room {
 
 // The room as the mirror shows it to clockwise.
 fn room_from(turn: Turn, room: Room) -> Room
-    ensures { result ≡ seenRoom turn room }
+    ensures { result ≡ seen_room turn room }
 {
     match turn {
         Turn::Clockwise => Room {
@@ -38,7 +38,7 @@ fn room_from(turn: Turn, room: Room) -> Room
 
 // Whether p is at most the corner in both coordinates.
 fn below(p: Offset, corner: Offset) -> bool
-    ensures { result ≡ belowTest p corner }
+    ensures { result ≡ below_test p corner }
 {
     let x = p.x <= corner.x;
     if !x {
@@ -50,7 +50,7 @@ fn below(p: Offset, corner: Offset) -> bool
 // Whether a point is inside, whatever the room: p is below the upper corner, and its opposite below that of the lower one.
 fn inside(room: Room, p: Offset) -> bool
     requires { (nat_abs p.x < 2 ^ 63) × (nat_abs p.y < 2 ^ 63) }
-    ensures { result ≡ insideTest room p }
+    ensures { result ≡ inside_test room p }
 {
     let near = below(
         p,
@@ -74,7 +74,7 @@ fn inside(room: Room, p: Offset) -> bool
 // Whether travel reaches the circle's point on an axis, the nearest root of n, with the room e on that side.
 // No root is needed, for that is n <= e * e + e; and a room of 2,000,000 passes without a product.
 fn reaches_axis(n: u64, e: i64) -> bool
-    requires { n ≤ largestN }
+    requires { n ≤ largest_n }
     ensures { result ≡ reaches n e }
 {
     let side = part(e);
@@ -90,8 +90,8 @@ fn reaches_axis(n: u64, e: i64) -> bool
 
 // Axis i, counted from the quadrant `from`, is not passed, or travel reaches far enough there.
 fn axis_clear(n: u64, passed: u64, from: u64, i: u64, e: i64) -> bool
-    requires { (n ≤ largestN) × (from < 4) × (i < 4) }
-    ensures { result ≡ axisTest n passed from i e }
+    requires { (n ≤ largest_n) × (from < 4) × (i < 4) }
+    ensures { result ≡ axis_test n passed from i e }
 {
     if way_on(4, from, i) <= passed {
         return reaches_axis(n, e);
@@ -100,8 +100,8 @@ fn axis_clear(n: u64, passed: u64, from: u64, i: u64, e: i64) -> bool
 }
 
 fn axes_clear(room: Room, n: u64, passed: u64, from: u64) -> bool
-    requires { (n ≤ largestN) × (from < 4) }
-    ensures { result ≡ axesTest room n passed from }
+    requires { (n ≤ largest_n) × (from < 4) }
+    ensures { result ≡ axes_test room n passed from }
 {
     let right = axis_clear(n, passed, from, 0, room.right);
     if !right {
@@ -121,7 +121,7 @@ fn axes_clear(room: Room, n: u64, passed: u64, from: u64) -> bool
 // How many axes the way from p on to e passes or ends on. In one quadrant across - along grows on the way.
 fn axes_passed(p: Place, e: Place) -> u64
     requires { Crossing p e }
-    ensures { result ≡ axesPassed p e }
+    ensures { result ≡ axes_passed p e }
 {
     if e.quadrant == p.quadrant {
         if p.across + e.along < e.across + p.along {
@@ -134,8 +134,8 @@ fn axes_passed(p: Place, e: Place) -> u64
 
 // The counterclockwise way from p on to e, p and e included.
 fn way_inside(room: Room, n: u64, p: Offset, e: Offset) -> bool
-    requires { (onCircle n p ≡ true) × (onCircle n e ≡ true) }
-    ensures { result ≡ wayInside room n p e }
+    requires { (on_circle n p ≡ true) × (on_circle n e ≡ true) }
+    ensures { result ≡ way_inside room n p e }
 {
     let here = inside(room, p);
     if !here {
@@ -151,14 +151,14 @@ fn way_inside(room: Room, n: u64, p: Offset, e: Offset) -> bool
 }
 
 fn smaller(a: i64, b: i64) -> i64
-    ensures { result ≡ smallerOf a b }
+    ensures { result ≡ smaller_of a b }
 {
     if a <= b { a } else { b }
 }
 
 // Whether the least of the four sides reaches the circle: then every circle point is inside.
 fn surrounds(room: Room, n: u64) -> bool
-    requires { n ≤ largestN }
+    requires { n ≤ largest_n }
     ensures { result ≡ true → (p : Offset) → Circle n p → Inside room p }
 {
     let x = smaller(room.right, room.left);
@@ -170,8 +170,8 @@ fn surrounds(room: Room, n: u64) -> bool
 // Most arcs are far from the edge of the travel, and for these one product tells. The long test is called in two places, so that it stays
 // out of line and this one is short enough to stand where it is asked.
 pub fn stays_inside(room: Room, n: u64, turn: Turn, p: Offset, e: Offset) -> bool
-    requires { (onCircle n p ≡ true) × (onCircle n e ≡ true) }
-    ensures { result ≡ staysInside room n turn p e }
+    requires { (on_circle n p ≡ true) × (on_circle n e ≡ true) }
+    ensures { result ≡ stays_inside room n turn p e }
 {
     if surrounds(room, n) {
         return true;

@@ -3,8 +3,8 @@ use Rattle.std.specs.Prelude.{List, [], ◌∷◌, ℤ, pos}
 use Rattle.look.specs.declared.Sums.{Sums}
 
 -- X first
-abbrev pub sumWords : Sums → List ℤ
-sumWords s = s.x ∷ s.y ∷ []
+abbrev pub sum_words : Sums → List ℤ
+sum_words s = s.x ∷ s.y ∷ []
 
-abbrev pub noSums : List ℤ
-noSums = pos 0 ∷ pos 0 ∷ []
+abbrev pub no_sums : List ℤ
+no_sums = pos 0 ∷ pos 0 ∷ []

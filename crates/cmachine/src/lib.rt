@@ -3,10 +3,10 @@
 ghost use Rattle.std.specs.Prelude.{◌≡◌};
 ghost use Rattle.circle.specs.declared.plane.Turn.{Turn};
 ghost use Rattle.block.specs.declared.Path.{Path};
-ghost use Rattle.encoding.specs.Words.{settingsOf};
+ghost use Rattle.encoding.specs.Words.{settings_of};
 ghost use Rattle.calls.specs.Calls.{WordCall};
-ghost use Rattle.calls.specs.computed.Calls.{tells, toldOf, made_of, tellsRun, toldRunOf};
-ghost use Rattle.cmachine.specs.Given.{arcPath, blockGiven};
+ghost use Rattle.calls.specs.computed.Calls.{tells, told_of, made_of, tells_run, told_run_of};
+ghost use Rattle.cmachine.specs.Given.{arc_path, block_given};
 
 use crate::given::{arc, block};
 use block::Path;
@@ -30,7 +30,7 @@ pub extern "C" fn vz_make(
     ylo: i64,
     yhi: i64,
 ) -> i64
-    ensures { tells result words.new ≡ made_of words.old (settingsOf p w xlo xhi ylo yhi) }
+    ensures { tells result words.new ≡ made_of words.old (settings_of p w xlo xhi ylo yhi) }
 {
     make(words, p, w, xlo, xhi, ylo, yhi)
 }
@@ -39,7 +39,7 @@ pub extern "C" fn vz_make(
 
 #[unsafe(no_mangle)]
 pub extern "C" fn vz_load_line(words: &mut [i64; 134], x: i64, y: i64, feed: i64) -> i64
-    ensures { tells result words.new ≡ toldOf words.old (WordCall.load (blockGiven Path.Line x y feed)) }
+    ensures { tells result words.new ≡ told_of words.old (WordCall.load (block_given Path.Line x y feed)) }
 {
     load(words, block(Path::Line, x, y, feed))
 }
@@ -54,7 +54,7 @@ pub extern "C" fn vz_load_cw(
     j: i64,
 ) -> i64
     ensures { tells result words.new
-        ≡ toldOf words.old (WordCall.load (blockGiven (arcPath Turn.Clockwise i j) x y feed)) }
+        ≡ told_of words.old (WordCall.load (block_given (arc_path Turn.Clockwise i j) x y feed)) }
 {
     let path = arc(Turn::Clockwise, i, j);
     load(words, block(path, x, y, feed))
@@ -70,7 +70,7 @@ pub extern "C" fn vz_load_ccw(
     j: i64,
 ) -> i64
     ensures { tells result words.new
-        ≡ toldOf words.old (WordCall.load (blockGiven (arcPath Turn.Counterclockwise i j) x y feed)) }
+        ≡ told_of words.old (WordCall.load (block_given (arc_path Turn.Counterclockwise i j) x y feed)) }
 {
     let path = arc(Turn::Counterclockwise, i, j);
     load(words, block(path, x, y, feed))
@@ -80,7 +80,7 @@ pub extern "C" fn vz_load_ccw(
 
 #[unsafe(no_mangle)]
 pub extern "C" fn vz_tick(words: &mut [i64; 134]) -> i64
-    ensures { tells result words.new ≡ toldOf words.old WordCall.tick }
+    ensures { tells result words.new ≡ told_of words.old WordCall.tick }
 {
     tick(words)
 }
@@ -93,8 +93,8 @@ pub extern "C" fn vz_run(
     out: &mut [u8],
     ticks: &mut u64,
 ) -> i64
-    ensures { tellsRun result ticks.new words.new out.new
-        ≡ toldRunOf words.old budget out.old }
+    ensures { tells_run result ticks.new words.new out.new
+        ≡ told_run_of words.old budget out.old }
 {
     run(words, budget, out, ticks)
 }
@@ -103,21 +103,21 @@ pub extern "C" fn vz_run(
 
 #[unsafe(no_mangle)]
 pub extern "C" fn vz_hold(words: &mut [i64; 134]) -> i64
-    ensures { tells result words.new ≡ toldOf words.old WordCall.hold }
+    ensures { tells result words.new ≡ told_of words.old WordCall.hold }
 {
     hold(words)
 }
 
 #[unsafe(no_mangle)]
 pub extern "C" fn vz_release(words: &mut [i64; 134]) -> i64
-    ensures { tells result words.new ≡ toldOf words.old WordCall.release }
+    ensures { tells result words.new ≡ told_of words.old WordCall.release }
 {
     release(words)
 }
 
 #[unsafe(no_mangle)]
 pub extern "C" fn vz_stop(words: &mut [i64; 134]) -> i64
-    ensures { tells result words.new ≡ toldOf words.old WordCall.stop }
+    ensures { tells result words.new ≡ told_of words.old WordCall.stop }
 {
     stop(words)
 }

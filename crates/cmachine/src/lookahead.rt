@@ -1,11 +1,11 @@
 // The look-ahead for C. The record is lent for reading alone; the one ahead and the sums go to words of the caller's, which are always
 // written. No tick is done, and no record is built: in the copy each block on the way gives its point by closed forms, as in crate look.
 ghost use Rattle.std.specs.Prelude.{◌≡◌, true};
-ghost use Rattle.look.specs.computed.Look.{passOf};
-ghost use Rattle.record.specs.Words.{encodeOf, over};
-ghost use Rattle.record.specs.computed.Words.{machineIn, soundWords};
-ghost use Rattle.cmachine.specs.computed.Looks.{Passing, ticksOf, tellsAhead, toldAheadOf};
-ghost use Rattle.cmachine.specs.Looks.{sumWords};
+ghost use Rattle.look.specs.computed.Look.{pass_of};
+ghost use Rattle.record.specs.Words.{encode_of, over};
+ghost use Rattle.record.specs.computed.Words.{machine_in, sound_words};
+ghost use Rattle.cmachine.specs.computed.Looks.{Passing, ticks_of, tells_ahead, told_ahead_of};
+ghost use Rattle.cmachine.specs.Looks.{sum_words};
 
 use bench::Bench;
 use finish::works;
@@ -17,7 +17,7 @@ use run::skip::skip_work;
 use settings::capacity;
 
 fn sum_words(sums: Sums) -> [i64; 2]
-    ensures { result ≡ sumWords sums }
+    ensures { result ≡ sum_words sums }
 {
     [sums.x, sums.y]
 }
@@ -25,8 +25,8 @@ fn sum_words(sums: Sums) -> [i64; 2]
 // Working ticks to the end of the block in work, where the next one comes into work, or as far as the ticks go. Answers how many.
 fn pass(words: &mut [i64; 134], k: Bench, ticks: u64) -> u64
     requires { Passing words.old k }
-    ensures value { result ≡ (passOf (machineIn words.old) ticks).ticks }
-    ensures words_after { words.new ≡ over (encodeOf (passOf (machineIn words.old) ticks).machine) words.old }
+    ensures value { result ≡ (pass_of (machine_in words.old) ticks).ticks }
+    ensures words_after { words.new ≡ over (encode_of (pass_of (machine_in words.old) ticks).machine) words.old }
 {
     let settings = k.settings;
     let at = k.at;
@@ -42,8 +42,8 @@ fn pass(words: &mut [i64; 134], k: Bench, ticks: u64) -> u64
 
 // So many ticks, block by block, 17 at most. Ticks that are no working ones leave the words as they were.
 fn after_ticks(words: &mut [i64; 134], ticks: u64)
-    requires { soundWords words.old ≡ true }
-    ensures { words.new ≡ ticksOf ticks words.old }
+    requires { sound_words words.old ≡ true }
+    ensures { words.new ≡ ticks_of ticks words.old }
 {
     let mut left = ticks;
     while 0 < left {
@@ -62,7 +62,7 @@ pub extern "C" fn vz_ahead(
     then: &mut [i64; 134],
     sums: &mut [i64; 2],
 ) -> i64
-    ensures { tellsAhead result then.new sums.new ≡ toldAheadOf words.now ticks }
+    ensures { tells_ahead result then.new sums.new ≡ told_ahead_of words.now ticks }
 {
     // What is tested is what is used: the words that were lent are read once.
     let own = *words;

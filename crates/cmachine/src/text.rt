@@ -2,11 +2,11 @@
 // or tell nothing known, get 9 and stay as they are; so do those of a refused line.
 ghost use Rattle.std.specs.Prelude.{◌≡◌};
 ghost use Rattle.textline.specs.computed.TextLine.{taken_of};
-ghost use Rattle.record.specs.Words.{encodeOf, over};
-ghost use Rattle.record.specs.computed.Words.{machineIn};
+ghost use Rattle.record.specs.Words.{encode_of, over};
+ghost use Rattle.record.specs.computed.Words.{machine_in};
 ghost use Rattle.calls.specs.computed.Asked.{Asking};
-ghost use Rattle.cmachine.specs.Texts.{readNumber};
-ghost use Rattle.cmachine.specs.computed.Texts.{heardOf, loadsOf, tellsLine, toldLineOf};
+ghost use Rattle.cmachine.specs.Texts.{read_number};
+ghost use Rattle.cmachine.specs.computed.Texts.{heard_of, loads_of, tells_line, told_line_of};
 
 use bench::{Answer, Bench};
 use block::Block;
@@ -29,7 +29,7 @@ struct Heard {
 
 // A text line that makes no block is 0, as what is done.
 fn read_number(read: Read) -> i64
-    ensures { result ≡ readNumber read }
+    ensures { result ≡ read_number read }
 {
     match read {
         Read::Nothing => 0,
@@ -48,9 +48,9 @@ fn load(
     b: Block,
 ) -> Heard
     requires { Asking words.old k start }
-    ensures value { result ≡ heardOf (loadsOf before after (machineIn words.old) b) }
+    ensures value { result ≡ heard_of (loads_of before after (machine_in words.old) b) }
     ensures words_after { words.new
-        ≡ over (encodeOf (loadsOf before after (machineIn words.old) b).machine) words.old }
+        ≡ over (encode_of (loads_of before after (machine_in words.old) b).machine) words.old }
 {
     let answer = load_sound(words, k, start, b);
     match answer {
@@ -72,9 +72,9 @@ fn load(
 // What a line asked, at the place where the next block starts.
 fn take(words: &mut [i64; 134], k: Bench, start: Point, before: Reader, a: Asked) -> Heard
     requires { Asking words.old k start }
-    ensures value { result ≡ heardOf (taken_of before (machineIn words.old) a) }
+    ensures value { result ≡ heard_of (taken_of before (machine_in words.old) a) }
     ensures words_after { words.new
-        ≡ over (encodeOf (taken_of before (machineIn words.old) a).machine) words.old }
+        ≡ over (encode_of (taken_of before (machine_in words.old) a).machine) words.old }
 {
     let asks = a.asks;
     let after = a.reader;
@@ -94,8 +94,8 @@ fn take(words: &mut [i64; 134], k: Bench, start: Point, before: Reader, a: Asked
 // A line without its LF.
 #[unsafe(no_mangle)]
 pub extern "C" fn vz_read_line(words: &mut [i64; 134], known: &mut [i64; 2], line: &[u8]) -> i64
-    ensures { tellsLine result words.new known.new
-        ≡ toldLineOf words.old known.old line.now }
+    ensures { tells_line result words.new known.new
+        ≡ told_line_of words.old known.old line.now }
 {
     if !is_sound(words) {
         return -9;

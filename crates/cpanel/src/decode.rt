@@ -1,7 +1,7 @@
 // The panel's check that 10 words tell at a bench, and whether they are one's.
 ghost use Rattle.std.specs.Prelude.{◌≡◌, take};
-ghost use Rattle.cpanel.specs.Words.{panelOf};
-ghost use Rattle.cpanel.specs.computed.Panel.{panelRight, decodePanel};
+ghost use Rattle.cpanel.specs.Words.{panel_of};
+ghost use Rattle.cpanel.specs.computed.Panel.{panel_right, decode_panel};
 
 use bench::Bench;
 use encoding::number::{count, is_count};
@@ -27,7 +27,7 @@ fn first_nine(words: [i64; 10]) -> [i64; 9]
 }
 
 fn panel_of(c: Check, held: u64) -> PanelCheck
-    ensures { result ≡ panelOf c held }
+    ensures { result ≡ panel_of c held }
 {
     let stage = c.stage;
     let tally = c.tally;
@@ -41,7 +41,7 @@ fn panel_of(c: Check, held: u64) -> PanelCheck
 
 // The nine are a progress or not; the tenth is a count, and no more is left or held than a start and its reads leave.
 fn panel_right(progress: bool, held: i64, c: PanelCheck) -> bool
-    ensures { result ≡ panelRight progress held c }
+    ensures { result ≡ panel_right progress held c }
 {
     if !progress {
         return false;
@@ -56,7 +56,7 @@ fn panel_right(progress: bool, held: i64, c: PanelCheck) -> bool
 }
 
 pub fn decode_panel(m: Bench, words: [i64; 10]) -> DecodedPanel
-    ensures { result ≡ decodePanel m words }
+    ensures { result ≡ decode_panel m words }
 {
     let p = decode_progress(m, first_nine(words));
     let progress = p.check;

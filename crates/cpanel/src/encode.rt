@@ -1,7 +1,7 @@
 // A panel's check as 10 words, and what a read tells as a number. `specs/Words.antt` says which word is what.
 ghost use Rattle.std.specs.Prelude.{[], ◌∷◌, ◌++◌, ◌≡◌};
-ghost use Rattle.cpanel.specs.Words.{encodePanel};
-ghost use Rattle.cpanel.specs.Read.{toldNumber};
+ghost use Rattle.cpanel.specs.Words.{encode_panel};
+ghost use Rattle.cpanel.specs.Read.{told_number};
 
 use encoding::number::word;
 use job::Check;
@@ -16,7 +16,7 @@ fn with_held(w: [i64; 9], held: i64) -> [i64; 10]
 }
 
 pub fn encode_panel(c: PanelCheck) -> [i64; 10]
-    ensures { result ≡ encodePanel c }
+    ensures { result ≡ encode_panel c }
 {
     let stage = c.stage;
     let tally = c.tally;
@@ -29,7 +29,7 @@ pub fn encode_panel(c: PanelCheck) -> [i64; 10]
 }
 
 pub fn told_number(told: Told) -> i64
-    ensures { result ≡ toldNumber told }
+    ensures { result ≡ told_number told }
 {
     match told {
         Told::More => 0,

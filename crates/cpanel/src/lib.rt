@@ -1,10 +1,10 @@
 // The check on the operator panel for C, from pieces of a text that is never held whole: on 19 words of a bench, as a check has them, and
 // on 10 of how far it has come. Words that are no sound record, or tell no panel's check, get 9 and stay as they are.
 ghost use Rattle.std.specs.Prelude.{◌≡◌};
-ghost use Rattle.encoding.specs.Words.{settingsOf};
-ghost use Rattle.calls.specs.computed.Calls.{tells, benchMade};
-ghost use Rattle.cpanel.specs.Read.{is_last, tellsRead};
-ghost use Rattle.cpanel.specs.computed.Panel.{startPanel, TellsRead};
+ghost use Rattle.encoding.specs.Words.{settings_of};
+ghost use Rattle.calls.specs.computed.Calls.{tells, bench_made};
+ghost use Rattle.cpanel.specs.Read.{is_last, tells_read};
+ghost use Rattle.cpanel.specs.computed.Panel.{start_panel, TellsRead};
 
 use crate::decode::decode_panel;
 use crate::encode::{encode_panel, told_number};
@@ -30,8 +30,8 @@ pub extern "C" fn vz_panel_start(
     ylo: i64,
     yhi: i64,
 ) -> i64
-    ensures bench { tells result bench.new ≡ benchMade (settingsOf p w xlo xhi ylo yhi) }
-    ensures panel { panel.new ≡ startPanel (settingsOf p w xlo xhi ylo yhi) }
+    ensures bench { tells result bench.new ≡ bench_made (settings_of p w xlo xhi ylo yhi) }
+    ensures panel { panel.new ≡ start_panel (settings_of p w xlo xhi ylo yhi) }
 {
     let a = Bench::make(settings(p, w, xlo, xhi, ylo, yhi));
     let answer = a.answer;
@@ -62,7 +62,7 @@ pub extern "C" fn vz_panel_read(
     written: &mut u64,
 ) -> i64
     ensures { TellsRead bench.old panel.old scratch.old piece.now last
-        rows.old (tellsRead result took.new written.new bench.new panel.new
+        rows.old (tells_read result took.new written.new bench.new panel.new
         scratch.new rows.new) }
 {
     *took = 0;

@@ -9,12 +9,12 @@ use Rattle.circle.specs.declared.plane.Offset.{Offset}
 use Rattle.circle.specs.Circle.{Circle}
 use Rattle.circle.specs.Next.{ToVisit}
 use Rattle.line.specs.declared.line.Line.{Line}
-use Rattle.line.specs.Line.{lineCycles, linePoint}
+use Rattle.line.specs.Line.{line_cycles, line_point}
 use Rattle.arc.specs.declared.arc.Arc.{Arc}
-use Rattle.arc.specs.Centre.{seenFrom, backFrom}
+use Rattle.arc.specs.Centre.{seen_from, back_from}
 use Rattle.work.specs.declared.Work.{Work}
 use Rattle.settings.specs.declared.Settings.{Settings}
-use Rattle.settings.specs.Settings.{capacityOf}
+use Rattle.settings.specs.Settings.{capacity_of}
 use Rattle.bench.specs.declared.Bench.{Bench}
 use Rattle.demands.specs.Asked.{Questions, none, question, AllYes}
 
@@ -38,8 +38,8 @@ pub record AxisRight (axis : Range) : Type 0 where
 abbrev pub TravelRight : Settings → Type 0
 TravelRight s = AxisRight s.travel.x × AxisRight s.travel.y
 
-abbrev pub settingsQuestions : Settings → Questions
-settingsQuestions s = question 1 (ScaleRight s) (question 2 (ClockRight s) (question 3 (TravelRight s) none))
+abbrev pub settings_questions : Settings → Questions
+settings_questions s = question 1 (ScaleRight s) (question 2 (ClockRight s) (question 3 (TravelRight s) none))
 
 -- ---- the record
 
@@ -57,8 +57,8 @@ FeedRight q0 feed = (1 ≤ feed) × (feed ≤ q0)
 -- every point that an arc of N about a centre still visits, from a point to an end, is in travel
 abbrev pub VisitsInTravel : Travel → Arc → (at : Point) → Type 0
 VisitsInTravel t a at =
-    (p : Offset) → ToVisit a.square a.turn (seenFrom a.centre at) (seenFrom a.centre a.end) p
-    → InTravel t (backFrom a.centre p)
+    (p : Offset) → ToVisit a.square a.turn (seen_from a.centre at) (seen_from a.centre a.end) p
+    → InTravel t (back_from a.centre p)
 
 -- "a line in work has start and end in travel and different, feed in 1..q0, cycles done in 0..q-1 and the point that "Lines" gives"
 pub record LineSound (q0 : ℕ) (t : Travel) (at : Point) (l : Line) : Type 0 where
@@ -66,10 +66,10 @@ pub record LineSound (q0 : ℕ) (t : Travel) (at : Point) (l : Line) : Type 0 wh
   pub end : InTravel t l.end
   pub different : l.start ≢ l.end
   pub feed : FeedRight q0 l.feed
-  pub done : l.done < lineCycles l.start l.end
-  pub point : at ≡ linePoint l.start l.end l.done
+  pub done : l.done < line_cycles l.start l.end
+  pub point : at ≡ line_point l.start l.end l.done
   -- the record keeps q, which is the line's own
-  pub cycles : l.cycles ≡ lineCycles l.start l.end
+  pub cycles : l.cycles ≡ line_cycles l.start l.end
 
 -- "an arc in work has feed in 1..q0, N in 1..2,000,000,000,000, point and end both circle points of N about a centre within ±2,000,000, and
 -- every point still to visit in travel. Point equal to end then means a full turn not begun.": `Ends` counts at least one cycle, so that
@@ -77,8 +77,8 @@ pub record LineSound (q0 : ℕ) (t : Travel) (at : Point) (l : Line) : Type 0 wh
 pub record ArcSound (q0 : ℕ) (t : Travel) (at : Point) (a : Arc) : Type 0 where
   pub feed : FeedRight q0 a.feed
   pub square : (1 ≤ a.square) × (a.square ≤ 2000000000000)
-  pub point : Circle a.square (seenFrom a.centre at)
-  pub end : Circle a.square (seenFrom a.centre a.end)
+  pub point : Circle a.square (seen_from a.centre at)
+  pub end : Circle a.square (seen_from a.centre a.end)
   pub centre : Near 2000000 a.centre
   pub visits : VisitsInTravel t a at
 
@@ -90,7 +90,7 @@ WorkSound q0 t at (Work.Arc a) = ArcSound q0 t at a
 -- "A record is sound if settings pass questions 1 to 3; the point is in travel; the remainder is below q0;" and what is in work is sound.
 -- 02 §2: "A sound remainder is below 1,414 × q0."
 pub record BenchSound (k : Bench) : Type 0 where
-  pub settings : AllYes (settingsQuestions k.settings)
+  pub settings : AllYes (settings_questions k.settings)
   pub point : InTravel k.settings.travel k.at
-  pub remainder : k.remainder < diagonal * capacityOf k.settings
-  pub work : WorkSound (capacityOf k.settings) k.settings.travel k.at k.work
+  pub remainder : k.remainder < diagonal * capacity_of k.settings
+  pub work : WorkSound (capacity_of k.settings) k.settings.travel k.at k.work

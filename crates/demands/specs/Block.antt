@@ -5,18 +5,18 @@ use Rattle.plane.specs.declared.point.Point.{Point}
 use Rattle.circle.specs.declared.plane.Offset.{Offset}
 use Rattle.circle.specs.declared.plane.Turn.{Turn}
 use Rattle.circle.specs.Circle.{Circle}
-use Rattle.arc.specs.Centre.{seenFrom, backFrom}
+use Rattle.arc.specs.Centre.{seen_from, back_from}
 use Rattle.block.specs.declared.Block.{Block}
 use Rattle.block.specs.declared.Path.{Path}
-use Rattle.block.specs.Block.{squareOf, arcOf}
+use Rattle.block.specs.Block.{square_of, arc_of}
 use Rattle.settings.specs.declared.Settings.{Settings}
-use Rattle.settings.specs.Settings.{capacityAt}
+use Rattle.settings.specs.Settings.{capacity_at}
 use Rattle.demands.specs.Asked.{Questions, none, question}
 use Rattle.demands.specs.Bench.{InTravel, FeedRight, VisitsInTravel}
 
 -- "Is f in 1..q0? 11.", both in u-ths of a pulse per minute
 abbrev pub BlockFeedRight : (u : ℕ) → Settings → Block → Type 0
-BlockFeedRight u s b = FeedRight (capacityAt u s) b.feed
+BlockFeedRight u s b = FeedRight (capacity_at u s) b.feed
 
 -- "Is the end in travel? 12."
 abbrev pub EndInTravel : Settings → Block → Type 0
@@ -34,19 +34,19 @@ pub record CentreRight (centre : Offset) : Type 0 where
 
 -- "Is the end a circle point? 15."
 abbrev pub EndOnCircle : (start : Point) → Block → (centre : Offset) → Type 0
-EndOnCircle start b centre = Circle (squareOf centre) (seenFrom (backFrom start centre) b.end)
+EndOnCircle start b centre = Circle (square_of centre) (seen_from (back_from start centre) b.end)
 
 -- "Is every visited point in travel? 16."
 abbrev pub EveryVisitInTravel : Settings → (start : Point) → Block → Turn → (centre : Offset) → Type 0
-EveryVisitInTravel s start b turn centre = VisitsInTravel s.travel (arcOf start b turn centre) start
+EveryVisitInTravel s start b turn centre = VisitsInTravel s.travel (arc_of start b turn centre) start
 
-abbrev pub pathQuestions : Settings → (start : Point) → Block → Path → Questions
-pathQuestions s start b Path.Line = question 13 (StartAndEndDiffer start b) none
-pathQuestions s start b (Path.Arc turn centre) =
+abbrev pub path_questions : Settings → (start : Point) → Block → Path → Questions
+path_questions s start b Path.Line = question 13 (StartAndEndDiffer start b) none
+path_questions s start b (Path.Arc turn centre) =
     question 14 (CentreRight centre)
     (question 15 (EndOnCircle start b centre) (question 16 (EveryVisitInTravel s start b turn centre) none))
 
 -- "Load, after 9, in this order"; Room is what 10 asks: whether there is room for the block
-abbrev pub blockQuestions : (u : ℕ) (Room : Type 0) → Settings → (start : Point) → Block → Questions
-blockQuestions u Room s start b =
-    question 10 Room (question 11 (BlockFeedRight u s b) (question 12 (EndInTravel s b) (pathQuestions s start b b.path)))
+abbrev pub block_questions : (u : ℕ) (Room : Type 0) → Settings → (start : Point) → Block → Questions
+block_questions u Room s start b =
+    question 10 Room (question 11 (BlockFeedRight u s b) (question 12 (EndInTravel s b) (path_questions s start b b.path)))

@@ -6,48 +6,48 @@ use contract.Lifetimes.{Lfts}
 use Rattle.settings.specs.declared.Settings.{Settings}
 use Rattle.bench.specs.declared.Bench.{Bench}
 use Rattle.machine.specs.declared.Answered.{Answered}
-use Rattle.history.specs.Contracts.{Makes}
+use Rattle.history.specs.CallContracts.{Makes}
 use Rattle.job.specs.declared.Check.{Check}
 use Rattle.job.specs.declared.Filled.{Filled}
 use Rattle.job.specs.Check.{is_over}
-use Rattle.encoding.specs.Words.{encodeOf, markWord}
-use Rattle.progress.specs.Progress.{encodeProgress, checkIn}
-use Rattle.calls.specs.Calls.{answerNumber}
-use Rattle.ccheck.proofs.vz_check_start.Reads as start-reads
-use Rattle.ccheck.proofs.vz_check_fill.Reads as fill-reads
+use Rattle.encoding.specs.Words.{encode_of, mark_word}
+use Rattle.progress.specs.Progress.{encode_progress, check_in}
+use Rattle.calls.specs.Calls.{answer_number}
+use Rattle.ccheck.proofs.vz_check_start.Reads as start_reads
+use Rattle.ccheck.proofs.vz_check_fill.Reads as fill_reads
 use Rattle.demands.specs.Bench.{BenchSound}
 use Rattle.demands.specs.Texts.{Starts, FillsCheck}
 
 -- the words of the check c
 pub record Tells (c : Check) (ws ps : List ℤ) : Type 0 where
-  pub words : ws ≡ encodeOf c.tally.bench
-  pub progress : ps ≡ encodeProgress c
+  pub words : ws ≡ encode_of c.tally.bench
+  pub progress : ps ≡ encode_progress c
 
 -- a start may answer n
 abbrev pub StartsFromC : Lfts 2 → (words words' progress progress' : Bor (List ℤ)) (p w xlo xhi ylo yhi n : ℤ) → Type 0
 StartsFromC κs words words' progress progress' p w xlo xhi ylo yhi n =
-    start-reads.Learnt κs (words, (progress, (p, (w, (xlo, (xhi, (ylo, (yhi, tt)))))))) n
+    start_reads.Learnt κs (words, (progress, (p, (w, (xlo, (xhi, (ylo, (yhi, tt)))))))) n
     (words', (progress', (p, (w, (xlo, (xhi, (ylo, (yhi, tt))))))))
 
 -- the words of a check that begins at the bench of the machine that a make answers
 abbrev pub StartedWords : Settings → (n : ℤ) (ws ps : List ℤ) → Type 0
 StartedWords s n ws ps =
-    (r : Answered) × Makes s r × (n ≡ answerNumber r.answer) × (c : Check) × Starts r.machine.bench c × Tells c ws ps
+    (r : Answered) × Makes s r × (n ≡ answer_number r.answer) × (c : Check) × Starts r.machine.bench c × Tells c ws ps
 
 -- a fill of the words, lent the text, may answer n
 abbrev pub FillsFromC : Lfts 5 → (ws ws' ps ps' : Bor (List ℤ)) (text out out' : Bor (List ℕ)) (len len' : Bor ℕ) (n : ℤ) → Type 0
 FillsFromC κs ws ws' ps ps' text out out' len len' n =
-    fill-reads.Learnt κs (ws, (ps, (text, (out, (len, tt))))) n (ws', (ps', (text, (out', (len', tt)))))
+    fill_reads.Learnt κs (ws, (ps, (text, (out, (len, tt))))) n (ws', (ps', (text, (out', (len', tt)))))
 
 -- the check's own fill: 1 once all is handed out, else 0
 abbrev pub OwnFill : Check → (text out out' : Bor (List ℕ)) (n : ℤ) (len : ℕ) (ws' ps' : List ℤ) → Type 0
 OwnFill c text out out' n len ws' ps' =
-    (f : Filled) × ((κs : Lfts 2) → FillsCheck κs c text out out' f) × (n ≡ markWord (is_over f.check)) × (len ≡ f.len)
+    (f : Filled) × ((κs : Lfts 2) → FillsCheck κs c text out out' f) × (n ≡ mark_word (is_over f.check)) × (len ≡ f.len)
     × Tells f.check ws' ps'
 
 -- the words of a sound bench, and a check's progress at it
 abbrev pub IsCheck : (ws ps : List ℤ) → Bench → Type 0
-IsCheck ws ps k = BenchSound k × (ws ≡ encodeOf k) × (ps ≡ encodeProgress (checkIn k ps))
+IsCheck ws ps k = BenchSound k × (ws ≡ encode_of k) × (ps ≡ encode_progress (check_in k ps))
 
 -- fills of one text, one after the other, lead from these words to those, and hand these bytes out; n is what the last answered
 pub data RowsOutToC (text : List ℕ) (ws ps : List ℤ) : List ℕ → (n : ℤ) → (ws' ps' : List ℤ) → Type 0 where

@@ -7,43 +7,43 @@ use Rattle.circle.specs.declared.plane.Turn.{Turn}
 use Rattle.block.specs.declared.Path.{Path}
 use Rattle.queue.specs.Queue as queue
 use Rattle.settings.specs.declared.Settings.{Settings}
-use Rattle.settings.specs.Settings.{feedUnit, capacityOf}
+use Rattle.settings.specs.Settings.{feed_unit, capacity_of}
 use Rattle.bench.specs.declared.Bench.{Bench}
 use Rattle.machine.specs.declared.Machine.{Machine}
 use Rattle.machine.specs.declared.Answered.{Answered}
 use Rattle.machine.specs.declared.Ticked.{Ticked}
 use Rattle.machine.specs.declared.Ran.{Ran}
 use Rattle.look.specs.declared.Ahead.{Ahead}
-use Rattle.history.specs.Contracts.{Makes, Loads, Ticks, Runs, Holds, Releases, Stops, ReadsLine, Looks}
+use Rattle.history.specs.CallContracts.{Makes, Loads, Ticks, Runs, Holds, Releases, Stops, ReadsLine, Looks}
 use Rattle.reader.specs.declared.Feed.{Feed}
 use Rattle.reader.specs.declared.Reader.{Reader}
 use Rattle.textline.specs.declared.ReadLine.{ReadLine}
-use Rattle.job.specs.computed.Job.{jobAt}
-use Rattle.job.specs.Listing.{jobListing}
-use Rattle.panel.specs.computed.Listing.{panelJob}
-use Rattle.encoding.specs.Words.{settingsOf}
-use Rattle.record.specs.Words.{encodeOf, over}
-use Rattle.progress.specs.Known.{encodeKnown}
-use Rattle.progress.specs.Progress.{checkIn}
-use Rattle.calls.specs.Calls.{WordCall, answerNumber, tickNumber, reportNumber}
-use Rattle.cmachine.specs.Given.{arcPath, blockGiven}
-use Rattle.cmachine.specs.Looks.{sumWords, noSums}
-use Rattle.cmachine.specs.Texts.{readNumber}
+use Rattle.job.specs.computed.Job.{job_at}
+use Rattle.job.specs.Listing.{job_listing}
+use Rattle.panel.specs.computed.Listing.{panel_job}
+use Rattle.encoding.specs.Words.{settings_of}
+use Rattle.record.specs.Words.{encode_of, over}
+use Rattle.progress.specs.Known.{encode_known}
+use Rattle.progress.specs.Progress.{check_in}
+use Rattle.calls.specs.Calls.{WordCall, answer_number, tick_number, report_number}
+use Rattle.cmachine.specs.Given.{arc_path, block_given}
+use Rattle.cmachine.specs.Looks.{sum_words, no_sums}
+use Rattle.cmachine.specs.Texts.{read_number}
 use Rattle.ccheck.specs.Check.{Refuses}
-use Rattle.cpanel.specs.Words.{panelIn}
-use Rattle.cmachine.proofs.vz_make.Reads as make-reads
+use Rattle.cpanel.specs.Words.{panel_in}
+use Rattle.cmachine.proofs.vz_make.Reads as make_reads
 use Rattle.cmachine.proofs.vz_load_line.Reads as line_reads_lem
-use Rattle.cmachine.proofs.vz_load_cw.Reads as cw-reads
-use Rattle.cmachine.proofs.vz_load_ccw.Reads as ccw-reads
-use Rattle.cmachine.proofs.vz_tick.Reads as tick-reads
-use Rattle.cmachine.proofs.vz_run.Reads as run-reads
-use Rattle.cmachine.proofs.vz_hold.Reads as hold-reads
-use Rattle.cmachine.proofs.vz_release.Reads as release-reads
-use Rattle.cmachine.proofs.vz_stop.Reads as stop-reads
-use Rattle.cmachine.proofs.lookahead.vz_ahead.Reads as ahead-reads
-use Rattle.cmachine.proofs.text.vz_read_line.Reads as text-reads
+use Rattle.cmachine.proofs.vz_load_cw.Reads as cw_reads
+use Rattle.cmachine.proofs.vz_load_ccw.Reads as ccw_reads
+use Rattle.cmachine.proofs.vz_tick.Reads as tick_reads
+use Rattle.cmachine.proofs.vz_run.Reads as run_reads
+use Rattle.cmachine.proofs.vz_hold.Reads as hold_reads
+use Rattle.cmachine.proofs.vz_release.Reads as release_reads
+use Rattle.cmachine.proofs.vz_stop.Reads as stop_reads
+use Rattle.cmachine.proofs.lookahead.vz_ahead.Reads as ahead_reads
+use Rattle.cmachine.proofs.text.vz_read_line.Reads as text_reads
 use Rattle.demands.specs.Asked.{AllYes}
-use Rattle.demands.specs.Bench.{settingsQuestions}
+use Rattle.demands.specs.Bench.{settings_questions}
 use Rattle.demands.specs.Sound.{Sound}
 use Rattle.demands.specs.Texts.{FrontOf}
 use Rattle.demands.specs.CheckFromC.{StartsFromC, StartedWords, FillsFromC, OwnFill, IsCheck, RowsOutToC}
@@ -53,11 +53,11 @@ use Rattle.demands.specs.PanelFromC.{RowsReadToC, MoreToC}
 -- ---- the machine's own call on the record m: it may give the answer n, as C has it, and the record m'
 
 abbrev pub OwnAnswer : (Answered → Type 0) → (n : ℤ) → Machine → Type 0
-OwnAnswer May n m' = (r : Answered) × May r × (n ≡ answerNumber r.answer) × (m' ≡ r.machine)
+OwnAnswer May n m' = (r : Answered) × May r × (n ≡ answer_number r.answer) × (m' ≡ r.machine)
 
 abbrev pub Own : WordCall → (m : Machine) (n : ℤ) (m' : Machine) → Type 0
 Own (WordCall.load b) m n m' = OwnAnswer (Loads m b) n m'
-Own WordCall.tick m n m' = (r : Ticked) × Ticks m r × (n ≡ tickNumber r.tick) × (m' ≡ r.machine)
+Own WordCall.tick m n m' = (r : Ticked) × Ticks m r × (n ≡ tick_number r.tick) × (m' ≡ r.machine)
 Own WordCall.hold m n m' = OwnAnswer (Holds m) n m'
 Own WordCall.release m n m' = OwnAnswer (Releases m) n m'
 Own WordCall.stop m n m' = OwnAnswer (Stops m) n m'
@@ -67,7 +67,7 @@ Own WordCall.stop m n m' = OwnAnswer (Stops m) n m'
 -- words that begin with those of a sound record; what stands behind these is no part of it
 pub record Carries (ws : List ℤ) (m : Machine) : Type 0 where
   pub sound : Sound m
-  pub words : take (length (encodeOf m)) ws ≡ encodeOf m
+  pub words : take (length (encode_of m)) ws ≡ encode_of m
   -- words do not tell what the places hold in which none waits, and no answer depends on it: here they are blank, as in every history
   pub blank : drop m.queue.len m.queue.blocks ≡ replicate (16 - m.queue.len) queue.blank
 
@@ -77,7 +77,7 @@ NoRecord ws = (m : Machine) → ¬ (Carries ws m)
 
 pub record OnWords (call : WordCall) (before : List ℤ) (n : ℤ) (after : List ℤ) : Type 0 where
   -- the words after it are again those of a sound record, and those behind them are as they were
-  pub own : (m : Machine) → Carries before m → (m' : Machine) × Own call m n m' × Carries after m' × (after ≡ over (encodeOf m') before)
+  pub own : (m : Machine) → Carries before m → (m' : Machine) × Own call m n m' × Carries after m' × (after ≡ over (encode_of m') before)
   -- "Any call on a record: is it sound? 9."; "returns record and buffers unchanged"
   pub others : NoRecord before → (n ≡ negsuc 8) × (after ≡ before)
   -- a refusal of whatever number leaves every word
@@ -86,11 +86,11 @@ pub record OnWords (call : WordCall) (before : List ℤ) (n : ℤ) (after : List
 -- of a run, the ticks and the buffer too
 abbrev pub OwnRun : Machine → (budget : ℕ) (out out' : Bor (List ℕ)) (n : ℤ) (ticks : ℕ) → Machine → Type 0
 OwnRun m budget out out' n ticks m' =
-    (r : Ran) × ((κs : Lfts 1) → Runs κs m budget out out' r) × (n ≡ reportNumber r.report) × (ticks ≡ r.ticks) × (m' ≡ r.machine)
+    (r : Ran) × ((κs : Lfts 1) → Runs κs m budget out out' r) × (n ≡ report_number r.report) × (ticks ≡ r.ticks) × (m' ≡ r.machine)
 
 pub record RunOnWords (before : List ℤ) (budget : ℕ) (out out' : Bor (List ℕ)) (n : ℤ) (ticks : ℕ) (after : List ℤ) : Type 0 where
   pub own : (m : Machine) → Carries before m
-      → (m' : Machine) × OwnRun m budget out out' n ticks m' × Carries after m' × (after ≡ over (encodeOf m') before)
+      → (m' : Machine) × OwnRun m budget out out' n ticks m' × Carries after m' × (after ≡ over (encode_of m') before)
   pub others : NoRecord before → (n ≡ negsuc 8) × (ticks ≡ 0) × (after ≡ before) × (out'.now ≡ out.now)
   pub refused : (k : ℕ) → n ≡ negsuc k → (ticks ≡ 0) × (after ≡ before) × (out'.now ≡ out.now)
 
@@ -98,22 +98,22 @@ pub record RunOnWords (before : List ℤ) (budget : ℕ) (out out' : Bor (List �
 pub data TickedWords : ℕ → (before after : List ℤ) → Type 0 where
   none : {ws : List ℤ} → TickedWords zero ws ws
   one : {n : ℕ} {ws : List ℤ} (κs : Lfts 1) (words words' : Bor (List ℤ)) (answer : ℤ)
-      → tick-reads.Learnt κs (words, tt) answer (words', tt) → TickedWords n words'.now ws → TickedWords (suc n) words.now ws
+      → tick_reads.Learnt κs (words, tt) answer (words', tt) → TickedWords n words'.now ws → TickedWords (suc n) words.now ws
 
 -- of a look-ahead, the words of the record that it gives, and the sums; those of the machine itself are lent for reading
 pub record LookOnWords (before : List ℤ) (ticks : ℕ) (n : ℤ) (then sums : List ℤ) : Type 0 where
   pub own : (m : Machine) → Carries before m
-      → (r : Ahead) × Looks m ticks r × (n ≡ answerNumber r.answer) × Carries then r.then × (sums ≡ sumWords r.sums)
+      → (r : Ahead) × Looks m ticks r × (n ≡ answer_number r.answer) × Carries then r.then × (sums ≡ sum_words r.sums)
   -- 02 §1: "the record .. that the same ticks would give on a copy", in every word
   pub copy : n ≡ pos 0 → (ws : List ℤ) → TickedWords ticks before ws → then ≡ ws
-  pub others : NoRecord before → (n ≡ negsuc 8) × (then ≡ before) × (sums ≡ noSums)
+  pub others : NoRecord before → (n ≡ negsuc 8) × (then ≡ before) × (sums ≡ no_sums)
   -- 02 §1: "A refusal gives the machine's own record and sums of 0."
-  pub refused : (k : ℕ) → n ≡ negsuc k → (then ≡ before) × (sums ≡ noSums)
+  pub refused : (k : ℕ) → n ≡ negsuc k → (then ≡ before) × (sums ≡ no_sums)
 
 -- a make asks nothing of the words
 abbrev pub MadeWords : Settings → (before : List ℤ) (n : ℤ) (after : List ℤ) → Type 0
 MadeWords s before n after =
-    (r : Answered) × Makes s r × (n ≡ answerNumber r.answer) × Carries after r.machine × (after ≡ over (encodeOf r.machine) before)
+    (r : Answered) × Makes s r × (n ≡ answer_number r.answer) × Carries after r.machine × (after ≡ over (encode_of r.machine) before)
 
 -- ---- a line of a job text, with the G and F known in 2 words
 
@@ -124,88 +124,88 @@ FeedWritten (Feed.Known millimetres thousandths) = (millimetres < 10 ^ 7) × (th
 
 -- words that tell nothing known
 abbrev pub NotKnown : List ℤ → Type 0
-NotKnown ks = (k : Reader) → FeedWritten k.feed → ¬ (ks ≡ encodeKnown k)
+NotKnown ks = (k : Reader) → FeedWritten k.feed → ¬ (ks ≡ encode_known k)
 
 pub record LineOnWords (before known : List ℤ) (line : Bor (List ℕ)) (n : ℤ) (after known' : List ℤ) : Type 0 where
   -- read_line's own, and the words after it are again those of a sound record
-  pub own : (m : Machine) → Carries before m → (k : Reader) → FeedWritten k.feed → known ≡ encodeKnown k
-      → (r : ReadLine) × ((κs : Lfts 1) → ReadsLine κs k m line r) × (n ≡ readNumber r.answer) × Carries after r.machine
-      × (after ≡ over (encodeOf r.machine) before) × (known' ≡ encodeKnown r.reader)
+  pub own : (m : Machine) → Carries before m → (k : Reader) → FeedWritten k.feed → known ≡ encode_known k
+      → (r : ReadLine) × ((κs : Lfts 1) → ReadsLine κs k m line r) × (n ≡ read_number r.answer) × Carries after r.machine
+      × (after ≡ over (encode_of r.machine) before) × (known' ≡ encode_known r.reader)
   pub others : NoRecord before ⊎ NotKnown known → (n ≡ negsuc 8) × (after ≡ before) × (known' ≡ known)
   -- "A refused line leaves the known G and F and the machine as before it."
   pub refused : (k : ℕ) → n ≡ negsuc k → (after ≡ before) × (known' ≡ known)
 
 pub record EveryCallFromC : Type 0 where
   pub make : (κs : Lfts 1) (words words' : Bor (List ℤ)) (p w xlo xhi ylo yhi n : ℤ)
-      → make-reads.Learnt κs (words, (p, (w, (xlo, (xhi, (ylo, (yhi, tt))))))) n (words', (p, (w, (xlo, (xhi, (ylo, (yhi, tt)))))))
-      → MadeWords (settingsOf p w xlo xhi ylo yhi) words.now n words'.now
+      → make_reads.Learnt κs (words, (p, (w, (xlo, (xhi, (ylo, (yhi, tt))))))) n (words', (p, (w, (xlo, (xhi, (ylo, (yhi, tt)))))))
+      → MadeWords (settings_of p w xlo xhi ylo yhi) words.now n words'.now
   pub line : (κs : Lfts 1) (words words' : Bor (List ℤ)) (x y feed n : ℤ)
       → line_reads_lem.Learnt κs (words, (x, (y, (feed, tt)))) n (words', (x, (y, (feed, tt))))
-      → OnWords (WordCall.load (blockGiven Path.Line x y feed)) words.now n words'.now
+      → OnWords (WordCall.load (block_given Path.Line x y feed)) words.now n words'.now
   pub clockwise : (κs : Lfts 1) (words words' : Bor (List ℤ)) (x y feed i j n : ℤ)
-      → cw-reads.Learnt κs (words, (x, (y, (feed, (i, (j, tt)))))) n (words', (x, (y, (feed, (i, (j, tt))))))
-      → OnWords (WordCall.load (blockGiven (arcPath Turn.Clockwise i j) x y feed)) words.now n words'.now
+      → cw_reads.Learnt κs (words, (x, (y, (feed, (i, (j, tt)))))) n (words', (x, (y, (feed, (i, (j, tt))))))
+      → OnWords (WordCall.load (block_given (arc_path Turn.Clockwise i j) x y feed)) words.now n words'.now
   pub counterclockwise : (κs : Lfts 1) (words words' : Bor (List ℤ)) (x y feed i j n : ℤ)
-      → ccw-reads.Learnt κs (words, (x, (y, (feed, (i, (j, tt)))))) n (words', (x, (y, (feed, (i, (j, tt))))))
-      → OnWords (WordCall.load (blockGiven (arcPath Turn.Counterclockwise i j) x y feed)) words.now n words'.now
-  pub tick : (κs : Lfts 1) (words words' : Bor (List ℤ)) (n : ℤ) → tick-reads.Learnt κs (words, tt) n (words', tt)
+      → ccw_reads.Learnt κs (words, (x, (y, (feed, (i, (j, tt)))))) n (words', (x, (y, (feed, (i, (j, tt))))))
+      → OnWords (WordCall.load (block_given (arc_path Turn.Counterclockwise i j) x y feed)) words.now n words'.now
+  pub tick : (κs : Lfts 1) (words words' : Bor (List ℤ)) (n : ℤ) → tick_reads.Learnt κs (words, tt) n (words', tt)
       → OnWords WordCall.tick words.now n words'.now
-  pub hold : (κs : Lfts 1) (words words' : Bor (List ℤ)) (n : ℤ) → hold-reads.Learnt κs (words, tt) n (words', tt)
+  pub hold : (κs : Lfts 1) (words words' : Bor (List ℤ)) (n : ℤ) → hold_reads.Learnt κs (words, tt) n (words', tt)
       → OnWords WordCall.hold words.now n words'.now
-  pub release : (κs : Lfts 1) (words words' : Bor (List ℤ)) (n : ℤ) → release-reads.Learnt κs (words, tt) n (words', tt)
+  pub release : (κs : Lfts 1) (words words' : Bor (List ℤ)) (n : ℤ) → release_reads.Learnt κs (words, tt) n (words', tt)
       → OnWords WordCall.release words.now n words'.now
-  pub stop : (κs : Lfts 1) (words words' : Bor (List ℤ)) (n : ℤ) → stop-reads.Learnt κs (words, tt) n (words', tt)
+  pub stop : (κs : Lfts 1) (words words' : Bor (List ℤ)) (n : ℤ) → stop_reads.Learnt κs (words, tt) n (words', tt)
       → OnWords WordCall.stop words.now n words'.now
   pub run : (κs : Lfts 3) (words words' : Bor (List ℤ)) (budget : ℕ) (out out' : Bor (List ℕ)) (ticks ticks' : Bor ℕ) (n : ℤ)
-      → run-reads.Learnt κs (words, (budget, (out, (ticks, tt)))) n (words', (budget, (out', (ticks', tt))))
+      → run_reads.Learnt κs (words, (budget, (out, (ticks, tt)))) n (words', (budget, (out', (ticks', tt))))
       → RunOnWords words.now budget out out' n ticks'.now words'.now
   pub look : (κs : Lfts 3) (words then then' sums sums' : Bor (List ℤ)) (ticks : ℕ) (n : ℤ)
-      → ahead-reads.Learnt κs (words, (ticks, (then, (sums, tt)))) n (words, (ticks, (then', (sums', tt))))
+      → ahead_reads.Learnt κs (words, (ticks, (then, (sums, tt)))) n (words, (ticks, (then', (sums', tt))))
       → LookOnWords words.now ticks n then'.now sums'.now
   pub text : (κs : Lfts 3) (words words' known known' : Bor (List ℤ)) (line : Bor (List ℕ)) (n : ℤ)
-      → text-reads.Learnt κs (words, (known, (line, tt))) n (words', (known', (line, tt)))
+      → text_reads.Learnt κs (words, (known, (line, tt))) n (words', (known', (line, tt)))
       → LineOnWords words.now known.now line n words'.now known'.now
   pub start : (κs : Lfts 2) (words words' progress progress' : Bor (List ℤ)) (p w xlo xhi ylo yhi n : ℤ)
       → StartsFromC κs words words' progress progress' p w xlo xhi ylo yhi n
-      → StartedWords (settingsOf p w xlo xhi ylo yhi) n words'.now progress'.now
+      → StartedWords (settings_of p w xlo xhi ylo yhi) n words'.now progress'.now
   pub fill : (κs : Lfts 5) (ws ws' ps ps' : Bor (List ℤ)) (text out out' : Bor (List ℕ)) (len len' : Bor ℕ) (n : ℤ)
       → FillsFromC κs ws ws' ps ps' text out out' len len' n → (k : Bench) → IsCheck ws.now ps.now k
-      → OwnFill (checkIn k ps.now) text out out' n len'.now ws'.now ps'.now
+      → OwnFill (check_in k ps.now) text out out' n len'.now ws'.now ps'.now
   -- all other words get 9, and nothing is written
-  pub no-check : (κs : Lfts 5) (ws ws' ps ps' : Bor (List ℤ)) (text out out' : Bor (List ℕ)) (len len' : Bor ℕ) (n : ℤ)
+  pub no_check : (κs : Lfts 5) (ws ws' ps ps' : Bor (List ℤ)) (text out out' : Bor (List ℕ)) (len len' : Bor ℕ) (n : ℤ)
       → FillsFromC κs ws ws' ps ps' text out out' len len' n → ((k : Bench) → ¬ (IsCheck ws.now ps.now k))
       → Refuses ws.now ps.now out.now n len'.now ws'.now ps'.now out'.now
   -- "The check program", from C: whoever fills the words of a start gets the listing, to the byte, and the answer 1 at its end
   pub listing : (κs : Lfts 2) (words words' progress progress' : Bor (List ℤ)) (p w xlo xhi ylo yhi n : ℤ)
       → StartsFromC κs words words' progress progress' p w xlo xhi ylo yhi n
-      → (let s = settingsOf p w xlo xhi ylo yhi in AllYes (settingsQuestions s)
+      → (let s = settings_of p w xlo xhi ylo yhi in AllYes (settings_questions s)
       → (text bytes : List ℕ) (last : ℤ) (ws ps : List ℤ) → RowsOutToC text words'.now progress'.now bytes last ws ps
-      → FrontOf (jobListing (capacityOf s) (jobAt feedUnit s text)) bytes (last ≡ pos 1))
-  pub panel-start : (κs : Lfts 2) (words words' panel panel' : Bor (List ℤ)) (p w xlo xhi ylo yhi n : ℤ)
+      → FrontOf (job_listing (capacity_of s) (job_at feed_unit s text)) bytes (last ≡ pos 1))
+  pub panel_start : (κs : Lfts 2) (words words' panel panel' : Bor (List ℤ)) (p w xlo xhi ylo yhi n : ℤ)
       → StartsPanelFromC κs words words' panel panel' p w xlo xhi ylo yhi n
-      → StartedPanel (settingsOf p w xlo xhi ylo yhi) n words'.now panel'.now
-  pub panel-read : (f : ReadCall) → ReadsFromC f → (k : Bench) → IsPanel f.words.now f.panel.now k
-      → OwnRead (panelIn k f.panel.now) f
+      → StartedPanel (settings_of p w xlo xhi ylo yhi) n words'.now panel'.now
+  pub panel_read : (f : ReadCall) → ReadsFromC f → (k : Bench) → IsPanel f.words.now f.panel.now k
+      → OwnRead (panel_in k f.panel.now) f
   -- all other words get 9, and nothing is written
-  pub no-panel : (f : ReadCall) → ReadsFromC f → ((k : Bench) → ¬ (IsPanel f.words.now f.panel.now k)) → Unchanged (negsuc 8) f
+  pub no_panel : (f : ReadCall) → ReadsFromC f → ((k : Bench) → ¬ (IsPanel f.words.now f.panel.now k)) → Unchanged (negsuc 8) f
   -- nor where a buffer is too short
-  pub panel-short : (f : ReadCall) → ReadsFromC f → f.answer ≡ pos 2 → Unchanged (pos 2) f
+  pub panel_short : (f : ReadCall) → ReadsFromC f → f.answer ≡ pos 2 → Unchanged (pos 2) f
   -- 02 §5: however the text is cut, whoever goes on from the words of a start gets the panel's listing, to the byte, and the answer 1 at
   -- its end
-  pub panel-listing : (κs : Lfts 2) (words words' panel panel' : Bor (List ℤ)) (p w xlo xhi ylo yhi n : ℤ)
+  pub panel_listing_lem : (κs : Lfts 2) (words words' panel panel' : Bor (List ℤ)) (p w xlo xhi ylo yhi n : ℤ)
       → StartsPanelFromC κs words words' panel panel' p w xlo xhi ylo yhi n
-      → (let s = settingsOf p w xlo xhi ylo yhi in AllYes (settingsQuestions s)
+      → (let s = settings_of p w xlo xhi ylo yhi in AllYes (settings_questions s)
       → (text left scratch bytes : List ℕ) (last : ℤ) (ws ps : List ℤ)
       → RowsReadToC text words'.now panel'.now left scratch bytes last ws ps
-      → FrontOf (jobListing (capacityOf s) (panelJob s text)) bytes (last ≡ pos 1))
+      → FrontOf (job_listing (capacity_of s) (panel_job s text)) bytes (last ≡ pos 1))
   -- words that a start or a call wrote are a panel's check, whatever the settings, so that the next call does not get 9,
-  pub panel-keeps : (κs : Lfts 2) (words words' panel panel' : Bor (List ℤ)) (p w xlo xhi ylo yhi n : ℤ)
+  pub panel_keeps : (κs : Lfts 2) (words words' panel panel' : Bor (List ℤ)) (p w xlo xhi ylo yhi n : ℤ)
       → StartsPanelFromC κs words words' panel panel' p w xlo xhi ylo yhi n
       → (text left scratch bytes : List ℕ) (last : ℤ) (ws ps : List ℤ)
       → RowsReadToC text words'.now panel'.now left scratch bytes last ws ps
       → (k : Bench) × IsPanel ws ps k
   -- and a loop that brings a byte or the end of the text at each call ends: so many of them answer 0 at most
-  pub panel-ends : (κs : Lfts 2) (words words' panel panel' : Bor (List ℤ)) (p w xlo xhi ylo yhi n : ℤ)
+  pub panel_ends : (κs : Lfts 2) (words words' panel panel' : Bor (List ℤ)) (p w xlo xhi ylo yhi n : ℤ)
       → StartsPanelFromC κs words words' panel panel' p w xlo xhi ylo yhi n
       → (calls : ℕ) → MoreToC words'.now panel'.now calls
       → calls ≤ 131073

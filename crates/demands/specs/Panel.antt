@@ -3,52 +3,52 @@ use Rattle.std.specs.Prelude.{◌≡◌, Bool, true, false, ◌⊎◌, ◌↔◌
 use Rattle.std.specs.Borrow.{Bor}
 use contract.Lifetimes.{Lfts}
 use Rattle.settings.specs.declared.Settings.{Settings}
-use Rattle.settings.specs.Settings.{feedUnit, capacityOf}
+use Rattle.settings.specs.Settings.{feed_unit, capacity_of}
 use Rattle.bench.specs.declared.Bench.{Bench}
 use Rattle.bench.specs.Bench.{fresh_of}
 use Rattle.reader.specs.Reader.{unknown}
 use Rattle.job.specs.Job.{Made, End}
-use Rattle.job.specs.computed.Job.{jobAt}
-use Rattle.job.specs.Listing.{jobListing}
+use Rattle.job.specs.computed.Job.{job_at}
+use Rattle.job.specs.Listing.{job_listing}
 use Rattle.panel.specs.declared.PanelCheck.{PanelCheck}
 use Rattle.panel.specs.declared.Told.{Told}
 use Rattle.panel.specs.declared.PieceRead.{PieceRead}
-use Rattle.panel.specs.Whole.{lfsIn, wholeLines}
-use Rattle.panel.specs.computed.Listing.{panelJob}
-use Rattle.panel.proofs.PanelCheck.start.Reads as start-reads
-use Rattle.panel.proofs.PanelCheck.read.Reads as read-reads
+use Rattle.panel.specs.Whole.{lfs_in, whole_lines}
+use Rattle.panel.specs.computed.Listing.{panel_job}
+use Rattle.panel.proofs.PanelCheck.start.Reads as start_reads
+use Rattle.panel.proofs.PanelCheck.read.Reads as read_reads
 use Rattle.panel.proofs.PanelCheck.is_over.Reads as over_reads
 use Rattle.demands.specs.Asked.{AllYes}
-use Rattle.demands.specs.Bench.{settingsQuestions}
+use Rattle.demands.specs.Bench.{settings_questions}
 use Rattle.demands.specs.Texts.{LinesMean, TextMeans, EveryCounted, FrontOf}
 
 -- ---- what the panel lists
 
 -- these lines from the first on, read from a fresh machine
 abbrev pub FromStart : Settings → (lines : List (List ℕ)) → List Made → End → Type 0
-FromStart s lines made end = LinesMean feedUnit s 1 (record { x = pos 0; y = pos 0 }) unknown lines made end
+FromStart s lines made end = LinesMean feed_unit s 1 (record { x = pos 0; y = pos 0 }) unknown lines made end
 
 pub data PanelMeans (s : Settings) (text : List ℕ) : List Made → End → Type 0 where
   -- "For a text of at most 65,536 bytes the listing equals the old one in every byte."
-  short : {made : List Made} {end : End} → length text ≤ 65536 → TextMeans feedUnit s text made end → PanelMeans s text made end
+  short : {made : List Made} {end : End} → length text ≤ 65536 → TextMeans feed_unit s text made end → PanelMeans s text made end
   -- "For a longer one the rows of the whole lines before byte 65,537 come first." One of these may be refused,
-  refused : {made : List Made} {n number : ℕ} → 65536 < length text → FromStart s (wholeLines text) made (End.refused n number)
+  refused : {made : List Made} {n number : ℕ} → 65536 < length text → FromStart s (whole_lines text) made (End.refused n number)
       → PanelMeans s text made (End.refused n number)
   -- "Unless one of those was refused, 30 follows with the line holding that byte, whose other faults don't count."
-  long : {made : List Made} → 65536 < length text → FromStart s (wholeLines text) made End.complete
-      → PanelMeans s text made (End.refused (length (wholeLines text) + 1) 30)
+  long : {made : List Made} → 65536 < length text → FromStart s (whole_lines text) made End.complete
+      → PanelMeans s text made (End.refused (length (whole_lines text) + 1) 30)
 
 -- ---- its calls, by their contracts
 
 -- the check that begins at this bench
 abbrev pub StartsPanel : Bench → PanelCheck → Type 0
-StartsPanel m c = start-reads.Learnt tt (m, tt) c (m, tt)
+StartsPanel m c = start_reads.Learnt tt (m, tt) c (m, tt)
 
 -- read, lent a scratch buffer, a piece and a buffer for rows, may return f and leave the buffers as free and rows'
 abbrev pub ReadsPanel : Lfts 3 → PanelCheck → (scratch free piece : Bor (List ℕ)) (last : Bool) (rows rows' : Bor (List ℕ)) → PieceRead
     → Type 0
 ReadsPanel κs c scratch free piece last rows rows' f =
-    read-reads.Learnt κs (c, (scratch, (piece, (last, (rows, tt))))) f (c, (free, (piece, (last, (rows', tt)))))
+    read_reads.Learnt κs (c, (scratch, (piece, (last, (rows, tt))))) f (c, (free, (piece, (last, (rows', tt)))))
 
 -- is_over may answer r
 abbrev pub TellsPanelOver : PanelCheck → Bool → Type 0
@@ -59,7 +59,7 @@ TellsPanelOver c r = over_reads.Learnt tt (c, tt) r (c, tt)
 -- the scratch buffer then holds is free.
 pub record Reading (piece rows rows' : List ℕ) (f : PieceRead) : Type 0 where
   pub took : f.took ≤ length piece
-  pub line : lfsIn (take (f.took - 1) piece) ≡ 0
+  pub line : lfs_in (take (f.took - 1) piece) ≡ 0
   pub wrote : f.wrote ≤ 160
   pub later : drop f.wrote rows' ≡ drop f.wrote rows
   pub more : f.told ≡ Told.More → TellsPanelOver f.check false
@@ -69,8 +69,8 @@ pub record Reading (piece rows rows' : List ℕ) (f : PieceRead) : Type 0 where
 -- with a buffer that is too short nothing changes, and the call says so
 pub record Unread (c : PanelCheck) (scratch free rows rows' : List ℕ) (f : PieceRead) : Type 0 where
   pub read : f ≡ record { told = Told.Short; took = 0; wrote = 0; check = c }
-  pub scratch-kept : free ≡ scratch
-  pub rows-kept : rows' ≡ rows
+  pub scratch_kept : free ≡ scratch
+  pub rows_kept : rows' ≡ rows
 
 -- "a scratch buffer of 81 bytes", and room for a row
 abbrev pub LongEnough : (scratch rows : List ℕ) → Type 0
@@ -97,13 +97,13 @@ pub data CallsOn : PanelCheck → (calls : ℕ) → Type 0 where
       → ReadsPanel κs c scratch free piece last rows rows' f → CallsOn f.check n → CallsOn c (suc n)
 
 pub record EveryPanel : Type 0 where
-  -- `panelJob` is what the panel lists of a text, and it is nothing else
+  -- `panel_job` is what the panel lists of a text, and it is nothing else
   pub means : (s : Settings) (text : List ℕ) (made : List Made) (end : End)
-      → PanelMeans s text made end ↔ (panelJob s text ≡ record { blocks = made; end = end })
-  pub counts : (s : Settings) (text : List ℕ) → EveryCounted (panelJob s text).blocks
+      → PanelMeans s text made end ↔ (panel_job s text ≡ record { blocks = made; end = end })
+  pub counts : (s : Settings) (text : List ℕ) → EveryCounted (panel_job s text).blocks
   -- "For a text of at most 65,536 bytes the listing equals the old one in every byte."
   pub same : (s : Settings) (text : List ℕ) → length text ≤ 65536
-      → jobListing (capacityOf s) (panelJob s text) ≡ jobListing (capacityOf s) (jobAt feedUnit s text)
+      → job_listing (capacity_of s) (panel_job s text) ≡ job_listing (capacity_of s) (job_at feed_unit s text)
   -- any call answers, on any check whatever
   pub read : (κs : Lfts 3) (c : PanelCheck) (scratch free piece : Bor (List ℕ)) (last : Bool) (rows rows' : Bor (List ℕ)) (f : PieceRead)
       → ReadsPanel κs c scratch free piece last rows rows' f → LongEnough scratch.now rows.now
@@ -112,8 +112,8 @@ pub record EveryPanel : Type 0 where
       → ReadsPanel κs c scratch free piece last rows rows' f → (length scratch.now < 81) ⊎ (length rows.now < 160)
       → Unread c scratch.now free.now rows.now rows'.now f
   -- whoever hands a text to a check that began at a fresh machine, however it is cut, gets the panel's listing, to the byte
-  pub listing : (s : Settings) → AllYes (settingsQuestions s) → (c : PanelCheck) → StartsPanel (fresh_of s) c
+  pub listing : (s : Settings) → AllYes (settings_questions s) → (c : PanelCheck) → StartsPanel (fresh_of s) c
       → (text left scratch bytes : List ℕ) (d : PanelCheck) → RowsRead text c left scratch bytes d
-      → FrontOf (jobListing (capacityOf s) (panelJob s text)) bytes (TellsPanelOver d true)
+      → FrontOf (job_listing (capacity_of s) (panel_job s text)) bytes (TellsPanelOver d true)
   -- and comes to its end: a loop that hands over a byte, or the end of the text, at each call cannot hang
   pub ends : (m : Bench) (c : PanelCheck) → StartsPanel m c → (n : ℕ) → CallsOn c n → n ≤ 131074

@@ -1,7 +1,7 @@
 -- "A record is sound if ..": the code's own test, by its contract, says so exactly where the paper's list holds.
 use Rattle.std.specs.Prelude.{◌≡◌, Bool, true, ◌↔◌}
 use Rattle.machine.specs.declared.Machine.{Machine}
-use Rattle.history.specs.Contracts.{Tests, PassesTest}
+use Rattle.history.specs.CallContracts.{Tests, PassesTest}
 use Rattle.demands.specs.Sound.{Sound}
 
 pub record EveryRecord : Type 0 where

@@ -2,11 +2,11 @@
 use Rattle.std.specs.Prelude.{◌≡◌, true, false, ◌≢◌, ◌↔◌, List, [], ◌∷◌, ℕ, ◌+◌, ◌-◌, ◌*◌, ◌/◌, ◌≤◌, ◌<◌, min, max, length, take, drop}
 use Rattle.std.specs.Borrow.{Bor}
 use contract.Lifetimes.{Lfts}
-use Rattle.plane.specs.Byte.{cyclesMarked}
+use Rattle.plane.specs.Byte.{cycles_marked}
 use Rattle.work.specs.declared.Work.{Work}
-use Rattle.charges.specs.Paid.{mostPaid}
-use Rattle.work.specs.Work.{addedOf, cyclesLeft, chargesFor, chargesLeft, end_of}
-use Rattle.settings.specs.Settings.{capacityOf}
+use Rattle.charges.specs.Paid.{most_paid}
+use Rattle.work.specs.Work.{added_of, cycles_left, charges_for, charges_left, end_of}
+use Rattle.settings.specs.Settings.{capacity_of}
 use Rattle.bench.specs.declared.Bench.{Bench}
 use Rattle.bench.specs.declared.Tick.{Tick}
 use Rattle.queue.specs.Queue.{waiting}
@@ -15,9 +15,9 @@ use Rattle.machine.specs.declared.Ticked.{Ticked}
 use Rattle.machine.specs.declared.Ran.{Ran}
 use Rattle.book.specs.Bench.{Report}
 use Rattle.book.specs.Book.{Reply}
-use Rattle.history.specs.Contracts.{Ticks, Runs}
+use Rattle.history.specs.CallContracts.{Ticks, Runs}
 use Rattle.demands.specs.Sound.{Sound}
-use Rattle.demands.specs.Answers.{ranReply}
+use Rattle.demands.specs.Answers.{ran_reply}
 use Rattle.demands.specs.Taken.{ComesIn}
 
 -- ticks called one by one, each getting the record that the one before returned, answer these bytes and leave the record m'
@@ -28,47 +28,47 @@ pub data TicksTo : Machine → List ℕ → Machine → Type 0 where
 
 -- the report of a run that leaves the buffer as new
 abbrev pub Reports : Ran → (new : List ℕ) → Report → Type 0
-Reports r new report = ranReply r new ≡ Reply.ran report r.ticks (take r.ticks new)
+Reports r new report = ran_reply r new ≡ Reply.ran report r.ticks (take r.ticks new)
 
 -- the working ticks to the block's end: each cycle left has one, and by the last of them the remainder and 1,000 × f a tick reach the
 -- charges left times q0. 02 §2: "A block ends on the tick that stepping by this rule gives; in a history that is its working tick
 -- ⌈(C × q0 - r) / (1,000 × f)⌉, C being the sum of its charges."
-abbrev pub ticksLeft : Bench → ℕ
-ticksLeft m =
+abbrev pub ticks_left : Bench → ℕ
+ticks_left m =
     let w = m.work in
-    let due = chargesLeft m.at w * capacityOf m.settings in
-    max (cyclesLeft m.at w) ((due - m.remainder + (addedOf w - 1)) / addedOf w)
+    let due = charges_left m.at w * capacity_of m.settings in
+    max (cycles_left m.at w) ((due - m.remainder + (added_of w - 1)) / added_of w)
 
 -- the cycles that n of these ticks do: the most, at most n and at most those left, whose charges times q0 are paid by the remainder and
 -- 1,000 × f a tick. 02 §2: "A cycle is due when the remainder reaches its charge times q0, at most one a tick."
-abbrev pub cyclesIn : Bench → (n : ℕ) → ℕ
-cyclesIn m n =
+abbrev pub cycles_in : Bench → (n : ℕ) → ℕ
+cycles_in m n =
     let w = m.work in
-    mostPaid (λ c. chargesFor m.at w c * capacityOf m.settings) (m.remainder + n * addedOf w) (min n (cyclesLeft m.at w))
+    most_paid (λ c. charges_for m.at w c * capacity_of m.settings) (m.remainder + n * added_of w) (min n (cycles_left m.at w))
 
 -- a run lent the buffer old, which it leaves as new
 pub record Running (m : Machine) (budget : ℕ) (old new : List ℕ) (r : Ran) : Type 0 where
   -- "It does the least of its tick budget, the buffer length and the ticks to the block's end"
-  pub ticks : r.ticks ≡ min budget (min (length old) (ticksLeft m.bench))
+  pub ticks : r.ticks ≡ min budget (min (length old) (ticks_left m.bench))
   -- "A run writes tick bytes into a lent buffer": they are its ticks' answers one by one, and it leaves the record that they leave
   pub bytes : TicksTo m (take r.ticks new) r.machine
   -- and they mark as many cycles as are paid, "at most one a tick"
-  pub cycles : cyclesMarked (take r.ticks new) ≡ cyclesIn m.bench r.ticks
+  pub cycles : cycles_marked (take r.ticks new) ≡ cycles_in m.bench r.ticks
   -- "later bytes keep their contents"
   pub later : drop r.ticks new ≡ drop r.ticks old
   pub long : length new ≡ length old
   -- "else ended, spent or full, the first that is true"
-  pub ended : Reports r new Report.ended ↔ (ticksLeft m.bench ≤ r.ticks)
-  pub spent : Reports r new Report.spent ↔ ((r.ticks < ticksLeft m.bench) × (budget ≤ r.ticks))
-  pub full : Reports r new Report.full ↔ ((r.ticks < ticksLeft m.bench) × (r.ticks < budget))
+  pub ended : Reports r new Report.ended ↔ (ticks_left m.bench ≤ r.ticks)
+  pub spent : Reports r new Report.spent ↔ ((r.ticks < ticks_left m.bench) × (budget ≤ r.ticks))
+  pub full : Reports r new Report.full ↔ ((r.ticks < ticks_left m.bench) × (r.ticks < budget))
   -- 02 §3: "When a block ends, the first waiting one becomes the one in work, and a run still stops there.": the point is the commanded end
-  pub over : ticksLeft m.bench ≤ r.ticks
+  pub over : ticks_left m.bench ≤ r.ticks
       → (let end = end_of m.bench.at m.bench.work in
       (r.machine.bench.at ≡ end) × ComesIn end (waiting m.queue) r.machine)
 
 -- a run without a tick
 pub record Resting (m : Machine) (old new : List ℕ) (r : Ran) (report : Report) : Type 0 where
-  pub reply : ranReply r new ≡ Reply.ran report 0 []
+  pub reply : ran_reply r new ≡ Reply.ran report 0 []
   pub machine : r.machine ≡ m
   pub buffer : new ≡ old
 

@@ -4,27 +4,27 @@ use Rattle.std.specs.Borrow.{Bor}
 use contract.Lifetimes.{Lfts}
 use Rattle.plane.specs.declared.point.Point.{Point}
 use Rattle.settings.specs.declared.Settings.{Settings}
-use Rattle.settings.specs.Settings.{feedUnit, capacityOf}
+use Rattle.settings.specs.Settings.{feed_unit, capacity_of}
 use Rattle.bench.specs.declared.Bench.{Bench}
 use Rattle.bench.specs.Bench.{fresh_of}
 use Rattle.words.specs.declared.line.Line.{Line}
 use Rattle.words.specs.Meaning.{Means}
 use Rattle.reader.specs.declared.Reader.{Reader}
-use Rattle.reader.specs.Reader.{unknown, readerAfter}
+use Rattle.reader.specs.Reader.{unknown, reader_after}
 use Rattle.book.specs.Ledger.{CountedAlong}
 use Rattle.job.specs.declared.Check.{Check}
 use Rattle.job.specs.declared.Filled.{Filled}
 use Rattle.job.specs.Text.{lines_of}
 use Rattle.job.specs.Job.{Made, End}
-use Rattle.job.specs.computed.Job.{jobAt}
-use Rattle.job.specs.Listing.{jobListing}
+use Rattle.job.specs.computed.Job.{job_at}
+use Rattle.job.specs.Listing.{job_listing}
 use Rattle.job.specs.Check.{is_over}
-use Rattle.job.proofs.Check.start.Reads as start-reads
-use Rattle.job.proofs.Check.fill.Reads as fill-reads
+use Rattle.job.proofs.Check.start.Reads as start_reads
+use Rattle.job.proofs.Check.fill.Reads as fill_reads
 use Rattle.job.proofs.Check.is_over.Reads as over_reads
 use Rattle.demands.specs.Asked.{FirstNo, AllYes}
-use Rattle.demands.specs.Bench.{settingsQuestions}
-use Rattle.demands.specs.Questions.{lineBlock, makesBlock, textQuestions}
+use Rattle.demands.specs.Bench.{settings_questions}
+use Rattle.demands.specs.Questions.{line_block, makes_block, text_questions}
 
 -- ---- the lines of a text, from number n on, read at a point with a G and an F known, mean these blocks, and end so. "Each block is loaded
 -- once the one before has ended": it starts at the point, and nothing is in work then, so that 10 always has a yes. Feed numbers are in
@@ -34,19 +34,19 @@ pub data LinesMean (u : ℕ) (s : Settings) : (n : ℕ) (at : Point) (known : Re
   over : {n : ℕ} {at : Point} {k : Reader} → LinesMean u s n at k [] [] End.complete
   -- "At a refusal the rows so far stand", and no line after it is read
   refused : {n : ℕ} {at : Point} {k : Reader} {bytes : List ℕ} {lines : List (List ℕ)} (l : Line) → Means bytes l → (number : ℕ)
-      → FirstNo (textQuestions u (Unit {0}) k s at bytes l) number
+      → FirstNo (text_questions u (Unit {0}) k s at bytes l) number
       → LinesMean u s n at k (bytes ∷ lines) [] (End.refused n number)
   -- "G and F count from their own line until changed"
   nothing : {n : ℕ} {at : Point} {k : Reader} {bytes : List ℕ} {lines : List (List ℕ)} {made : List Made} {end : End} (l : Line)
       → Means bytes l
-      → AllYes (textQuestions u (Unit {0}) k s at bytes l) → makesBlock u k s.scale at l ≡ false
-      → LinesMean u s (n + 1) at (readerAfter k l.words) lines made end
+      → AllYes (text_questions u (Unit {0}) k s at bytes l) → makes_block u k s.scale at l ≡ false
+      → LinesMean u s (n + 1) at (reader_after k l.words) lines made end
       → LinesMean u s n at k (bytes ∷ lines) made end
   block : {n : ℕ} {at : Point} {k : Reader} {bytes : List ℕ} {lines : List (List ℕ)} {made : List Made} {end : End} (l : Line)
       → Means bytes l
-      → AllYes (textQuestions u (Unit {0}) k s at bytes l) → makesBlock u k s.scale at l ≡ true
-      → LinesMean u s (n + 1) (lineBlock u k s.scale at l).end (readerAfter k l.words) lines made end
-      → LinesMean u s n at k (bytes ∷ lines) (record { textLine = n; start = at; block = lineBlock u k s.scale at l } ∷ made) end
+      → AllYes (text_questions u (Unit {0}) k s at bytes l) → makes_block u k s.scale at l ≡ true
+      → LinesMean u s (n + 1) (line_block u k s.scale at l).end (reader_after k l.words) lines made end
+      → LinesMean u s n at k (bytes ∷ lines) (record { text_line = n; start = at; block = line_block u k s.scale at l } ∷ made) end
 
 -- what a text means. "A fresh machine stands at (0, 0)", and nothing is known before its first line.
 pub data TextMeans (u : ℕ) (s : Settings) (text : List ℕ) : List Made → End → Type 0 where
@@ -76,11 +76,11 @@ pub record FrontOf (whole bytes : List ℕ) (EndTold : Type 0) : Type 0 where
 
 -- the check of a job that begins at this machine
 abbrev pub Starts : Bench → Check → Type 0
-Starts m c = start-reads.Learnt tt (m, tt) c (m, tt)
+Starts m c = start_reads.Learnt tt (m, tt) c (m, tt)
 
 -- fill, lent the text and the buffer out, may return f and leave the buffer as out'
 abbrev pub FillsCheck : Lfts 2 → Check → (text out out' : Bor (List ℕ)) → Filled → Type 0
-FillsCheck κs c text out out' f = fill-reads.Learnt κs (c, (text, (out, tt))) f (c, (text, (out', tt)))
+FillsCheck κs c text out out' f = fill_reads.Learnt κs (c, (text, (out, tt))) f (c, (text, (out', tt)))
 
 -- is_over may answer r
 abbrev pub TellsOver : Check → Bool → Type 0
@@ -93,13 +93,13 @@ pub data RowsOut (text : List ℕ) (c : Check) : List ℕ → Check → Type 0 w
       → lent.now ≡ text → FillsCheck κs d lent out out' f → RowsOut text c (bytes ++ take f.len out'.now) f.check
 
 pub record EveryText : Type 0 where
-  -- `jobAt` is what a text means by the unit u, and it means nothing else
+  -- `job_at` is what a text means by the unit u, and it means nothing else
   pub means : (u : ℕ) (s : Settings) (text : List ℕ) (made : List Made) (end : End)
-      → TextMeans u s text made end ↔ (jobAt u s text ≡ record { blocks = made; end = end })
-  pub counts : (s : Settings) (text : List ℕ) → EveryCounted (jobAt feedUnit s text).blocks
+      → TextMeans u s text made end ↔ (job_at u s text ≡ record { blocks = made; end = end })
+  pub counts : (s : Settings) (text : List ℕ) → EveryCounted (job_at feed_unit s text).blocks
   -- 160 bytes hold every row
   pub fill : (κs : Lfts 2) (c : Check) (text out out' : Bor (List ℕ)) (f : Filled) → FillsCheck κs c text out out' f
       → Filling 160 out.now out'.now f.len (is_over f.check)
   -- "The check program": whoever fills a check that began at a fresh machine gets the listing of this job, to the byte
-  pub listing : (s : Settings) → AllYes (settingsQuestions s) → (c : Check) → Starts (fresh_of s) c → (text bytes : List ℕ) (d : Check)
-      → RowsOut text c bytes d → FrontOf (jobListing (capacityOf s) (jobAt feedUnit s text)) bytes (TellsOver d true)
+  pub listing : (s : Settings) → AllYes (settings_questions s) → (c : Check) → Starts (fresh_of s) c → (text bytes : List ℕ) (d : Check)
+      → RowsOut text c bytes d → FrontOf (job_listing (capacity_of s) (job_at feed_unit s text)) bytes (TellsOver d true)

@@ -3,28 +3,28 @@
 use Rattle.std.specs.Prelude.{◌≡◌, true, List, [], ◌∷◌, ◌++◌, ℕ, length, take}
 use Rattle.std.specs.Borrow.{Bor}
 use contract.Lifetimes.{Lfts}
-use Rattle.plane.specs.Byte.{cyclesMarked}
-use Rattle.block.specs.Block.{blockWidth}
+use Rattle.plane.specs.Byte.{cycles_marked}
+use Rattle.block.specs.Block.{block_width}
 use Rattle.work.specs.declared.Work.{Work}
 use Rattle.settings.specs.declared.Settings.{Settings}
-use Rattle.settings.specs.Settings.{feedUnit, capacityOf}
+use Rattle.settings.specs.Settings.{feed_unit, capacity_of}
 use Rattle.bench.specs.declared.Bench.{Bench}
 use Rattle.bench.specs.declared.Answer.{Answer}
-use Rattle.bench.specs.Bench.{fresh_of as freshBench}
+use Rattle.bench.specs.Bench.{fresh_of as fresh_bench}
 use Rattle.machine.specs.declared.Machine.{Machine}
 use Rattle.machine.specs.declared.Answered.{Answered}
 use Rattle.machine.specs.Machine.{fresh_of}
-use Rattle.history.specs.Contracts.{Loads}
+use Rattle.history.specs.CallContracts.{Loads}
 use Rattle.job.specs.Job.{Made}
-use Rattle.job.specs.computed.Job.{jobAt}
-use Rattle.job.specs.Listing.{allCycles, allTicks}
+use Rattle.job.specs.computed.Job.{job_at}
+use Rattle.job.specs.Listing.{all_cycles, all_ticks}
 use Rattle.stream.specs.declared.Stream.{Stream}
 use Rattle.stream.specs.declared.Filled.{Filled}
-use Rattle.stream.proofs.Stream.start.Reads as start-reads
-use Rattle.stream.proofs.Stream.fill.Reads as fill-reads
+use Rattle.stream.proofs.Stream.start.Reads as start_reads
+use Rattle.stream.proofs.Stream.fill.Reads as fill_reads
 use Rattle.demands.specs.Asked.{AllYes}
-use Rattle.demands.specs.Bench.{settingsQuestions}
-use Rattle.demands.specs.Runs.{TicksTo, ticksLeft}
+use Rattle.demands.specs.Bench.{settings_questions}
+use Rattle.demands.specs.Runs.{TicksTo, ticks_left}
 use Rattle.demands.specs.Texts.{Filling, FrontOf}
 
 -- blocks loaded from the record m on, each at the record that the one before it left, accepted with its width, and ticked to its end, by
@@ -32,24 +32,24 @@ use Rattle.demands.specs.Texts.{Filling, FrontOf}
 pub data BlocksTick : Machine → List Made → List ℕ → Type 0 where
   none : {m : Machine} → BlocksTick m [] []
   block : {m m' : Machine} {later : List Made} {bytes rest : List ℕ} (made : Made) (r : Answered) → made.start ≡ m.bench.at
-      → Loads m made.block r → r.answer ≡ Answer.Width (blockWidth made.start made.block)
-      → TicksTo r.machine bytes m' → length bytes ≡ ticksLeft r.machine.bench → m'.bench.work ≡ Work.Nothing
+      → Loads m made.block r → r.answer ≡ Answer.Width (block_width made.start made.block)
+      → TicksTo r.machine bytes m' → length bytes ≡ ticks_left r.machine.bench → m'.bench.work ≡ Work.Nothing
       → BlocksTick m' later rest → BlocksTick m (made ∷ later) (bytes ++ rest)
 
 -- the tick bytes of a text's job
 pub record JobBytes (s : Settings) (text bytes : List ℕ) : Type 0 where
-  pub blocks : BlocksTick (fresh_of s) (jobAt feedUnit s text).blocks bytes
+  pub blocks : BlocksTick (fresh_of s) (job_at feed_unit s text).blocks bytes
   -- "the last line gives blocks, cycles and ticks": there are as many, and they mark as many cycles
-  pub ticks : length bytes ≡ allTicks (capacityOf s) 0 (jobAt feedUnit s text).blocks
-  pub cycles : cyclesMarked bytes ≡ allCycles (jobAt feedUnit s text).blocks
+  pub ticks : length bytes ≡ all_ticks (capacity_of s) 0 (job_at feed_unit s text).blocks
+  pub cycles : cycles_marked bytes ≡ all_cycles (job_at feed_unit s text).blocks
 
 -- ---- as they are handed out
 
 abbrev pub StartsStream : Bench → Stream → Type 0
-StartsStream m t = start-reads.Learnt tt (m, tt) t (m, tt)
+StartsStream m t = start_reads.Learnt tt (m, tt) t (m, tt)
 
 abbrev pub FillsStream : Lfts 2 → Stream → (text out out' : Bor (List ℕ)) → Filled → Type 0
-FillsStream κs t text out out' f = fill-reads.Learnt κs (t, (text, (out, tt))) f (t, (text, (out', tt)))
+FillsStream κs t text out out' f = fill_reads.Learnt κs (t, (text, (out, tt))) f (t, (text, (out', tt)))
 
 -- fills of one text, one after the other, into buffers of any length and contents, lead from the stream t to u and hand these bytes out
 pub data BytesOut (text : List ℕ) (t : Stream) : List ℕ → Stream → Type 0 where
@@ -61,6 +61,6 @@ pub record EveryTickByte : Type 0 where
   pub fill : (κs : Lfts 2) (t : Stream) (text out out' : Bor (List ℕ)) (f : Filled) → FillsStream κs t text out out' f
       → Filling 1 out.now out'.now f.len f.stream.over
   -- whoever fills a stream that began at a fresh machine's bench gets the tick bytes of the text's job
-  pub bytes : (s : Settings) → AllYes (settingsQuestions s) → (t : Stream) → StartsStream (freshBench s) t → (text : List ℕ)
+  pub bytes : (s : Settings) → AllYes (settings_questions s) → (t : Stream) → StartsStream (fresh_bench s) t → (text : List ℕ)
       → (whole : List ℕ) × JobBytes s text whole
       × ((bytes : List ℕ) (u : Stream) → BytesOut text t bytes u → FrontOf whole bytes (u.over ≡ true))

@@ -2,8 +2,8 @@
 // Document 02 §2 charges cycles, so the capacity at which it overflows is the due of the next cycle, its charge times q0; a tick adds 1,000
 // times the feed number.
 ghost use Rattle.std.specs.Prelude.{◌≡◌, ◌+◌, ◌*◌, ◌^◌, ◌≤◌, ◌<◌};
-ghost use Rattle.divider.specs.Divider.{fedOf};
-ghost use Rattle.divider.specs.computed.Divider.{goneOf, lastTick, endingOf};
+ghost use Rattle.divider.specs.Divider.{fed_of};
+ghost use Rattle.divider.specs.computed.Divider.{gone_of, last_tick, ending_of};
 
 // A tick adds this times the feed number: charges are thousandths of what a straight step costs.
 pub const FEED_SCALE: u64 = 1_000;
@@ -18,7 +18,7 @@ pub struct Fed {
 // One working tick: on reaching the due of the next cycle the due is taken off, and the cycle is done.
 pub fn add_feed(due: u64, added: u64, remainder: u64) -> Fed
     requires { remainder + added < 2 ^ 64 }
-    ensures { result ≡ fedOf due added remainder }
+    ensures { result ≡ fed_of due added remainder }
 {
     let sum = remainder + added;
     if due <= sum {
@@ -44,7 +44,7 @@ pub struct Gone {
 // So many working ticks at once, whatever their number, where every cycle has this due. Callers ask first whether the block lasts so long.
 pub fn add_feeds(due: u64, added: u64, remainder: u64, ticks: u64) -> Gone
     requires { (1 ≤ added) × (added ≤ due) × (remainder + ticks * added < 2 ^ 64) }
-    ensures { result ≡ goneOf (λ c. due) added remainder ticks }
+    ensures { result ≡ gone_of (λ c. due) added remainder ticks }
 {
     let sum = remainder + ticks * added;
     let paid = sum / due;
@@ -64,7 +64,7 @@ pub fn add_feeds(due: u64, added: u64, remainder: u64, ticks: u64) -> Gone
 // decides; after a remainder that no history leaves there may be more cycles than ticks that the sum takes, and each has a tick of its own.
 pub fn last_tick(due: u64, added: u64, remainder: u64, cycles: u64) -> u64
     requires { (1 ≤ added) × (due + added < 2 ^ 64) }
-    ensures { result ≡ lastTick due added remainder cycles }
+    ensures { result ≡ last_tick due added remainder cycles }
 {
     if due <= remainder {
         return cycles;
@@ -82,7 +82,7 @@ pub struct End {
 
 pub fn ending(due: u64, added: u64, remainder: u64, cycles: u64) -> End
     requires { (1 ≤ added) × (cycles * added ≤ due) × (due + added + remainder < 2 ^ 64) }
-    ensures { result ≡ endingOf due added remainder cycles }
+    ensures { result ≡ ending_of due added remainder cycles }
 {
     let tick = last_tick(due, added, remainder, cycles);
     End {

@@ -21,29 +21,29 @@ unfoldable pub word_of : ℕ → ℤ
 word_of n = cond (ltb n (2 ^ 63)) (pos n) (negsuc 0)
 
 -- a refusal is minus the number of the question
-unfoldable pub refusalOf : (question : ℕ) → ℤ
-refusalOf n = neg_ℤ (word_of n)
+unfoldable pub refusal_of : (question : ℕ) → ℤ
+refusal_of n = neg_ℤ (word_of n)
 
 -- ---- a bench as words
 
-abbrev pub markWord : (held : Bool) → ℤ
-markWord true = pos 1
-markWord false = pos 0
+abbrev pub mark_word : (held : Bool) → ℤ
+mark_word true = pos 1
+mark_word false = pos 0
 
-abbrev pub turnWord : Turn → ℤ
-turnWord Turn.Clockwise = pos 2
-turnWord Turn.Counterclockwise = pos 3
+abbrev pub turn_word : Turn → ℤ
+turn_word Turn.Clockwise = pos 2
+turn_word Turn.Counterclockwise = pos 3
 
-abbrev pub workWords : (kind a b c d e f g : ℤ) → WorkWords
-workWords k a b c d e f g = record { kind = k; a = a; b = b; c = c; d = d; e = e; f = f; g = g }
+abbrev pub work_words : (kind a b c d e f g : ℤ) → WorkWords
+work_words k a b c d e f g = record { kind = k; a = a; b = b; c = c; d = d; e = e; f = f; g = g }
 
 -- what is in work: 0 nothing, 1 a line, 2 an arc clockwise, 3 an arc counterclockwise; then its numbers
-abbrev pub workWordsOf : Work → WorkWords
-workWordsOf Work.Nothing = workWords (pos 0) (pos 0) (pos 0) (pos 0) (pos 0) (pos 0) (pos 0) (pos 0)
-workWordsOf (Work.Line l) =
-    workWords (pos 1) l.start.x l.start.y l.end.x l.end.y (word_of l.feed) (word_of l.cycles) (word_of l.done)
-workWordsOf (Work.Arc a) =
-    workWords (turnWord a.turn) a.centre.x a.centre.y (word_of a.square) a.end.x a.end.y (word_of a.feed) (pos 0)
+abbrev pub work_words_of : Work → WorkWords
+work_words_of Work.Nothing = work_words (pos 0) (pos 0) (pos 0) (pos 0) (pos 0) (pos 0) (pos 0) (pos 0)
+work_words_of (Work.Line l) =
+    work_words (pos 1) l.start.x l.start.y l.end.x l.end.y (word_of l.feed) (word_of l.cycles) (word_of l.done)
+work_words_of (Work.Arc a) =
+    work_words (turn_word a.turn) a.centre.x a.centre.y (word_of a.square) a.end.x a.end.y (word_of a.feed) (pos 0)
 
 abbrev pub head_of : Bench → Head
 head_of m =
@@ -56,7 +56,7 @@ head_of m =
       yhi = m.settings.travel.y.upper;
       x = m.at.x;
       y = m.at.y;
-      mark = markWord m.held;
+      mark = mark_word m.held;
       remainder = word_of m.remainder;
     }
 
@@ -66,8 +66,8 @@ words_of h w =
     abi ∷ h.p ∷ h.w ∷ h.xlo ∷ h.xhi ∷ h.ylo ∷ h.yhi ∷ h.x ∷ h.y ∷ h.mark ∷ h.remainder
     ∷ w.kind ∷ w.a ∷ w.b ∷ w.c ∷ w.d ∷ w.e ∷ w.f ∷ w.g ∷ []
 
-unfoldable pub encodeOf : Bench → List ℤ
-encodeOf m = words_of (head_of m) (workWordsOf m.work)
+unfoldable pub encode_of : Bench → List ℤ
+encode_of m = words_of (head_of m) (work_words_of m.work)
 
 -- ---- and back: what the words tell, whatever they are
 
@@ -76,8 +76,8 @@ abbrev pub count_of : ℤ → ℕ
 count_of (pos n) = n
 count_of (negsuc n) = 0
 
-abbrev pub settingsOf : (p w xlo xhi ylo yhi : ℤ) → Settings
-settingsOf p w xlo xhi ylo yhi =
+abbrev pub settings_of : (p w xlo xhi ylo yhi : ℤ) → Settings
+settings_of p w xlo xhi ylo yhi =
     record {
       scale = count_of p;
       clock = count_of w;

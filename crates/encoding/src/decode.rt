@@ -1,8 +1,8 @@
 // The bench that 19 words tell, and whether they are a sound record.
 ghost use Rattle.std.specs.Prelude.{◌≡◌};
-ghost use Rattle.encoding.specs.computed.Words.{lineRead, arcRead, workRead, headIn, workWordsIn, settingsIn, benchOf, benchRead};
-ghost use Rattle.encoding.specs.computed.Words.{isRecord};
-ghost use Rattle.encoding.specs.computed.Words.{soundWords};
+ghost use Rattle.encoding.specs.computed.Words.{line_read, arc_read, work_read, head_in, work_words_in, settings_in, bench_of, bench_read};
+ghost use Rattle.encoding.specs.computed.Words.{is_record};
+ghost use Rattle.encoding.specs.computed.Words.{sound_words};
 
 use crate::encode::{Head, WorkWords};
 use crate::given::settings;
@@ -17,7 +17,7 @@ use settings::Settings;
 use work::Work;
 
 fn line_of(w: WorkWords) -> Line
-    ensures { result ≡ lineRead w }
+    ensures { result ≡ line_read w }
 {
     let start = Point { x: w.a, y: w.b };
     let end = Point { x: w.c, y: w.d };
@@ -31,7 +31,7 @@ fn line_of(w: WorkWords) -> Line
 }
 
 fn arc_of(turn: Turn, w: WorkWords) -> Arc
-    ensures { result ≡ arcRead turn w }
+    ensures { result ≡ arc_read turn w }
 {
     let centre = Point { x: w.a, y: w.b };
     let end = Point { x: w.d, y: w.e };
@@ -45,7 +45,7 @@ fn arc_of(turn: Turn, w: WorkWords) -> Arc
 }
 
 pub fn work_of(w: WorkWords) -> Work
-    ensures { result ≡ workRead w }
+    ensures { result ≡ work_read w }
 {
     let kind = count(w.kind);
     if kind == 1 {
@@ -61,7 +61,7 @@ pub fn work_of(w: WorkWords) -> Work
 }
 
 fn head_in(words: [i64; 19]) -> Head
-    ensures { result ≡ headIn words }
+    ensures { result ≡ head_in words }
 {
     Head {
         p: words[1],
@@ -78,7 +78,7 @@ fn head_in(words: [i64; 19]) -> Head
 }
 
 fn work_words_in(words: [i64; 19]) -> WorkWords
-    ensures { result ≡ workWordsIn words }
+    ensures { result ≡ work_words_in words }
 {
     WorkWords {
         kind: words[11],
@@ -93,13 +93,13 @@ fn work_words_in(words: [i64; 19]) -> WorkWords
 }
 
 fn settings_in(h: Head) -> Settings
-    ensures { result ≡ settingsIn h }
+    ensures { result ≡ settings_in h }
 {
     settings(h.p, h.w, h.xlo, h.xhi, h.ylo, h.yhi)
 }
 
 pub fn bench_of(h: Head, work: Work) -> Bench
-    ensures { result ≡ benchOf h work }
+    ensures { result ≡ bench_of h work }
 {
     let settings = settings_in(h);
     let at = Point { x: h.x, y: h.y };
@@ -115,14 +115,14 @@ pub fn bench_of(h: Head, work: Work) -> Bench
 
 // Whether the words are a record. Each that is no position is asked whether `encode` writes such, so that nothing need be encoded again.
 fn is_record(words: [i64; 19]) -> bool
-    ensures { result ≡ isRecord words }
+    ensures { result ≡ is_record words }
 {
     words_right(words[0], head_in(words), work_words_in(words))
 }
 
 // The bench that words tell, whatever they are.
 pub fn bench_read(words: [i64; 19]) -> Bench
-    ensures { result ≡ benchRead words }
+    ensures { result ≡ bench_read words }
 {
     let work = work_of(work_words_in(words));
     bench_of(head_in(words), work)
@@ -130,7 +130,7 @@ pub fn bench_read(words: [i64; 19]) -> Bench
 
 // Whether the words are those of a sound record.
 pub fn is_sound(words: &[i64; 19]) -> bool
-    ensures { result ≡ soundWords words.now }
+    ensures { result ≡ sound_words words.now }
 {
     let given = *words;
     if !is_record(given) {

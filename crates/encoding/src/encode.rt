@@ -1,6 +1,6 @@
 // The record of a bench as 19 words that a caller in C owns. `specs/Words.antt` says which word is what.
 ghost use Rattle.std.specs.Prelude.{◌≡◌};
-ghost use Rattle.encoding.specs.Words.{markWord, turnWord, workWordsOf, head_of, words_of, encodeOf};
+ghost use Rattle.encoding.specs.Words.{mark_word, turn_word, work_words_of, head_of, words_of, encode_of};
 
 use crate::number::word;
 use arc::arc::Arc;
@@ -41,13 +41,13 @@ pub struct WorkWords {
 }
 
 pub fn mark_word(held: bool) -> i64
-    ensures { result ≡ markWord held }
+    ensures { result ≡ mark_word held }
 {
     if held { 1 } else { 0 }
 }
 
 pub fn turn_word(turn: Turn) -> i64
-    ensures { result ≡ turnWord turn }
+    ensures { result ≡ turn_word turn }
 {
     match turn {
         Turn::Clockwise => 2,
@@ -56,7 +56,7 @@ pub fn turn_word(turn: Turn) -> i64
 }
 
 pub fn nothing_words() -> WorkWords
-    ensures { result ≡ workWordsOf Work.Nothing }
+    ensures { result ≡ work_words_of Work.Nothing }
 {
     WorkWords {
         kind: 0,
@@ -71,7 +71,7 @@ pub fn nothing_words() -> WorkWords
 }
 
 fn line_words(l: Line) -> WorkWords
-    ensures { result ≡ workWordsOf (Work.Line l) }
+    ensures { result ≡ work_words_of (Work.Line l) }
 {
     let start = l.start;
     let end = l.end;
@@ -88,7 +88,7 @@ fn line_words(l: Line) -> WorkWords
 }
 
 fn arc_words(a: Arc) -> WorkWords
-    ensures { result ≡ workWordsOf (Work.Arc a) }
+    ensures { result ≡ work_words_of (Work.Arc a) }
 {
     let centre = a.centre;
     let end = a.end;
@@ -106,7 +106,7 @@ fn arc_words(a: Arc) -> WorkWords
 }
 
 pub fn work_words(work: Work) -> WorkWords
-    ensures { result ≡ workWordsOf work }
+    ensures { result ≡ work_words_of work }
 {
     match work {
         Work::Nothing => nothing_words(),
@@ -165,7 +165,7 @@ fn lay(h: Head, w: WorkWords) -> [i64; 19]
 }
 
 pub fn encode(m: Bench) -> [i64; 19]
-    ensures { result ≡ encodeOf m }
+    ensures { result ≡ encode_of m }
 {
     let work = m.work;
     let head = head_words(m);

@@ -1,13 +1,13 @@
 // Settings as a caller gives them in words.
 ghost use Rattle.std.specs.Prelude.{◌≡◌};
-ghost use Rattle.encoding.specs.Words.{settingsOf};
+ghost use Rattle.encoding.specs.Words.{settings_of};
 
 use crate::number::count;
 use plane::travel::{Range, Travel};
 use settings::Settings;
 
 pub fn settings(p: i64, w: i64, xlo: i64, xhi: i64, ylo: i64, yhi: i64) -> Settings
-    ensures { result ≡ settingsOf p w xlo xhi ylo yhi }
+    ensures { result ≡ settings_of p w xlo xhi ylo yhi }
 {
     let x = Range {
         lower: xlo,

@@ -1,7 +1,7 @@
 // A count as a word of the record, a word as a count, and a refusal as a word.
 ghost use Rattle.std.specs.Prelude.{◌≡◌};
-ghost use Rattle.encoding.specs.Words.{count_of, word_of, refusalOf};
-ghost use Rattle.encoding.specs.computed.Right.{isCount};
+ghost use Rattle.encoding.specs.Words.{count_of, word_of, refusal_of};
+ghost use Rattle.encoding.specs.computed.Right.{is_count};
 
 // A negative word is no count: 0, which every place that takes a count refuses or writes back otherwise.
 pub fn count(word: i64) -> u64
@@ -22,14 +22,14 @@ pub fn word(count: u64) -> i64
 }
 
 pub fn refusal(question: u64) -> i64
-    ensures { result ≡ refusalOf question }
+    ensures { result ≡ refusal_of question }
 {
     -word(question)
 }
 
 // Whether a word tells a count.
 pub fn is_count(word: i64) -> bool
-    ensures { result ≡ isCount word }
+    ensures { result ≡ is_count word }
 {
     0 <= word
 }

@@ -1,13 +1,13 @@
 // Whether words are a record's own: each that is no position has a value that `encode` writes. So nothing need be encoded again to know it.
 ghost use Rattle.std.specs.Prelude.{◌≡◌};
-ghost use Rattle.encoding.specs.computed.Right.{isMark, headRight, nothingRight, lineRight, arcRight, workRight, partsRight};
+ghost use Rattle.encoding.specs.computed.Right.{is_mark, head_right, nothing_right, line_right, arc_right, work_right, parts_right};
 
 use crate::encode::{ABI, Head, WorkWords};
 use crate::number::is_count;
 use whole::equal::equal;
 
 fn is_mark(word: i64) -> bool
-    ensures { result ≡ isMark word }
+    ensures { result ≡ is_mark word }
 {
     if equal(word, 0) {
         return true;
@@ -16,7 +16,7 @@ fn is_mark(word: i64) -> bool
 }
 
 pub fn head_right(h: Head) -> bool
-    ensures { result ≡ headRight h }
+    ensures { result ≡ head_right h }
 {
     if !is_count(h.p) {
         return false;
@@ -31,7 +31,7 @@ pub fn head_right(h: Head) -> bool
 }
 
 fn nothing_right(w: WorkWords) -> bool
-    ensures { result ≡ nothingRight w }
+    ensures { result ≡ nothing_right w }
 {
     if !equal(w.a, 0) {
         return false;
@@ -55,7 +55,7 @@ fn nothing_right(w: WorkWords) -> bool
 }
 
 fn line_right(w: WorkWords) -> bool
-    ensures { result ≡ lineRight w }
+    ensures { result ≡ line_right w }
 {
     if !is_count(w.e) {
         return false;
@@ -67,7 +67,7 @@ fn line_right(w: WorkWords) -> bool
 }
 
 fn arc_right(w: WorkWords) -> bool
-    ensures { result ≡ arcRight w }
+    ensures { result ≡ arc_right w }
 {
     if !is_count(w.c) {
         return false;
@@ -79,7 +79,7 @@ fn arc_right(w: WorkWords) -> bool
 }
 
 pub fn work_right(w: WorkWords) -> bool
-    ensures { result ≡ workRight w }
+    ensures { result ≡ work_right w }
 {
     if equal(w.kind, 0) {
         return nothing_right(w);
@@ -97,7 +97,7 @@ pub fn work_right(w: WorkWords) -> bool
 }
 
 pub fn words_right(abi: i64, h: Head, w: WorkWords) -> bool
-    ensures { result ≡ partsRight abi h w }
+    ensures { result ≡ parts_right abi h w }
 {
     if !equal(abi, ABI) {
         return false;

@@ -1,7 +1,7 @@
 // A run to the end of the block in work, without its bytes: the charges left give the ticks, so none is walked.
 ghost use Rattle.std.specs.Prelude.{◌≡◌, true};
-ghost use Rattle.bench.specs.computed.Bench.{soundOf};
-ghost use Rattle.finish.specs.computed.Finish.{worksOf, finishOf};
+ghost use Rattle.bench.specs.computed.Bench.{sound_of};
+ghost use Rattle.finish.specs.computed.Finish.{works_of, finish_of};
 
 use bench::Bench;
 use divider::{FEED_SCALE, ending};
@@ -19,8 +19,8 @@ pub struct Finished {
 
 // Whether a tick of this record is a working one: it has a block in work and is not held.
 pub fn works(m: Bench) -> bool
-    requires { soundOf m ≡ true }
-    ensures { result ≡ worksOf m }
+    requires { sound_of m ≡ true }
+    ensures { result ≡ works_of m }
 {
     let held = m.held;
     let work = m.work;
@@ -32,8 +32,8 @@ pub fn works(m: Bench) -> bool
 
 // To the end of the block in work, of a record that has been tested; one whose ticks are no working ones stays as it was.
 pub fn finish(m: Bench) -> Finished
-    requires { soundOf m ≡ true }
-    ensures { result ≡ finishOf m }
+    requires { sound_of m ≡ true }
+    ensures { result ≡ finish_of m }
 {
     if !works(m) {
         return Finished {

@@ -5,16 +5,16 @@ use Rattle.std.specs.Borrow.{Bor}
 use contract.Lifetimes.{Lfts}
 use Rattle.queue.specs.Queue as queue
 use Rattle.machine.specs.declared.Machine.{Machine}
-use Rattle.machine.specs.Machine.{toDo}
+use Rattle.machine.specs.Machine.{to_do}
 use Rattle.reader.specs.declared.Reader.{Reader}
 use Rattle.textline.specs.declared.ReadLine.{ReadLine}
 use Rattle.look.specs.declared.Ahead.{Ahead}
 use Rattle.book.specs.Book.{Call, Reply}
-use Rattle.history.specs.Contracts.{PassesTest, ReadsLine, Looks}
+use Rattle.history.specs.CallContracts.{PassesTest, ReadsLine, Looks}
 use Rattle.history.specs.History.{History}
 
 pub record FigureRight (m : Machine) : Type 0 where
-  pub afresh : m.left ≡ toDo m.bench.at m.bench.work (queue.waiting m.queue)
+  pub afresh : m.left ≡ to_do m.bench.at m.bench.work (queue.waiting m.queue)
   -- and the next call finds a sound record too
   pub sound : PassesTest m
 

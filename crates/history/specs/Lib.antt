@@ -1,7 +1,7 @@
--- To be believed, in this order: Agree, Reply, Contracts, History, Demand, Figure, Look. Proved: laws.
+-- To be believed, in this order: Agree, Reply, CallContracts, History, Demand, Figure, Look. Proved: laws.
 pub mod Agree
 pub mod Reply
-pub mod Contracts
+pub mod CallContracts
 pub mod History
 pub mod Demand
 pub mod Figure

@@ -5,14 +5,14 @@ use Rattle.block.specs.declared.Block.{Block}
 
 -- a block of the job, the text line that made it, and the point where it starts
 pub record Made : Type 0 where
-  pub textLine : ℕ
+  pub text_line : ℕ
   pub start : Point
   pub block : Block
 
 -- how a job ends: read to its last line, or refused at one
 pub data End : Type 0 where
   complete : End
-  refused : (textLine number : ℕ) → End
+  refused : (text_line number : ℕ) → End
 
 pub record Job : Type 0 where
   pub blocks : List Made

@@ -2,15 +2,15 @@
 use Rattle.std.specs.Prelude.{Bool, true, false, List, [], ◌∷◌, ℕ, eqb}
 
 -- a byte in front of the first line; where no line is left it begins the last one, which lacks its LF
-abbrev pub inFront : ℕ → List (List ℕ) → List (List ℕ)
-inFront b [] = (b ∷ []) ∷ []
-inFront b (l ∷ ls) = (b ∷ l) ∷ ls
+abbrev pub in_front : ℕ → List (List ℕ) → List (List ℕ)
+in_front b [] = (b ∷ []) ∷ []
+in_front b (l ∷ ls) = (b ∷ l) ∷ ls
 
-abbrev pub lineOr : (lf : Bool) (b : ℕ) → List (List ℕ) → List (List ℕ)
-lineOr true b ls = [] ∷ ls
-lineOr false b ls = inFront b ls
+abbrev pub line_or : (lf : Bool) (b : ℕ) → List (List ℕ) → List (List ℕ)
+line_or true b ls = [] ∷ ls
+line_or false b ls = in_front b ls
 
 -- the lines without their LF; after a final LF there is no further line
 unfoldable pub lines_of : List ℕ → List (List ℕ)
 lines_of [] = []
-lines_of (b ∷ s) = lineOr (eqb b 10) b (lines_of s)
+lines_of (b ∷ s) = line_or (eqb b 10) b (lines_of s)

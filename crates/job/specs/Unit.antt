@@ -12,9 +12,9 @@ AllWhole (l ∷ ls) = NoPoint l × AllWhole ls
 abbrev pub WholeText : (text : List ℕ) → Type 0
 WholeText text = AllWhole (lines_of text)
 
-abbrev pub finerMade : (u : ℕ) → Made → Made
-finerMade u m = record { textLine = m.textLine; start = m.start; block = finer u m.block }
+abbrev pub finer_made : (u : ℕ) → Made → Made
+finer_made u m = record { text_line = m.text_line; start = m.start; block = finer u m.block }
 
-abbrev pub finerBlocks : (u : ℕ) → List Made → List Made
-finerBlocks u [] = []
-finerBlocks u (m ∷ ms) = finerMade u m ∷ finerBlocks u ms
+abbrev pub finer_blocks : (u : ℕ) → List Made → List Made
+finer_blocks u [] = []
+finer_blocks u (m ∷ ms) = finer_made u m ∷ finer_blocks u ms

@@ -1,8 +1,8 @@
 // The check of a job text: its listing, handed out piece by piece into a lent buffer. How far it has come goes in by value and comes back
 // by value.
 ghost use Rattle.std.specs.Prelude.{◌≡◌, true, false};
-ghost use Rattle.row.specs.computed.Buffer.{hasRoom};
-ghost use Rattle.job.specs.computed.Check.{Steps, Fills, checkFrom, last_of};
+ghost use Rattle.row.specs.computed.Buffer.{has_room};
+ghost use Rattle.job.specs.computed.Check.{Steps, Fills, check_from, last_of};
 ghost use Rattle.job.specs.Check.{is_over};
 
 use bench::Bench;
@@ -43,7 +43,7 @@ pub struct Filled {
 impl Check {
     // The check of a job that begins at this bench.
     pub fn start(bench: Bench) -> Check
-        ensures { result ≡ checkFrom bench }
+        ensures { result ≡ check_from bench }
     {
         let tally = Tally::start(bench);
         Check {
@@ -82,7 +82,7 @@ impl Check {
 
     // The row of the next text line, or the total after the last one.
     fn line(self, text: &[u8], out: &mut [u8], place: usize) -> Step
-        requires { (self.stage ≡ Stage.Lines) × (hasRoom out.old place ≡ true) }
+        requires { (self.stage ≡ Stage.Lines) × (has_room out.old place ≡ true) }
         ensures { Steps self text.now out.old place result out.new }
     {
         let tally = self.tally;
@@ -112,7 +112,7 @@ impl Check {
     }
 
     fn step(self, text: &[u8], out: &mut [u8], place: usize) -> Step
-        requires { (is_over self ≡ false) × (hasRoom out.old place ≡ true) }
+        requires { (is_over self ≡ false) × (has_room out.old place ≡ true) }
         ensures { Steps self text.now out.old place result out.new }
     {
         let stage = self.stage;

@@ -1,5 +1,5 @@
 // The check program: reads a job on standard input and writes its listing (document 01, "The check program").
-ghost use Rattle.settings.specs.Settings.{standardSettings};
+ghost use Rattle.settings.specs.Settings.{standard_settings};
 ghost use Rattle.job.specs.computed.Check.{Lists};
 
 use bench::Bench;
@@ -11,7 +11,7 @@ use settings::standard;
 
 // What the check has to hand out is the listing, whatever the text.
 fn start() -> Check
-    ensures { Lists standardSettings result }
+    ensures { Lists standard_settings result }
 {
     let made = Bench::make(standard());
     let bench = made.bench;

@@ -1,5 +1,5 @@
 // Reads a job on standard input and writes the tick bytes of its blocks, one after the other; at a refused line it ends.
-ghost use Rattle.settings.specs.Settings.{standardSettings};
+ghost use Rattle.settings.specs.Settings.{standard_settings};
 ghost use Rattle.stream.specs.computed.Stream.{Tells};
 
 use bench::Bench;
@@ -11,7 +11,7 @@ use stream::Stream;
 
 // What the stream has to hand out are the tick bytes, whatever the text.
 fn start() -> Stream
-    ensures { Tells standardSettings result }
+    ensures { Tells standard_settings result }
 {
     let made = Bench::make(standard());
     let bench = made.bench;

@@ -4,13 +4,13 @@
 // its ticks, with 2,225 cycles left, at X 5 Y 11, remainder 0; it is a line from (0, 0) to (1000, 2000), f 5,000,000, and 12 of its 2,237
 // cycles are done.
 ghost use Rattle.std.specs.Prelude.{◌≡◌};
-ghost use Rattle.settings.specs.Settings.{standardSettings};
-ghost use Rattle.seek.specs.computed.Seek.{seekOf};
-ghost use Rattle.row.specs.computed.Numbers.{bufferWith, placeWith};
+ghost use Rattle.settings.specs.Settings.{standard_settings};
+ghost use Rattle.seek.specs.computed.Seek.{seek_of};
+ghost use Rattle.row.specs.computed.Numbers.{buffer_with, place_with};
 ghost use Rattle.row.specs.computed.Numbers.{EndsIn};
-ghost use Rattle.jobwhere.specs.computed.Asked.{digitPushed, ticksAsked};
-ghost use Rattle.jobwhere.specs.computed.Row.{foundWord, row_of};
-ghost use Rattle.jobwhere.specs.computed.Row.{standingOf, rowWith};
+ghost use Rattle.jobwhere.specs.computed.Asked.{digit_pushed, ticks_asked};
+ghost use Rattle.jobwhere.specs.computed.Row.{found_word, row_of};
+ghost use Rattle.jobwhere.specs.computed.Row.{standing_of, row_with};
 
 use encoding::encode::{WorkWords, work_words};
 use encoding::number::{refusal, word};
@@ -45,7 +45,7 @@ enum Pushed {
 }
 
 fn push(n: u64, b: u8) -> Pushed
-    ensures { result ≡ digitPushed n b }
+    ensures { result ≡ digit_pushed n b }
 {
     if b < b'0' {
         return Pushed::Nothing;
@@ -61,7 +61,7 @@ fn push(n: u64, b: u8) -> Pushed
 }
 
 fn ask(text: &[u8]) -> Asked
-    ensures { result ≡ ticksAsked text.now }
+    ensures { result ≡ ticks_asked text.now }
 {
     let mut n = 0;
     let mut at = 0;
@@ -89,13 +89,13 @@ fn ask(text: &[u8]) -> Asked
 
 // With the check program's settings.
 fn find(job: &[u8], ticks: u64) -> Sought
-    ensures { result ≡ seekOf standardSettings job.now ticks }
+    ensures { result ≡ seek_of standard_settings job.now ticks }
 {
     seek(standard(), job, ticks)
 }
 
 fn found_word(found: Found) -> i64
-    ensures { result ≡ foundWord found }
+    ensures { result ≡ found_word found }
 {
     match found {
         Found::InWork => 1,
@@ -118,7 +118,7 @@ struct Standing {
 }
 
 fn stands(s: Sought) -> Standing
-    ensures { result ≡ standingOf s }
+    ensures { result ≡ standing_of s }
 {
     let found = s.found;
     let bench = s.bench;
@@ -136,7 +136,7 @@ fn stands(s: Sought) -> Standing
 }
 
 fn join(s: Standing, w: WorkWords) -> [i64; 16]
-    ensures { result ≡ rowWith s w }
+    ensures { result ≡ row_with s w }
 {
     [
         s.found,
@@ -169,8 +169,8 @@ fn row(s: Sought) -> [i64; 16]
 
 // The row in bytes.
 fn lay(out: &mut [u8], s: Sought) -> Place
-    ensures buffer { out.new ≡ bufferWith (row_of s) out.old 0 }
-    ensures place { result ≡ placeWith (row_of s) out.old 0 }
+    ensures buffer { out.new ≡ buffer_with (row_of s) out.old 0 }
+    ensures place { result ≡ place_with (row_of s) out.old 0 }
     ensures within { EndsIn out.old result }
 {
     let numbers = row(s);

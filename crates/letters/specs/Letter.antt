@@ -8,39 +8,39 @@ use Rattle.letters.specs.declared.letter.Letter.TheVariants.{N, G, F, X, Y, I, J
 abbrev pub letters : List Letter
 letters = N ∷ G ∷ F ∷ X ∷ Y ∷ I ∷ J ∷ []
 
-abbrev pub letterByte : Letter → ℕ
-letterByte N = 78
-letterByte G = 71
-letterByte F = 70
-letterByte X = 88
-letterByte Y = 89
-letterByte I = 73
-letterByte J = 74
+abbrev pub letter_byte : Letter → ℕ
+letter_byte N = 78
+letter_byte G = 71
+letter_byte F = 70
+letter_byte X = 88
+letter_byte Y = 89
+letter_byte I = 73
+letter_byte J = 74
 
 -- "with an optional sign"
-abbrev pub takesSign : Letter → Bool
-takesSign N = false
-takesSign G = false
-takesSign F = false
-takesSign X = true
-takesSign Y = true
-takesSign I = true
-takesSign J = true
+abbrev pub takes_sign : Letter → Bool
+takes_sign N = false
+takes_sign G = false
+takes_sign F = false
+takes_sign X = true
+takes_sign Y = true
+takes_sign I = true
+takes_sign J = true
 
 -- "and optionally a point"; 02 §4: F too
-abbrev pub takesPoint : Letter → Bool
-takesPoint N = false
-takesPoint G = false
-takesPoint F = true
-takesPoint X = true
-takesPoint Y = true
-takesPoint I = true
-takesPoint J = true
+abbrev pub takes_point : Letter → Bool
+takes_point N = false
+takes_point G = false
+takes_point F = true
+takes_point X = true
+takes_point Y = true
+takes_point I = true
+takes_point J = true
 
 -- what a one before the point counts: a thousand thousandths for a letter that takes a point, else just one
 abbrev pub unit_of : Letter → ℕ
-unit_of l = cond (takesPoint l) 1000 1
+unit_of l = cond (takes_point l) 1000 1
 
 -- no two letters have the same byte
 abbrev pub same : Letter → Letter → Bool
-same k l = eqb (letterByte k) (letterByte l)
+same k l = eqb (letter_byte k) (letter_byte l)

@@ -6,14 +6,14 @@ use Rattle.letters.specs.declared.word.Word.{Word}
 use Rattle.letters.specs.declared.word.Words.{Words}
 use Rattle.letters.specs.Letter.{letters}
 
-abbrev pub missingWord : Word
-missingWord = record { stands = false; twice = false; negative = false; magnitude = 0 }
+abbrev pub missing_word : Word
+missing_word = record { stands = false; twice = false; negative = false; magnitude = 0 }
 
 abbrev pub one_word : (negative : Bool) (magnitude : ℕ) → Word
 one_word n m = record { stands = true; twice = false; negative = n; magnitude = m }
 
-abbrev pub twiceWord : Word
-twiceWord = record { stands = true; twice = true; negative = false; magnitude = 0 }
+abbrev pub twice_word : Word
+twice_word = record { stands = true; twice = true; negative = false; magnitude = 0 }
 
 -- ---- words by their letters
 
@@ -26,13 +26,13 @@ word_at ws Y = ws.y
 word_at ws I = ws.i
 word_at ws J = ws.j
 
-abbrev pub wordsBy : (Letter → Word) → Words
-wordsBy w = record { n = w N; g = w G; f = w F; x = w X; y = w Y; i = w I; j = w J }
+abbrev pub words_by : (Letter → Word) → Words
+words_by w = record { n = w N; g = w G; f = w F; x = w X; y = w Y; i = w I; j = w J }
 
 -- 01, question 33: "No letter twice?"
-abbrev pub anyTwice : List Letter → Words → Bool
-anyTwice [] ws = false
-anyTwice (l ∷ ls) ws = (word_at ws l).twice || anyTwice ls ws
+abbrev pub any_twice : List Letter → Words → Bool
+any_twice [] ws = false
+any_twice (l ∷ ls) ws = (word_at ws l).twice || any_twice ls ws
 
-abbrev pub onceOf : Words → Bool
-onceOf ws = not (anyTwice letters ws)
+abbrev pub once_of : Words → Bool
+once_of ws = not (any_twice letters ws)

@@ -1,7 +1,7 @@
 // The words of a line while it is scanned: sets of letters, with a bit for each, and beside them an array of magnitudes. So one word more
 // takes a few operations, and no record of all the words is copied for it.
 ghost use Rattle.std.specs.Prelude.{◌≡◌, cond, ◌^◌, eqb, get_or};
-ghost use Rattle.letters.specs.computed.Found.{index_of, has_of, nothingFound, addOf, magnitudeAfter, word_in, words_in};
+ghost use Rattle.letters.specs.computed.Found.{index_of, has_of, nothing_found, add_of, magnitude_after, word_in, words_in};
 
 use crate::letter::{Letter, index};
 use crate::word::{Word, Words};
@@ -47,7 +47,7 @@ fn entry(numbers: &[u64], at: usize) -> u64
 
 // Before the first word of a line.
 pub fn nothing() -> Found
-    ensures { result ≡ nothingFound }
+    ensures { result ≡ nothing_found }
 {
     Found {
         stands: 0,
@@ -59,7 +59,7 @@ pub fn nothing() -> Found
 impl Found {
     // One word more. A letter that stands twice has no value, so then it loses its sign.
     pub fn add(self, l: Letter, negative: bool) -> Found
-        ensures { result ≡ addOf self l negative }
+        ensures { result ≡ add_of self l negative }
     {
         let one = bit(l);
         if has(self.stands, l) {
@@ -79,7 +79,7 @@ impl Found {
 
     // The letter's magnitude after one word more, asked before that is added: a letter that stands twice has none.
     pub fn magnitude(self, l: Letter, magnitude: u64) -> u64
-        ensures { result ≡ magnitudeAfter self l magnitude }
+        ensures { result ≡ magnitude_after self l magnitude }
     {
         if has(self.stands, l) { 0 } else { magnitude }
     }

@@ -1,7 +1,7 @@
 // The letters that words begin with.
 ghost use Rattle.std.specs.Prelude.{◌≡◌};
-ghost use Rattle.letters.specs.Letter.{takesSign, takesPoint};
-ghost use Rattle.letters.specs.computed.Scan.{letterOf};
+ghost use Rattle.letters.specs.Letter.{takes_sign, takes_point};
+ghost use Rattle.letters.specs.computed.Scan.{letter_of};
 ghost use Rattle.letters.specs.computed.Found.{index_of};
 
 #[derive(Drop)]
@@ -16,7 +16,7 @@ pub enum Letter {
 }
 
 pub fn takes_sign(l: Letter) -> bool
-    ensures { result ≡ takesSign l }
+    ensures { result ≡ takes_sign l }
 {
     match l {
         Letter::N => false,
@@ -30,7 +30,7 @@ pub fn takes_sign(l: Letter) -> bool
 }
 
 pub fn takes_point(l: Letter) -> bool
-    ensures { result ≡ takesPoint l }
+    ensures { result ≡ takes_point l }
 {
     match l {
         Letter::N => false,
@@ -51,7 +51,7 @@ pub enum Named {
 }
 
 pub fn of_byte(b: u8) -> Named
-    ensures { result ≡ letterOf b }
+    ensures { result ≡ letter_of b }
 {
     match b {
         b'N' => Named::Is(Letter::N),

@@ -1,7 +1,7 @@
 // What a line says of each letter.
 ghost use Rattle.std.specs.Prelude.{◌≡◌};
-ghost use Rattle.letters.specs.Word.{missingWord};
-ghost use Rattle.letters.specs.computed.Scan.{noWords};
+ghost use Rattle.letters.specs.Word.{missing_word};
+ghost use Rattle.letters.specs.computed.Scan.{no_words};
 
 // A letter's word. The magnitude is in thousandths for a letter that takes a point (below 10^10), else a plain number (below 10^7).
 // A letter that does not stand, or stands twice, has no value: plus 0.
@@ -26,7 +26,7 @@ pub struct Words {
 
 // What is said of a letter that does not stand.
 fn missing() -> Word
-    ensures { result ≡ missingWord }
+    ensures { result ≡ missing_word }
 {
     Word {
         stands: false,
@@ -38,7 +38,7 @@ fn missing() -> Word
 
 // What is said of each letter before any word.
 pub fn none() -> Words
-    ensures { result ≡ noWords }
+    ensures { result ≡ no_words }
 {
     let w = missing();
     Words {

@@ -1,14 +1,14 @@
 // A line in work: its numbers, the point that it has reached, and one cycle onward.
 ghost use Rattle.std.specs.Prelude.{◌≡◌, true, ◌+◌, ◌*◌, ◌≤◌, eqb};
-ghost use Rattle.whole.specs.Root.{leastRoot};
+ghost use Rattle.whole.specs.Root.{least_root};
 ghost use Rattle.whole.specs.computed.Sign.{join_of};
-ghost use Rattle.whole.specs.Equal.{equalZ};
-ghost use Rattle.plane.specs.Point.{equalPoint};
+ghost use Rattle.whole.specs.Equal.{equal_z};
+ghost use Rattle.plane.specs.Point.{equal_point};
 ghost use Rattle.plane.specs.Pulse.{code_of};
 ghost use Rattle.line.specs.computed.Register.{AxisFits};
-ghost use Rattle.line.specs.Register.{pulsesOf};
-ghost use Rattle.line.specs.Line.{axisSteps, axisMoved, linePoint, lineWidth, line_of};
-ghost use Rattle.line.specs.computed.Line.{short_of, drawnOf, line_at, steppedOf};
+ghost use Rattle.line.specs.Register.{pulses_of};
+ghost use Rattle.line.specs.Line.{axis_steps, axis_moved, line_point, line_width, line_of};
+ghost use Rattle.line.specs.computed.Line.{short_of, drawn_of, line_at, stepped_of};
 
 use crate::register::{clock, has_moved, moved, register};
 use plane::point::{Point, between};
@@ -40,7 +40,7 @@ const LONGEST: u64 = 2_000_000;
 
 fn cycles(a: u64, b: u64) -> u64
     requires { (a ≤ 2000000) × (b ≤ 2000000) }
-    ensures { result ≡ leastRoot (a * a + b * b) }
+    ensures { result ≡ least_root (a * a + b * b) }
 {
     whole::root::least_root(a * a + b * b)
 }
@@ -48,7 +48,7 @@ fn cycles(a: u64, b: u64) -> u64
 // Whether q is the number of cycles, by two squares; any q may be asked.
 fn takes(q: u64, a: u64, b: u64) -> bool
     requires { (a ≤ 2000000) × (b ≤ 2000000) }
-    ensures { result ≡ eqb q (leastRoot (a * a + b * b)) }
+    ensures { result ≡ eqb q (least_root (a * a + b * b)) }
 {
     whole::root::is_least_root(a * a + b * b, q)
 }
@@ -56,7 +56,7 @@ fn takes(q: u64, a: u64, b: u64) -> bool
 // Whether an axis that was to go `way` has gone `gone` after `done` of q cycles.
 fn axis_at(q: u64, done: u64, way: SignMagnitude, gone: SignMagnitude) -> bool
     requires { AxisFits q way.magnitude done }
-    ensures { result ≡ equalZ (join_of gone) (axisMoved q (join_of way) done) }
+    ensures { result ≡ equal_z (join_of gone) (axis_moved q (join_of way) done) }
 {
     if !has_moved(q, way.magnitude, done, gone.magnitude) {
         return false;
@@ -66,8 +66,8 @@ fn axis_at(q: u64, done: u64, way: SignMagnitude, gone: SignMagnitude) -> bool
 
 // The code of an axis in the next cycle, from what it has moved.
 fn axis_code(q: u64, done: u64, way: SignMagnitude, moved: u64) -> u8
-    requires { AxisFits q way.magnitude done × (moved ≡ axisSteps q way.magnitude done) }
-    ensures { result ≡ code_of (pulsesOf q way.magnitude done) way.negative }
+    requires { AxisFits q way.magnitude done × (moved ≡ axis_steps q way.magnitude done) }
+    ensures { result ≡ code_of (pulses_of q way.magnitude done) way.negative }
 {
     let k = clock(q, way.magnitude, register(q, way.magnitude, done, moved));
     code(k.pulse, way.negative)
@@ -76,7 +76,7 @@ fn axis_code(q: u64, done: u64, way: SignMagnitude, moved: u64) -> u8
 // How far an axis has gone, in its direction.
 fn axis_moved(q: u64, done: u64, way: SignMagnitude) -> i64
     requires { AxisFits q way.magnitude done }
-    ensures { result ≡ axisMoved q (join_of way) done }
+    ensures { result ≡ axis_moved q (join_of way) done }
 {
     join(SignMagnitude {
         negative: way.negative,
@@ -104,7 +104,7 @@ impl Line {
 
     // The fewest bits that hold the longer increment: what a load answers.
     pub fn width(self) -> u64
-        ensures { result ≡ lineWidth self.start self.end }
+        ensures { result ≡ line_width self.start self.end }
     {
         let start = self.start;
         let end = self.end;
@@ -120,7 +120,7 @@ impl Line {
 
     // Whether the numbers are those of a line in work, whatever they are: lengths are compared before they are multiplied.
     fn is_drawn(self) -> bool
-        ensures { result ≡ drawnOf self }
+        ensures { result ≡ drawn_of self }
     {
         let start = self.start;
         let end = self.end;
@@ -141,8 +141,8 @@ impl Line {
 
     // Whether the line has reached this point, by products alone.
     fn has_reached(self, at: Point) -> bool
-        requires { drawnOf self ≡ true }
-        ensures { result ≡ equalPoint at (linePoint self.start self.end self.done) }
+        requires { drawn_of self ≡ true }
+        ensures { result ≡ equal_point at (line_point self.start self.end self.done) }
     {
         let start = self.start;
         let end = self.end;
@@ -171,7 +171,7 @@ impl Line {
     // The codes of the next cycle, with no division: each axis clocks its register.
     fn codes(self, at: Point) -> Pulses
         requires { line_at self at ≡ true }
-        ensures { result ≡ (steppedOf self).pulses }
+        ensures { result ≡ (stepped_of self).pulses }
     {
         let start = self.start;
         let end = self.end;
@@ -190,7 +190,7 @@ impl Line {
     // One cycle onward.
     pub fn step(self, at: Point) -> Stepped
         requires { line_at self at ≡ true }
-        ensures { result ≡ steppedOf self }
+        ensures { result ≡ stepped_of self }
     {
         let pulses = self.codes(at);
         let mut line = self;
@@ -204,8 +204,8 @@ impl Line {
 
     // The point after the cycles done.
     pub fn point(self) -> Point
-        requires { drawnOf self ≡ true }
-        ensures { result ≡ linePoint self.start self.end self.done }
+        requires { drawn_of self ≡ true }
+        ensures { result ≡ line_point self.start self.end self.done }
     {
         let start = self.start;
         let end = self.end;

@@ -1,9 +1,9 @@
 // One axis of a line: its register, and how far it has moved.
 // In every function `capacity` is the line's q, `increment` the magnitude of the axis's increment and `done` the cycles done.
 ghost use Rattle.std.specs.Prelude.{◌≡◌, ◌+◌, ◌^◌, ◌<◌, eqb};
-ghost use Rattle.line.specs.Line.{axisSteps};
+ghost use Rattle.line.specs.Line.{axis_steps};
 ghost use Rattle.line.specs.computed.Register.{AxisFits};
-ghost use Rattle.line.specs.Register.{clockOf, registerOf};
+ghost use Rattle.line.specs.Register.{clock_of, register_of};
 
 // What a clock of the register gives.
 #[derive(Drop)]
@@ -15,7 +15,7 @@ pub struct Clocked {
 // One cycle: the increment is added; on reaching the capacity the capacity is taken off, and the axis pulses.
 pub fn clock(capacity: u64, increment: u64, register: u64) -> Clocked
     requires { register + increment < 2 ^ 64 }
-    ensures { result ≡ clockOf capacity increment register }
+    ensures { result ≡ clock_of capacity increment register }
 {
     let sum = register + increment;
     if capacity <= sum {
@@ -33,8 +33,8 @@ pub fn clock(capacity: u64, increment: u64, register: u64) -> Clocked
 
 // The register, from what the axis has moved: no division.
 pub fn register(capacity: u64, increment: u64, done: u64, moved: u64) -> u64
-    requires { AxisFits capacity increment done × (moved ≡ axisSteps capacity increment done) }
-    ensures { result ≡ registerOf capacity increment done }
+    requires { AxisFits capacity increment done × (moved ≡ axis_steps capacity increment done) }
+    ensures { result ≡ register_of capacity increment done }
 {
     capacity / 2 + increment * done - capacity * moved
 }
@@ -42,7 +42,7 @@ pub fn register(capacity: u64, increment: u64, done: u64, moved: u64) -> u64
 // How far the axis has moved: the one division of a line.
 pub fn moved(capacity: u64, increment: u64, done: u64) -> u64
     requires { AxisFits capacity increment done }
-    ensures { result ≡ axisSteps capacity increment done }
+    ensures { result ≡ axis_steps capacity increment done }
 {
     (capacity / 2 + increment * done) / capacity
 }
@@ -50,7 +50,7 @@ pub fn moved(capacity: u64, increment: u64, done: u64) -> u64
 // Whether the axis has moved so far, by products alone; any number may be asked.
 pub fn has_moved(capacity: u64, increment: u64, done: u64, moved: u64) -> bool
     requires { AxisFits capacity increment done }
-    ensures { result ≡ eqb moved (axisSteps capacity increment done) }
+    ensures { result ≡ eqb moved (axis_steps capacity increment done) }
 {
     if increment < moved {
         return false;

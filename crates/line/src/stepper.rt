@@ -1,9 +1,9 @@
 // A line's two registers carried from cycle to cycle, for long runs: a cycle costs each axis a comparison and a sum, and no product.
 ghost use Rattle.std.specs.Prelude.{◌≡◌, true, ◌+◌, ◌^◌, ◌≤◌, ◌<◌};
-ghost use Rattle.line.specs.Line.{axisSteps};
+ghost use Rattle.line.specs.Line.{axis_steps};
 ghost use Rattle.line.specs.computed.Line.{line_at};
 ghost use Rattle.line.specs.computed.Register.{AxisFits};
-ghost use Rattle.line.specs.computed.Stepper.{trackOf, trackedOf, stepperOf, advancedOf, Fitting};
+ghost use Rattle.line.specs.computed.Stepper.{track_of, tracked_of, stepper_of, advanced_of, Fitting};
 
 use crate::line::Line;
 use crate::register::register;
@@ -46,8 +46,8 @@ pub struct Advanced {
 
 // The axis after `done` cycles, from what it has moved.
 fn track_after(q: u64, done: u64, way: SignMagnitude, moved: u64) -> Track
-    requires { AxisFits q way.magnitude done × (moved ≡ axisSteps q way.magnitude done) }
-    ensures { result ≡ trackOf q way.magnitude way.negative done }
+    requires { AxisFits q way.magnitude done × (moved ≡ axis_steps q way.magnitude done) }
+    ensures { result ≡ track_of q way.magnitude way.negative done }
 {
     Track {
         increment: way.magnitude,
@@ -60,7 +60,7 @@ impl Track {
     // One cycle of the axis.
     fn advance(self, capacity: u64) -> Tracked
         requires { (self.increment ≤ capacity) × (self.room + capacity < 2 ^ 64) }
-        ensures { result ≡ trackedOf capacity self }
+        ensures { result ≡ tracked_of capacity self }
     {
         if self.increment <= self.room {
             Tracked {
@@ -88,7 +88,7 @@ impl Stepper {
     // The products are here.
     pub fn enter(l: Line, at: Point) -> Stepper
         requires { line_at l at ≡ true }
-        ensures { result ≡ stepperOf l }
+        ensures { result ≡ stepper_of l }
     {
         let start = l.start;
         let end = l.end;
@@ -108,7 +108,7 @@ impl Stepper {
     // One cycle onward.
     pub fn advance(self) -> Advanced
         requires { Fitting self }
-        ensures { result ≡ advancedOf self }
+        ensures { result ≡ advanced_of self }
     {
         let x = self.x;
         let y = self.y;

@@ -2,5 +2,5 @@
 use Rattle.std.specs.Prelude.{ℕ}
 
 -- "38: more than 1,000,000 ticks, checked after 9."
-abbrev pub mostTicks : ℕ
-mostTicks = 1000000
+abbrev pub most_ticks : ℕ
+most_ticks = 1000000

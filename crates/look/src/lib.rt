@@ -2,9 +2,9 @@
 // point by closed forms, and so does each one that waits, so the cost grows with the blocks on the way and not with the ticks.
 ghost use Rattle.std.specs.Prelude.{◌≡◌, true};
 ghost use Rattle.plane.specs.Point.{Near};
-ghost use Rattle.finish.specs.computed.Finish.{worksOf};
-ghost use Rattle.machine.specs.computed.Machine.{soundOf};
-ghost use Rattle.look.specs.computed.Look.{refusing, tickingOf, ahead_of, passOf, way_of};
+ghost use Rattle.finish.specs.computed.Finish.{works_of};
+ghost use Rattle.machine.specs.computed.Machine.{sound_of};
+ghost use Rattle.look.specs.computed.Look.{refusing, ticking_of, ahead_of, pass_of, way_of};
 
 use bench::Answer;
 use finish::works;
@@ -66,8 +66,8 @@ pub fn way(from: Point, to: Point) -> Sums
 
 // Working ticks to the end of the block in work, where the next one comes into work, or as far as the ticks go.
 fn pass(m: Machine, ticks: u64) -> Passed
-    requires { (soundOf m ≡ true) × (worksOf m.bench ≡ true) }
-    ensures { result ≡ passOf m ticks }
+    requires { (sound_of m ≡ true) × (works_of m.bench ≡ true) }
+    ensures { result ≡ pass_of m ticks }
 {
     let k = m.bench;
     let q = m.queue;
@@ -88,8 +88,8 @@ fn pass(m: Machine, ticks: u64) -> Passed
 // The record after so many ticks, of a record that has been tested: block by block, 17 at most. Ticks that are no working ones leave it as
 // it was.
 fn after_ticks(m: Machine, ticks: u64) -> Machine
-    requires { soundOf m ≡ true }
-    ensures { result ≡ (tickingOf ticks m).machine }
+    requires { sound_of m ≡ true }
+    ensures { result ≡ (ticking_of ticks m).machine }
 {
     let mut now = m;
     let mut left = ticks;
@@ -107,7 +107,7 @@ fn after_ticks(m: Machine, ticks: u64) -> Machine
 
 // What so many ticks would give on a copy, of a record that has been tested.
 pub fn look_sound(m: Machine, ticks: u64) -> Ahead
-    requires { soundOf m ≡ true }
+    requires { sound_of m ≡ true }
     ensures { result ≡ ahead_of m ticks }
 {
     if MOST_TICKS < ticks {

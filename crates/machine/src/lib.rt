@@ -3,11 +3,11 @@
 ghost use Rattle.std.specs.Prelude.{◌≡◌, true, length};
 ghost use Rattle.run.specs.computed.Run.{written};
 ghost use Rattle.bench.specs.declared.Answer.TheVariants.{Done, Refused};
-ghost use Rattle.machine.specs.computed.Machine.{soundOf};
+ghost use Rattle.machine.specs.computed.Machine.{sound_of};
 ghost use Rattle.machine.specs.Machine.{fresh_of};
 ghost use Rattle.machine.specs.computed.Run.{run_of};
 ghost use Rattle.machine.specs.Calls.{answers, mark_of};
-ghost use Rattle.machine.specs.computed.Calls.{ifSound, makeOf, loadWith, load_of, tickOf, holdOf, releaseOf, stopOf};
+ghost use Rattle.machine.specs.computed.Calls.{if_sound, make_of, load_with, load_of, tick_of, hold_of, release_of, stop_of};
 ghost use Rattle.machine.specs.computed.Asked.{Taking};
 
 use bench::{Answer, Bench, Report, Tick};
@@ -65,7 +65,7 @@ fn fresh(settings: Settings) -> Machine
 impl Machine {
     // Whether this is a sound record.
     pub fn is_sound(self) -> bool
-        ensures { result ≡ soundOf self }
+        ensures { result ≡ sound_of self }
     {
         let k = self.bench;
         let settings = k.settings;
@@ -89,7 +89,7 @@ impl Machine {
     }
 
     pub fn make(settings: Settings) -> Answered
-        ensures { result ≡ makeOf settings }
+        ensures { result ≡ make_of settings }
     {
         let no = settings_no(settings);
         if no != 0 {
@@ -107,7 +107,7 @@ impl Machine {
     // A block that no question refused: into work where nothing is, else behind those that wait.
     fn take(self, start: Point, b: Block) -> Answered
         requires { Taking self start b }
-        ensures { result ≡ loadWith self b 0 }
+        ensures { result ≡ load_with self b 0 }
     {
         let k = self.bench;
         let work = k.work;
@@ -158,7 +158,7 @@ impl Machine {
 
     // One clock tick.
     pub fn tick(self) -> Ticked
-        ensures { result ≡ tickOf self }
+        ensures { result ≡ tick_of self }
     {
         if !self.is_sound() {
             return Ticked {
@@ -204,7 +204,7 @@ impl Machine {
 
     // The record with another mark.
     fn marked(self, mark: bool) -> Answered
-        ensures { result ≡ ifSound self (answers Done (mark_of self mark)) }
+        ensures { result ≡ if_sound self (answers Done (mark_of self mark)) }
     {
         if !self.is_sound() {
             return self.refused(9);
@@ -220,20 +220,20 @@ impl Machine {
     }
 
     pub fn hold(self) -> Answered
-        ensures { result ≡ holdOf self }
+        ensures { result ≡ hold_of self }
     {
         self.marked(true)
     }
 
     pub fn release(self) -> Answered
-        ensures { result ≡ releaseOf self }
+        ensures { result ≡ release_of self }
     {
         self.marked(false)
     }
 
     // Drops the block in work and all that wait. The point and the mark stay.
     pub fn stop(self) -> Answered
-        ensures { result ≡ stopOf self }
+        ensures { result ≡ stop_of self }
     {
         if !self.is_sound() {
             return self.refused(9);

@@ -2,12 +2,12 @@
 // The functions take the few numbers that they need and no machine, so that a call on words need not build one.
 ghost use Rattle.std.specs.Prelude.{◌≡◌, true, ◌-◌, ◌≤◌};
 ghost use Rattle.work.specs.computed.Rest.{Countable};
-ghost use Rattle.settings.specs.Settings.{capacityOf};
-ghost use Rattle.bench.specs.computed.Bench.{soundOf};
-ghost use Rattle.machine.specs.computed.Machine.{waitingRight};
+ghost use Rattle.settings.specs.Settings.{capacity_of};
+ghost use Rattle.bench.specs.computed.Bench.{sound_of};
+ghost use Rattle.machine.specs.computed.Machine.{waiting_right};
 ghost use Rattle.machine.specs.Machine.{start_of};
 ghost use Rattle.machine.specs.Calls.{next_of};
-ghost use Rattle.machine.specs.computed.Asked.{less_of, workOff, cyclesTold, Coming};
+ghost use Rattle.machine.specs.computed.Asked.{less_of, work_off, cycles_told, Coming};
 
 use crate::Machine;
 use bench::{Bench, Tick};
@@ -35,7 +35,7 @@ fn less(cycles: u64, count: u64) -> TakenOff
 // that what a tick asks of its own kind stands in line.
 pub fn work_off(at: Point, work: Work, root: u64, count: u64) -> TakenOff
     requires { Countable at work }
-    ensures { result ≡ workOff at work root count }
+    ensures { result ≡ work_off at work root count }
 {
     match work {
         Work::Nothing => {
@@ -61,8 +61,8 @@ pub fn work_off(at: Point, work: Work, root: u64, count: u64) -> TakenOff
 
 // Whether root, figure and queue are right behind a bench that has been tested. With none waiting no place of the queue is looked at.
 pub fn is_right(k: Bench, root: u64, left: u64, q: Queue) -> bool
-    requires { soundOf k ≡ true }
-    ensures { result ≡ waitingRight (capacityOf k.settings) k.settings.travel k.at k.work root left q }
+    requires { sound_of k ≡ true }
+    ensures { result ≡ waiting_right (capacity_of k.settings) k.settings.travel k.at k.work root left q }
 {
     let at = k.at;
     let work = k.work;
@@ -94,8 +94,8 @@ pub fn start_of(k: Bench, q: Queue) -> Point
 
 // The cycles still to do after a tick that answered this.
 pub fn left_after(left: u64, tick: Tick) -> u64
-    requires { cyclesTold tick ≤ left }
-    ensures { result ≡ left - cyclesTold tick }
+    requires { cycles_told tick ≤ left }
+    ensures { result ≡ left - cycles_told tick }
 {
     match tick {
         Tick::Byte(byte) => {

@@ -3,11 +3,11 @@
 // come goes in by value and comes back by value. Between two calls the caller keeps the scratch buffer's first `held` bytes; its others are
 // free, and all of them once a line is whole.
 ghost use Rattle.std.specs.Prelude.{◌≡◌, true, min, ◌≤◌, length};
-ghost use Rattle.row.specs.computed.Buffer.{hasRoom};
+ghost use Rattle.row.specs.computed.Buffer.{has_room};
 ghost use Rattle.job.specs.computed.Check.{totals};
 ghost use Rattle.panel.specs.computed.Over.{is_over};
-ghost use Rattle.panel.specs.computed.Piece.{scratchBytes, tooLong, taken_of, keptOf, comeOf, checkAt, start_of, lineHanded};
-ghost use Rattle.panel.specs.computed.Piece.{lastHanded, linesHanded, piece_of, short_of, Keeps, Hands, HandsAny, ReadsPiece};
+ghost use Rattle.panel.specs.computed.Piece.{scratch_bytes, too_long, taken_of, kept_of, come_of, check_at, start_of, line_handed};
+ghost use Rattle.panel.specs.computed.Piece.{last_handed, lines_handed, piece_of, short_of, Keeps, Hands, HandsAny, ReadsPiece};
 
 use bench::Bench;
 use job::Stage;
@@ -72,8 +72,8 @@ fn taken(piece: &[u8], left: usize) -> usize
 
 // Puts bytes of the line behind those that the scratch buffer holds, as far as there is room; answers how many it holds then.
 fn keep(scratch: &mut [u8], held: usize, bytes: &[u8]) -> usize
-    requires { scratchBytes ≤ length scratch.old }
-    ensures { Keeps (keptOf held scratch.old bytes.now) result scratch.new }
+    requires { scratch_bytes ≤ length scratch.old }
+    ensures { Keeps (kept_of held scratch.old bytes.now) result scratch.new }
 {
     let from = least(held, SCRATCH);
     let more = least(bytes.len(), SCRATCH - from);
@@ -83,7 +83,7 @@ fn keep(scratch: &mut [u8], held: usize, bytes: &[u8]) -> usize
 // Whether a byte stands behind those taken, how many the text may still have, whether the text ends with this piece, and how many bytes of
 // the line are held.
 fn come_to(more: bool, left: usize, last: bool, held: usize) -> Come
-    ensures { result ≡ comeOf more left last held }
+    ensures { result ≡ come_of more left last held }
 {
     if more {
         if left == 0 {
@@ -128,8 +128,8 @@ impl PanelCheck {
 
     // The row of a line that has come to its end, after which the text may have so many bytes.
     fn row(self, line: &[u8], left: usize, took: usize, out: &mut [u8]) -> PieceRead
-        requires { hasRoom out.old 0 ≡ true }
-        ensures { HandsAny (lineHanded self.tally left took line.now) out.old result out.new }
+        requires { has_room out.old 0 ≡ true }
+        ensures { HandsAny (line_handed self.tally left took line.now) out.old result out.new }
     {
         let tally = self.tally;
         let l = tally.read(line, out, 0);
@@ -165,7 +165,7 @@ impl PanelCheck {
 
     // After the last row.
     fn last(self, left: usize, took: usize, wrote: usize) -> PieceRead
-        ensures { result ≡ record { told = Told.Over; took = took; wrote = wrote; check = checkAt Stage.Over left 0 self.tally } }
+        ensures { result ≡ record { told = Told.Over; took = took; wrote = wrote; check = check_at Stage.Over left 0 self.tally } }
     {
         let tally = self.tally;
         let check = PanelCheck {
@@ -184,8 +184,8 @@ impl PanelCheck {
 
     // The last row of a text that has a byte too many.
     fn too_long(self, left: usize, took: usize, out: &mut [u8]) -> PieceRead
-        requires { hasRoom out.old 0 ≡ true }
-        ensures { HandsAny (lastHanded tooLong self.tally left took) out.old result out.new }
+        requires { has_room out.old 0 ≡ true }
+        ensures { HandsAny (last_handed too_long self.tally left took) out.old result out.new }
     {
         let tally = self.tally;
         let lines = tally.lines;
@@ -198,8 +198,8 @@ impl PanelCheck {
 
     // The last row of a text that was read to its end.
     fn total(self, left: usize, took: usize, out: &mut [u8]) -> PieceRead
-        requires { hasRoom out.old 0 ≡ true }
-        ensures { HandsAny (lastHanded totals self.tally left took) out.old result out.new }
+        requires { has_room out.old 0 ≡ true }
+        ensures { HandsAny (last_handed totals self.tally left took) out.old result out.new }
     {
         let tally = self.tally;
         let place = tally.total(out, 0);
@@ -208,7 +208,7 @@ impl PanelCheck {
 
     // Of a line that goes on the scratch buffer holds so many bytes.
     fn wait(self, left: usize, took: usize, held: usize) -> PieceRead
-        ensures { result ≡ record { told = Told.More; took = took; wrote = 0; check = checkAt Stage.Lines left held self.tally } }
+        ensures { result ≡ record { told = Told.More; took = took; wrote = 0; check = check_at Stage.Lines left held self.tally } }
     {
         let tally = self.tally;
         let check = PanelCheck {
@@ -227,8 +227,8 @@ impl PanelCheck {
 
     // Takes bytes of the line being read, and writes its row where it has come to its end.
     fn line(self, scratch: &mut [u8], piece: &[u8], last: bool, out: &mut [u8]) -> PieceRead
-        requires { (scratchBytes ≤ length scratch.old) × (hasRoom out.old 0 ≡ true) }
-        ensures { Hands (linesHanded self scratch.old piece.now last) out.old result
+        requires { (scratch_bytes ≤ length scratch.old) × (has_room out.old 0 ≡ true) }
+        ensures { Hands (lines_handed self scratch.old piece.now last) out.old result
             scratch.new out.new }
     {
         let took = taken(piece, self.left);
@@ -244,7 +244,7 @@ impl PanelCheck {
     }
 
     fn step(self, scratch: &mut [u8], piece: &[u8], last: bool, out: &mut [u8]) -> PieceRead
-        requires { (scratchBytes ≤ length scratch.old) × (hasRoom out.old 0 ≡ true) }
+        requires { (scratch_bytes ≤ length scratch.old) × (has_room out.old 0 ≡ true) }
         ensures { Hands (piece_of self scratch.old piece.now last) out.old result
             scratch.new out.new }
     {

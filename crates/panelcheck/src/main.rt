@@ -1,8 +1,8 @@
 // The check of a job as the operator panel does it: standard input, never held whole, to the panel's listing (document 02 §5).
 ghost use Rattle.std.specs.Prelude.{◌≡◌, ◌≤◌, length};
-ghost use Rattle.settings.specs.Settings.{standardSettings};
+ghost use Rattle.settings.specs.Settings.{standard_settings};
 ghost use Rattle.panel.specs.computed.Rest.{Lists};
-ghost use Rattle.panelcheck.specs.computed.Rows.{usedUp, ReadsBehind, RoomLeft};
+ghost use Rattle.panelcheck.specs.computed.Rows.{used_up, ReadsBehind, RoomLeft};
 
 use bench::Bench;
 use input::{Input, read_some};
@@ -34,7 +34,7 @@ enum Listing {
 
 // What the check has to hand out is the panel's listing, whatever the text.
 fn start() -> PanelCheck
-    ensures { Lists standardSettings result }
+    ensures { Lists standard_settings result }
 {
     let made = Bench::make(standard());
     let bench = made.bench;
@@ -43,7 +43,7 @@ fn start() -> PanelCheck
 
 // Whether the next piece is to be read first.
 fn used_up(from: usize, len: usize, last: bool) -> bool
-    ensures { result ≡ usedUp from len last }
+    ensures { result ≡ used_up from len last }
 {
     if last {
         return false;

@@ -6,31 +6,31 @@ use Rattle.plane.specs.declared.pulse.Pulses.{Pulses}
 -- ---- made
 
 -- "X code + 4 × Y code"
-abbrev pub bothCodes : Pulses → ℕ
-bothCodes p = p.x + 4 * p.y
+abbrev pub both_codes : Pulses → ℕ
+both_codes p = p.x + 4 * p.y
 
 -- "+ 16 if a cycle was done + 32 if the block ended", of a tick that did a cycle; any other tick gives 0
-abbrev pub withMarks : (codes : ℕ) (ended : Bool) → ℕ
-withMarks codes ended = codes + 16 + cond ended 32 0
+abbrev pub with_marks : (codes : ℕ) (ended : Bool) → ℕ
+with_marks codes ended = codes + 16 + cond ended 32 0
 
-abbrev pub cycleByte : Pulses → (ended : Bool) → ℕ
-cycleByte p ended = withMarks (bothCodes p) ended
+abbrev pub cycle_byte : Pulses → (ended : Bool) → ℕ
+cycle_byte p ended = with_marks (both_codes p) ended
 
 -- ---- read
 
-abbrev pub codeX : (byte : ℕ) → ℕ
-codeX b = b % 4
+abbrev pub code_x : (byte : ℕ) → ℕ
+code_x b = b % 4
 
-abbrev pub codeY : (byte : ℕ) → ℕ
-codeY b = b / 4 % 4
+abbrev pub code_y : (byte : ℕ) → ℕ
+code_y b = b / 4 % 4
 
-abbrev pub cycleMark : (byte : ℕ) → ℕ
-cycleMark b = b / 16 % 2
+abbrev pub cycle_mark : (byte : ℕ) → ℕ
+cycle_mark b = b / 16 % 2
 
 -- how many of these bytes mark a cycle
-abbrev pub cyclesMarked : List ℕ → ℕ
-cyclesMarked [] = 0
-cyclesMarked (b ∷ bs) = cycleMark b + cyclesMarked bs
+abbrev pub cycles_marked : List ℕ → ℕ
+cycles_marked [] = 0
+cycles_marked (b ∷ bs) = cycle_mark b + cycles_marked bs
 
-abbrev pub endMark : (byte : ℕ) → ℕ
-endMark b = b / 32 % 2
+abbrev pub end_mark : (byte : ℕ) → ℕ
+end_mark b = b / 32 % 2

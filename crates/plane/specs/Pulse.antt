@@ -11,19 +11,19 @@ code_of true false = 1
 code_of true true = 2
 
 -- 01, The book of a history: "Pulses sent are their codes, 1 as plus one and 2 as minus one"
-abbrev pub pulseOf : (code : ℕ) → ℤ
-pulseOf zero = pos 0
-pulseOf (suc zero) = pos 1
-pulseOf (suc (suc zero)) = negsuc 0
-pulseOf (suc (suc (suc n))) = pos 0
+abbrev pub pulse_of : (code : ℕ) → ℤ
+pulse_of zero = pos 0
+pulse_of (suc zero) = pos 1
+pulse_of (suc (suc zero)) = negsuc 0
+pulse_of (suc (suc (suc n))) = pos 0
 
 -- the position after the pulses of a cycle
-abbrev pub shiftedOf : Point → Pulses → Point
-shiftedOf at p = record { x = at.x +ℤ pulseOf p.x; y = at.y +ℤ pulseOf p.y }
+abbrev pub shifted_of : Point → Pulses → Point
+shifted_of at p = record { x = at.x +ℤ pulse_of p.x; y = at.y +ℤ pulse_of p.y }
 
 -- the code that tells how a coordinate changed
-unfoldable pub changeOf : (before after : ℤ) → ℕ
-changeOf before after = cond (lt_z before after) 1 (cond (lt_z after before) 2 0)
+unfoldable pub change_of : (before after : ℤ) → ℕ
+change_of before after = cond (lt_z before after) 1 (cond (lt_z after before) 2 0)
 
-abbrev pub pulsesBetween : (before after : Point) → Pulses
-pulsesBetween before after = record { x = changeOf before.x after.x; y = changeOf before.y after.y }
+abbrev pub pulses_between : (before after : Point) → Pulses
+pulses_between before after = record { x = change_of before.x after.x; y = change_of before.y after.y }

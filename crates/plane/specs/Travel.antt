@@ -5,13 +5,13 @@ use Rattle.plane.specs.declared.point.Point.{Point}
 use Rattle.plane.specs.declared.travel.Range.{Range}
 use Rattle.plane.specs.declared.travel.Travel.{Travel}
 
-unfoldable pub withinOf : Range → ℤ → Bool
-withinOf r v = le_z r.lower v && le_z v r.upper
+unfoldable pub within_of : Range → ℤ → Bool
+within_of r v = le_z r.lower v && le_z v r.upper
 
-unfoldable pub insideOf : Travel → Point → Bool
-insideOf t p = withinOf t.x p.x && withinOf t.y p.y
+unfoldable pub inside_of : Travel → Point → Bool
+inside_of t p = within_of t.x p.x && within_of t.y p.y
 
 -- 01, Questions, 16: "Is every visited point in travel?" The visited points are the first to the n-th of a path.
-unfoldable pub visitsInside : Travel → (path : ℕ → Point) (n : ℕ) → Bool
-visitsInside t path zero = true
-visitsInside t path (suc n) = visitsInside t path n && insideOf t (path (suc n))
+unfoldable pub visits_inside : Travel → (path : ℕ → Point) (n : ℕ) → Bool
+visits_inside t path zero = true
+visits_inside t path (suc n) = visits_inside t path n && inside_of t (path (suc n))

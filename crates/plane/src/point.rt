@@ -1,7 +1,7 @@
 // A position, and the way from one to another.
 ghost use Rattle.std.specs.Prelude.{◌≡◌};
-ghost use Rattle.plane.specs.computed.Point.{incrementsOf};
-ghost use Rattle.plane.specs.Point.{equalPoint};
+ghost use Rattle.plane.specs.computed.Point.{increments_of};
+ghost use Rattle.plane.specs.Point.{equal_point};
 
 use whole::equal::equal;
 use whole::sign::SignMagnitude;
@@ -21,7 +21,7 @@ pub struct Increments {
 
 // Exact for every two points.
 pub fn between(from: Point, to: Point) -> Increments
-    ensures { result ≡ incrementsOf from to }
+    ensures { result ≡ increments_of from to }
 {
     Increments {
         x: whole::sign::difference(from.x, to.x),
@@ -30,7 +30,7 @@ pub fn between(from: Point, to: Point) -> Increments
 }
 
 pub fn is_same(p: Point, q: Point) -> bool
-    ensures { result ≡ equalPoint p q }
+    ensures { result ≡ equal_point p q }
 {
     if !equal(p.x, q.x) {
         return false;

@@ -2,7 +2,7 @@
 ghost use Rattle.std.specs.Prelude.{◌≡◌, ◌+ℤ◌};
 ghost use Rattle.std.specs.Int.{w64};
 ghost use Rattle.std.proofs.Common.{SFits};
-ghost use Rattle.plane.specs.Pulse.{pulseOf, code_of, shiftedOf, changeOf, pulsesBetween};
+ghost use Rattle.plane.specs.Pulse.{pulse_of, code_of, shifted_of, change_of, pulses_between};
 
 use crate::point::Point;
 
@@ -25,8 +25,8 @@ pub fn code(pulse: bool, negative: bool) -> u8
 
 // One coordinate after the pulse of a code. Its callers show that it stays in range.
 fn shifted(at: i64, code: u8) -> i64
-    requires { SFits w64 (at +ℤ pulseOf code) }
-    ensures { result ≡ at +ℤ pulseOf code }
+    requires { SFits w64 (at +ℤ pulse_of code) }
+    ensures { result ≡ at +ℤ pulse_of code }
 {
     if code == 1 {
         return at + 1;
@@ -39,8 +39,8 @@ fn shifted(at: i64, code: u8) -> i64
 
 // The position after the pulses of a cycle.
 pub fn pulsed(at: Point, pulses: Pulses) -> Point
-    requires { SFits w64 (at.x +ℤ pulseOf pulses.x) × SFits w64 (at.y +ℤ pulseOf pulses.y) }
-    ensures { result ≡ shiftedOf at pulses }
+    requires { SFits w64 (at.x +ℤ pulse_of pulses.x) × SFits w64 (at.y +ℤ pulse_of pulses.y) }
+    ensures { result ≡ shifted_of at pulses }
 {
     Point {
         x: shifted(at.x, pulses.x),
@@ -50,7 +50,7 @@ pub fn pulsed(at: Point, pulses: Pulses) -> Point
 
 // The code that tells how a coordinate changed.
 fn change(before: i64, after: i64) -> u8
-    ensures { result ≡ changeOf before after }
+    ensures { result ≡ change_of before after }
 {
     if before < after {
         return 1;
@@ -63,7 +63,7 @@ fn change(before: i64, after: i64) -> u8
 
 // The codes that tell how a position changed.
 pub fn changes(before: Point, after: Point) -> Pulses
-    ensures { result ≡ pulsesBetween before after }
+    ensures { result ≡ pulses_between before after }
 {
     Pulses {
         x: change(before.x, after.x),

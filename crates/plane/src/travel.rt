@@ -1,6 +1,6 @@
 // Travel: the positions that an axis may take.
 ghost use Rattle.std.specs.Prelude.{◌≡◌};
-ghost use Rattle.plane.specs.Travel.{withinOf, insideOf};
+ghost use Rattle.plane.specs.Travel.{within_of, inside_of};
 
 use crate::point::Point;
 
@@ -17,13 +17,13 @@ pub struct Travel {
 }
 
 pub fn within(range: Range, at: i64) -> bool
-    ensures { result ≡ withinOf range at }
+    ensures { result ≡ within_of range at }
 {
     range.lower <= at && at <= range.upper
 }
 
 pub fn inside(travel: Travel, at: Point) -> bool
-    ensures { result ≡ insideOf travel at }
+    ensures { result ≡ inside_of travel at }
 {
     let x = travel.x;
     let y = travel.y;

@@ -1,8 +1,8 @@
 // The G and F known as 2 words, and back. `specs/Known.antt` says which word is what.
 ghost use Rattle.std.specs.Prelude.{◌≡◌};
-ghost use Rattle.progress.specs.Known.{motionWord, feedWord, known_of, encodeKnown, feedRead, readerOf};
-ghost use Rattle.progress.specs.computed.Known.{decodeKnown};
-ghost use Rattle.progress.specs.computed.Right.{knownRight};
+ghost use Rattle.progress.specs.Known.{motion_word, feed_word, known_of, encode_known, feed_read, reader_of};
+ghost use Rattle.progress.specs.computed.Known.{decode_known};
+ghost use Rattle.progress.specs.computed.Right.{known_right};
 
 use encoding::encode::turn_word;
 use encoding::number::{count, word};
@@ -17,7 +17,7 @@ pub struct Known {
 }
 
 fn motion_word(motion: Motion) -> i64
-    ensures { result ≡ motionWord motion }
+    ensures { result ≡ motion_word motion }
 {
     match motion {
         Motion::Unknown => 0,
@@ -27,7 +27,7 @@ fn motion_word(motion: Motion) -> i64
 }
 
 fn feed_word(feed: Feed) -> i64
-    ensures { result ≡ feedWord feed }
+    ensures { result ≡ feed_word feed }
 {
     match feed {
         Feed::Unknown => -1,
@@ -49,7 +49,7 @@ pub fn known_of(k: Reader) -> Known
 }
 
 pub fn encode_known(k: Reader) -> [i64; 2]
-    ensures { result ≡ encodeKnown k }
+    ensures { result ≡ encode_known k }
 {
     let known = known_of(k);
     [known.motion, known.feed]
@@ -64,7 +64,7 @@ pub struct DecodedKnown {
 
 // As a text can write it: seven digits and three decimals.
 fn feed_of(word: i64) -> Feed
-    ensures { result ≡ feedRead word }
+    ensures { result ≡ feed_read word }
 {
     let p = part(word);
     if p.negative {
@@ -78,7 +78,7 @@ fn feed_of(word: i64) -> Feed
 }
 
 pub fn reader_of(k: Known) -> Reader
-    ensures { result ≡ readerOf k }
+    ensures { result ≡ reader_of k }
 {
     Reader {
         motion: motion_of(count(k.motion)),
@@ -87,7 +87,7 @@ pub fn reader_of(k: Known) -> Reader
 }
 
 pub fn known_right(k: Known) -> bool
-    ensures { result ≡ knownRight k }
+    ensures { result ≡ known_right k }
 {
     let motions = Range { lower: 0, upper: 3 };
     let feeds = Range {
@@ -101,7 +101,7 @@ pub fn known_right(k: Known) -> bool
 }
 
 pub fn decode_known(words: [i64; 2]) -> DecodedKnown
-    ensures { result ≡ decodeKnown words }
+    ensures { result ≡ decode_known words }
 {
     let known = Known {
         motion: words[0],

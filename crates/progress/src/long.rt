@@ -1,7 +1,7 @@
 // The ticks of a check as 2 words, and back. `specs/Long.antt` says which word is what.
 ghost use Rattle.std.specs.Prelude.{◌≡◌};
-ghost use Rattle.progress.specs.Long.{longWords, highRead, longRead};
-ghost use Rattle.progress.specs.computed.Right.{longRight};
+ghost use Rattle.progress.specs.Long.{long_words, high_read, long_read};
+ghost use Rattle.progress.specs.computed.Right.{long_right};
 
 use encoding::number::{count, is_count, word};
 use plane::travel::{Range, within};
@@ -14,7 +14,7 @@ pub struct LongWords {
 }
 
 pub fn long_words(c: LongCount) -> LongWords
-    ensures { result ≡ longWords c }
+    ensures { result ≡ long_words c }
 {
     LongWords {
         low: word(c.low),
@@ -24,7 +24,7 @@ pub fn long_words(c: LongCount) -> LongWords
 
 // The high part has 32 bits.
 fn high_of(word: i64) -> u32
-    ensures { result ≡ highRead word }
+    ensures { result ≡ high_read word }
 {
     let n = count(word);
     if n < 4_294_967_296 {
@@ -34,7 +34,7 @@ fn high_of(word: i64) -> u32
 }
 
 pub fn long_of(w: LongWords) -> LongCount
-    ensures { result ≡ longRead w }
+    ensures { result ≡ long_read w }
 {
     LongCount {
         low: count(w.low),
@@ -43,7 +43,7 @@ pub fn long_of(w: LongWords) -> LongCount
 }
 
 pub fn long_right(w: LongWords) -> bool
-    ensures { result ≡ longRight w }
+    ensures { result ≡ long_right w }
 {
     let highs = Range {
         lower: 0,

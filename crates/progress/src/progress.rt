@@ -1,9 +1,9 @@
 // A check's progress as 9 words, and back. `specs/Progress.antt` says which word is what.
 ghost use Rattle.std.specs.Prelude.{◌≡◌};
-ghost use Rattle.progress.specs.Progress.{stageWord, progressOf, progressWords, encodeProgress, stageOf, tally_of, checkOf};
-ghost use Rattle.progress.specs.Progress.{progressIn};
-ghost use Rattle.progress.specs.computed.Progress.{decodeProgress};
-ghost use Rattle.progress.specs.computed.Right.{countWordsRight, progressRight};
+ghost use Rattle.progress.specs.Progress.{stage_word, progress_of, progress_words, encode_progress, stage_of, tally_of, check_of};
+ghost use Rattle.progress.specs.Progress.{progress_in};
+ghost use Rattle.progress.specs.computed.Progress.{decode_progress};
+ghost use Rattle.progress.specs.computed.Right.{count_words_right, progress_right};
 
 use crate::known::{Known, known_of, known_right, reader_of};
 use crate::long::{LongWords, long_of, long_right, long_words};
@@ -25,7 +25,7 @@ pub struct Progress {
 }
 
 fn stage_word(stage: Stage) -> i64
-    ensures { result ≡ stageWord stage }
+    ensures { result ≡ stage_word stage }
 {
     match stage {
         Stage::Header => 0,
@@ -35,7 +35,7 @@ fn stage_word(stage: Stage) -> i64
 }
 
 fn progress_of(c: Check) -> Progress
-    ensures { result ≡ progressOf c }
+    ensures { result ≡ progress_of c }
 {
     let stage = c.stage;
     let tally = c.tally;
@@ -56,7 +56,7 @@ fn progress_of(c: Check) -> Progress
 
 // The words in their order.
 fn in_order(p: Progress) -> [i64; 9]
-    ensures { result ≡ progressWords p }
+    ensures { result ≡ progress_words p }
 {
     let known = p.known;
     let ticks = p.ticks;
@@ -74,7 +74,7 @@ fn in_order(p: Progress) -> [i64; 9]
 }
 
 pub fn encode_progress(c: Check) -> [i64; 9]
-    ensures { result ≡ encodeProgress c }
+    ensures { result ≡ encode_progress c }
 {
     in_order(progress_of(c))
 }
@@ -87,7 +87,7 @@ pub struct DecodedProgress {
 }
 
 fn stage_of(n: u64) -> Stage
-    ensures { result ≡ stageOf n }
+    ensures { result ≡ stage_of n }
 {
     if n == 1 {
         return Stage::Lines;
@@ -99,7 +99,7 @@ fn stage_of(n: u64) -> Stage
 }
 
 fn progress_in(words: [i64; 9]) -> Progress
-    ensures { result ≡ progressIn words }
+    ensures { result ≡ progress_in words }
 {
     let known = Known {
         motion: words[2],
@@ -138,7 +138,7 @@ fn tally_of(m: Bench, p: Progress) -> Tally
 }
 
 fn check_of(m: Bench, p: Progress) -> Check
-    ensures { result ≡ checkOf m p }
+    ensures { result ≡ check_of m p }
 {
     let tally = tally_of(m, p);
     Check {
@@ -149,7 +149,7 @@ fn check_of(m: Bench, p: Progress) -> Check
 }
 
 fn counts_right(p: Progress) -> bool
-    ensures { result ≡ countWordsRight p }
+    ensures { result ≡ count_words_right p }
 {
     if !is_count(p.at) {
         return false;
@@ -168,7 +168,7 @@ fn counts_right(p: Progress) -> bool
 }
 
 fn progress_right(p: Progress) -> bool
-    ensures { result ≡ progressRight p }
+    ensures { result ≡ progress_right p }
 {
     let stages = Range { lower: 0, upper: 2 };
     let known = p.known;
@@ -182,7 +182,7 @@ fn progress_right(p: Progress) -> bool
 }
 
 pub fn decode_progress(m: Bench, words: [i64; 9]) -> DecodedProgress
-    ensures { result ≡ decodeProgress m words }
+    ensures { result ≡ decode_progress m words }
 {
     let p = progress_in(words);
     let check = check_of(m, p);

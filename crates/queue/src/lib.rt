@@ -1,12 +1,12 @@
 // The blocks that wait behind the one in work: sixteen places, the first to be cut first.
 // What the places from `len` on hold is free, and no answer depends on it.
 ghost use Rattle.std.specs.Prelude.{◌≡◌, true, ◌&&◌, eqb, ◌≤◌, ◌<◌};
-ghost use Rattle.plane.specs.Travel.{insideOf};
+ghost use Rattle.plane.specs.Travel.{inside_of};
 ghost use Rattle.plane.specs.computed.Travel.{Wide};
-ghost use Rattle.block.specs.Chain.{chainEnd, chainCycles};
-ghost use Rattle.queue.specs.Queue.{waiting, emptyQueue, pushedOf, first_of, poppedOf};
-ghost use Rattle.queue.specs.computed.Queue.{queueSound};
-ghost use Rattle.queue.specs.computed.Test.{takenOff};
+ghost use Rattle.block.specs.Chain.{chain_end, chain_cycles};
+ghost use Rattle.queue.specs.Queue.{waiting, empty_queue, pushed_of, first_of, popped_of};
+ghost use Rattle.queue.specs.computed.Queue.{queue_sound};
+ghost use Rattle.queue.specs.computed.Test.{taken_off};
 
 use block::questions::load_no;
 use block::root::{cycles_by, is_root};
@@ -63,8 +63,8 @@ pub fn wrong() -> TakenOff
 // Whether a block that waits would be accepted from here and has its root, and its cycles are not more than those of the count, whatever
 // its numbers.
 pub fn take_off(capacity: u64, travel: Travel, start: Point, w: Waiting, count: u64) -> TakenOff
-    requires { Wide travel × (insideOf travel start ≡ true) }
-    ensures { result ≡ takenOff capacity travel start w count }
+    requires { Wide travel × (inside_of travel start ≡ true) }
+    ensures { result ≡ taken_off capacity travel start w count }
 {
     let b = w.block;
     if load_no(capacity, travel, true, start, b) != 0 {
@@ -85,7 +85,7 @@ pub fn take_off(capacity: u64, travel: Travel, start: Point, w: Waiting, count: 
 
 impl Queue {
     pub fn empty() -> Queue
-        ensures { result ≡ emptyQueue }
+        ensures { result ≡ empty_queue }
     {
         let b = blank();
         let all = [b; 16];
@@ -98,7 +98,7 @@ impl Queue {
     // A block more, behind those that wait.
     pub fn push(self, w: Waiting) -> Queue
         requires { self.len < 16 }
-        ensures { result ≡ pushedOf self w }
+        ensures { result ≡ pushed_of self w }
     {
         let mut next = self;
         let at = self.len as usize;
@@ -117,7 +117,7 @@ impl Queue {
     // The queue without its first block.
     pub fn pop(self) -> Queue
         requires { 1 ≤ self.len }
-        ensures { result ≡ poppedOf self }
+        ensures { result ≡ popped_of self }
     {
         let mut next = self;
         let mut i: usize = 0;
@@ -136,7 +136,7 @@ impl Queue {
     // Where the next block starts: the end of the last one that waits, or `from` where none does.
     pub fn tail(self, from: Point) -> Point
         requires { self.len ≤ 16 }
-        ensures { result ≡ chainEnd from (waiting self) }
+        ensures { result ≡ chain_end from (waiting self) }
     {
         if self.len == 0 {
             return from;
@@ -149,8 +149,8 @@ impl Queue {
 
     // Whether the queue is sound behind a block that ends at `from`, and its blocks take so many cycles together; for any numbers in it.
     pub fn is_sound(self, capacity: u64, travel: Travel, from: Point, cycles: u64) -> bool
-        requires { Wide travel × (insideOf travel from ≡ true) }
-        ensures { result ≡ (queueSound capacity travel from self && eqb cycles (chainCycles from (waiting self))) }
+        requires { Wide travel × (inside_of travel from ≡ true) }
+        ensures { result ≡ (queue_sound capacity travel from self && eqb cycles (chain_cycles from (waiting self))) }
     {
         if 16 < self.len {
             return false;

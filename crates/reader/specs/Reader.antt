@@ -11,7 +11,7 @@ use Rattle.words.specs.declared.line.Line.{Line}
 use Rattle.reader.specs.declared.Motion.{Motion}
 use Rattle.reader.specs.declared.Feed.{Feed}
 use Rattle.reader.specs.declared.Reader.{Reader}
-use Rattle.plane.specs.Point.{equalPoint}
+use Rattle.plane.specs.Point.{equal_point}
 
 -- ---- "G and F count from their own line until changed"
 
@@ -20,19 +20,19 @@ abbrev pub unknown : Reader
 unknown = record { motion = Motion.Unknown; feed = Feed.Unknown }
 
 -- G 1 is a straight line, 2 an arc clockwise, 3 one counterclockwise
-abbrev pub motionOf : ℕ → Motion
-motionOf g = cond (eqb g 1) Motion.Line (cond (eqb g 2) (Motion.Arc Turn.Clockwise)
+abbrev pub motion_of : ℕ → Motion
+motion_of g = cond (eqb g 1) Motion.Line (cond (eqb g 2) (Motion.Arc Turn.Clockwise)
     (cond (eqb g 3) (Motion.Arc Turn.Counterclockwise) Motion.Unknown))
 
-abbrev pub motionAfter : Motion → Word → Motion
-motionAfter m g = cond g.stands (motionOf g.magnitude) m
+abbrev pub motion_after : Motion → Word → Motion
+motion_after m g = cond g.stands (motion_of g.magnitude) m
 
 -- a word is in thousandths of a millimetre per minute; kept are whole millimetres and thousandths of one
-abbrev pub feedAfter : Feed → Word → Feed
-feedAfter f w = cond w.stands (Feed.Known (w.magnitude / 1000) (w.magnitude % 1000)) f
+abbrev pub feed_after : Feed → Word → Feed
+feed_after f w = cond w.stands (Feed.Known (w.magnitude / 1000) (w.magnitude % 1000)) f
 
-abbrev pub readerAfter : Reader → Words → Reader
-readerAfter k ws = record { motion = motionAfter k.motion ws.g; feed = feedAfter k.feed ws.f }
+abbrev pub reader_after : Reader → Words → Reader
+reader_after k ws = record { motion = motion_after k.motion ws.g; feed = feed_after k.feed ws.f }
 
 -- 02 §4: an F from a word without a point, or none known
 abbrev pub WholeKnown : Feed → Type 0
@@ -42,62 +42,62 @@ WholeKnown (Feed.Known millimetres thousandths) = thousandths ≡ 0
 -- ---- what the questions ask about
 
 -- X or Y stands
-abbrev pub endStands : Words → Bool
-endStands ws = ws.x.stands || ws.y.stands
+abbrev pub end_stands : Words → Bool
+end_stands ws = ws.x.stands || ws.y.stands
 
 -- I or J stands
-abbrev pub centreStands : Words → Bool
-centreStands ws = ws.i.stands || ws.j.stands
+abbrev pub centre_stands : Words → Bool
+centre_stands ws = ws.i.stands || ws.j.stands
 
 -- "one of those four stands"
 abbrev pub moving : Words → Bool
-moving ws = endStands ws || centreStands ws
+moving ws = end_stands ws || centre_stands ws
 
-abbrev pub motionKnown : Motion → Bool
-motionKnown Motion.Unknown = false
-motionKnown Motion.Line = true
-motionKnown (Motion.Arc turn) = true
+abbrev pub motion_known : Motion → Bool
+motion_known Motion.Unknown = false
+motion_known Motion.Line = true
+motion_known (Motion.Arc turn) = true
 
-abbrev pub feedKnown : Feed → Bool
-feedKnown Feed.Unknown = false
-feedKnown (Feed.Known millimetres thousandths) = true
+abbrev pub feed_known : Feed → Bool
+feed_known Feed.Unknown = false
+feed_known (Feed.Known millimetres thousandths) = true
 
-abbrev pub isArc : Motion → Bool
-isArc Motion.Unknown = false
-isArc Motion.Line = false
-isArc (Motion.Arc turn) = true
+abbrev pub is_arc : Motion → Bool
+is_arc Motion.Unknown = false
+is_arc Motion.Line = false
+is_arc (Motion.Arc turn) = true
 
 -- ---- the block
 
 -- a word is in thousandths of a millimetre; question 35 has asked that it falls on whole pulses
-abbrev pub inPulses : (p : ℕ) → Word → ℤ
-inPulses p w = signed w.negative (w.magnitude * p / 1000)
+abbrev pub in_pulses : (p : ℕ) → Word → ℤ
+in_pulses p w = signed w.negative (w.magnitude * p / 1000)
 
 -- "X and Y are absolute, a missing one stays"
 abbrev pub coordinate : (p : ℕ) → Word → (here : ℤ) → ℤ
-coordinate p w here = cond w.stands (inPulses p w) here
+coordinate p w here = cond w.stands (in_pulses p w) here
 
 -- "a missing I or J is 0": a missing word has the magnitude 0
-abbrev pub pathOf : (p : ℕ) → Motion → Words → Path
-pathOf p Motion.Unknown ws = Path.Line
-pathOf p Motion.Line ws = Path.Line
-pathOf p (Motion.Arc turn) ws = Path.Arc turn (record { x = inPulses p ws.i; y = inPulses p ws.j })
+abbrev pub path_of : (p : ℕ) → Motion → Words → Path
+path_of p Motion.Unknown ws = Path.Line
+path_of p Motion.Line ws = Path.Line
+path_of p (Motion.Arc turn) ws = Path.Arc turn (record { x = in_pulses p ws.i; y = in_pulses p ws.j })
 
 -- 01, Feed divider: "The block's feed number f is pulses per minute: millimetres per minute times p." In u-ths of a pulse per minute it is
 -- u times as much: 01 has u 1, and 02 §4 ("The feed number becomes thousandths of a pulse per minute") u 1,000
-abbrev pub feedNumberAt : (u p : ℕ) → Feed → ℕ
-feedNumberAt u p Feed.Unknown = 0
-feedNumberAt u p (Feed.Known millimetres thousandths) = (millimetres * 1000 + thousandths) * p * u / 1000
+abbrev pub feed_number_at : (u p : ℕ) → Feed → ℕ
+feed_number_at u p Feed.Unknown = 0
+feed_number_at u p (Feed.Known millimetres thousandths) = (millimetres * 1000 + thousandths) * p * u / 1000
 
 unfoldable pub block_at : (u p : ℕ) → Reader → Words → (at : Point) → Block
 block_at u p k ws at =
     record {
-      path = pathOf p k.motion ws;
+      path = path_of p k.motion ws;
       end = record { x = coordinate p ws.x at.x; y = coordinate p ws.y at.y };
-      feed = feedNumberAt u p k.feed;
+      feed = feed_number_at u p k.feed;
     }
 
 -- "a straight line to the point where it stands"; an arc to its start is a full turn
-abbrev pub goesNowhere : (end place : Point) → Path → Bool
-goesNowhere end place Path.Line = equalPoint end place
-goesNowhere end place (Path.Arc turn centre) = false
+abbrev pub goes_nowhere : (end place : Point) → Path → Bool
+goes_nowhere end place Path.Line = equal_point end place
+goes_nowhere end place (Path.Arc turn centre) = false

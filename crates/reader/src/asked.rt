@@ -1,12 +1,12 @@
 // What one line of a job asks at the place where the next block starts: a block to load, none, or that it be refused. Load's own questions
 // about the block are the caller's.
 ghost use Rattle.std.specs.Prelude.{◌≡◌, ◌≤◌, length};
-ghost use Rattle.words.specs.computed.Meaning.{meaningOf};
-ghost use Rattle.words.specs.computed.Scan.{firstLine};
-ghost use Rattle.reader.specs.computed.Asked.{asked, blockAsked, asked_of};
-ghost use Rattle.reader.specs.Reader.{goesNowhere};
+ghost use Rattle.words.specs.computed.Meaning.{meaning_of};
+ghost use Rattle.words.specs.computed.Scan.{first_line};
+ghost use Rattle.reader.specs.computed.Asked.{asked, block_asked, asked_of};
+ghost use Rattle.reader.specs.Reader.{goes_nowhere};
 ghost use Rattle.reader.specs.declared.asked.ToLoad.TheVariants.{Refused};
-ghost use Rattle.reader.specs.computed.Asked.{brokenNo};
+ghost use Rattle.reader.specs.computed.Asked.{broken_no};
 ghost use Rattle.reader.specs.computed.Small.{Writable};
 
 use crate::command::{block_of, reader_after};
@@ -39,7 +39,7 @@ pub struct AskedFirst {
 }
 
 fn goes_nowhere(b: Block, place: Point) -> bool
-    ensures { result ≡ goesNowhere b.end place b.path }
+    ensures { result ≡ goes_nowhere b.end place b.path }
 {
     let end = b.end;
     let path = b.path;
@@ -50,7 +50,7 @@ fn goes_nowhere(b: Block, place: Point) -> bool
 }
 
 fn block_asked(place: Point, b: Block) -> ToLoad
-    ensures { result ≡ blockAsked place b }
+    ensures { result ≡ block_asked place b }
 {
     if goes_nowhere(b, place) {
         return ToLoad::Nothing;
@@ -93,8 +93,8 @@ fn ask_words(k: Reader, scale: u64, place: Point, bytes: u64, l: Line) -> Asked
 // What the first line of a text asks.
 pub fn ask_first(k: Reader, scale: u64, place: Point, text: &[u8]) -> AskedFirst
     requires { scale ≤ 1000 }
-    ensures asked_value { result.asked ≡ (let line = firstLine text.now in asked_of scale k place (length line) (meaningOf line)) }
-    ensures bytes_value { result.bytes ≡ length (firstLine text.now) }
+    ensures asked_value { result.asked ≡ (let line = first_line text.now in asked_of scale k place (length line) (meaning_of line)) }
+    ensures bytes_value { result.bytes ≡ length (first_line text.now) }
 {
     let first = words::line::read_first(text);
     let l = first.line;
@@ -106,7 +106,7 @@ pub fn ask_first(k: Reader, scale: u64, place: Point, text: &[u8]) -> AskedFirst
 
 // The number that bytes with an LF among them get: they are no line of words.
 fn broken_no(bytes: u64) -> u64
-    ensures { result ≡ brokenNo bytes }
+    ensures { result ≡ broken_no bytes }
 {
     if bytes <= LONGEST_LINE { 32 } else { 31 }
 }
@@ -114,7 +114,7 @@ fn broken_no(bytes: u64) -> u64
 // What a line alone asks. It is its own first line, where it has no LF.
 pub fn ask_line(k: Reader, scale: u64, place: Point, line: &[u8]) -> Asked
     requires { scale ≤ 1000 }
-    ensures { result ≡ asked_of scale k place (length line.now) (meaningOf line.now) }
+    ensures { result ≡ asked_of scale k place (length line.now) (meaning_of line.now) }
 {
     let first = ask_first(k, scale, place, line);
     if first.bytes < line.len() {

@@ -1,9 +1,9 @@
 // The G and F known after a line, and the block that a line asks for.
 ghost use Rattle.std.specs.Prelude.{◌≡◌, ◌<◌, ◌^◌, ◌≤◌};
-ghost use Rattle.reader.specs.Reader.{motionOf, motionAfter, feedAfter, readerAfter, inPulses, coordinate, pathOf, feedNumberAt};
+ghost use Rattle.reader.specs.Reader.{motion_of, motion_after, feed_after, reader_after, in_pulses, coordinate, path_of, feed_number_at};
 ghost use Rattle.reader.specs.Reader.{block_at};
 ghost use Rattle.reader.specs.computed.Small.{Small, SmallWords};
-ghost use Rattle.settings.specs.Settings.{feedUnit};
+ghost use Rattle.settings.specs.Settings.{feed_unit};
 
 use crate::{Feed, Motion, Reader};
 use block::{Block, Path};
@@ -13,7 +13,7 @@ use plane::point::Point;
 use whole::sign::{SignMagnitude, join};
 
 pub fn motion_of(g: u64) -> Motion
-    ensures { result ≡ motionOf g }
+    ensures { result ≡ motion_of g }
 {
     if g == 1 {
         return Motion::Line;
@@ -28,7 +28,7 @@ pub fn motion_of(g: u64) -> Motion
 }
 
 fn motion_after(m: Motion, g: Word) -> Motion
-    ensures { result ≡ motionAfter m g }
+    ensures { result ≡ motion_after m g }
 {
     if g.stands {
         return motion_of(g.magnitude);
@@ -38,7 +38,7 @@ fn motion_after(m: Motion, g: Word) -> Motion
 
 fn feed_after(f: Feed, w: Word) -> Feed
     requires { w.magnitude < 10 ^ 10 }
-    ensures { result ≡ feedAfter f w }
+    ensures { result ≡ feed_after f w }
 {
     if w.stands {
         return Feed::Known((w.magnitude / 1_000) as u32, (w.magnitude % 1_000) as u32);
@@ -48,7 +48,7 @@ fn feed_after(f: Feed, w: Word) -> Feed
 
 pub fn reader_after(k: Reader, ws: Words) -> Reader
     requires { ws.f.magnitude < 10 ^ 10 }
-    ensures { result ≡ readerAfter k ws }
+    ensures { result ≡ reader_after k ws }
 {
     let g = ws.g;
     let f = ws.f;
@@ -62,7 +62,7 @@ pub fn reader_after(k: Reader, ws: Words) -> Reader
 
 fn in_pulses(scale: u64, w: Word) -> i64
     requires { Small scale w }
-    ensures { result ≡ inPulses scale w }
+    ensures { result ≡ in_pulses scale w }
 {
     join(SignMagnitude {
         negative: w.negative,
@@ -82,7 +82,7 @@ fn coordinate_of(scale: u64, w: Word, here: i64) -> i64
 
 fn path_of(scale: u64, m: Motion, ws: Words) -> Path
     requires { SmallWords scale ws }
-    ensures { result ≡ pathOf scale m ws }
+    ensures { result ≡ path_of scale m ws }
 {
     match m {
         Motion::Unknown => Path::Line,
@@ -104,7 +104,7 @@ fn path_of(scale: u64, m: Motion, ws: Words) -> Path
 // In thousandths of a pulse per minute.
 fn feed_number(scale: u64, f: Feed) -> u64
     requires { scale ≤ 1000 }
-    ensures { result ≡ feedNumberAt feedUnit scale f }
+    ensures { result ≡ feed_number_at feed_unit scale f }
 {
     match f {
         Feed::Unknown => 0,
@@ -116,7 +116,7 @@ fn feed_number(scale: u64, f: Feed) -> u64
 
 pub fn block_of(scale: u64, k: Reader, ws: Words, at: Point) -> Block
     requires { (scale ≤ 1000) × SmallWords scale ws }
-    ensures { result ≡ block_at feedUnit scale k ws at }
+    ensures { result ≡ block_at feed_unit scale k ws at }
 {
     let m = k.motion;
     let f = k.feed;

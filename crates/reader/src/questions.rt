@@ -1,7 +1,7 @@
 // Questions 34 to 37 about a line of words, and the number of the first "no" from 31 on.
 ghost use Rattle.std.specs.Prelude.{◌≡◌};
-ghost use Rattle.reader.specs.computed.Reader.{motionRight, onPulse, allOnPulse, allKnown, centreRight, lineNo};
-ghost use Rattle.reader.specs.Reader.{endStands, centreStands, moving, motionKnown, feedKnown, isArc};
+ghost use Rattle.reader.specs.computed.Reader.{motion_right, on_pulse, all_on_pulse, all_known, centre_right, line_no};
+ghost use Rattle.reader.specs.Reader.{end_stands, centre_stands, moving, motion_known, feed_known, is_arc};
 ghost use Rattle.reader.specs.computed.Small.{Small, SmallWords};
 
 use crate::{Feed, LONGEST_LINE, Motion, Reader};
@@ -9,7 +9,7 @@ use letters::word::{Word, Words};
 use words::line::Line;
 
 fn motion_right(g: Word) -> bool
-    ensures { result ≡ motionRight g }
+    ensures { result ≡ motion_right g }
 {
     if !g.stands {
         return true;
@@ -22,14 +22,14 @@ fn motion_right(g: Word) -> bool
 
 fn on_pulse(scale: u64, w: Word) -> bool
     requires { Small scale w }
-    ensures { result ≡ onPulse scale w }
+    ensures { result ≡ on_pulse scale w }
 {
     w.magnitude * scale % 1_000 == 0
 }
 
 fn all_on_pulse(scale: u64, ws: Words) -> bool
     requires { SmallWords scale ws }
-    ensures { result ≡ allOnPulse scale ws }
+    ensures { result ≡ all_on_pulse scale ws }
 {
     let x = ws.x;
     let y = ws.y;
@@ -54,7 +54,7 @@ fn all_on_pulse(scale: u64, ws: Words) -> bool
 }
 
 fn end_stands(ws: Words) -> bool
-    ensures { result ≡ endStands ws }
+    ensures { result ≡ end_stands ws }
 {
     let x = ws.x;
     let y = ws.y;
@@ -62,7 +62,7 @@ fn end_stands(ws: Words) -> bool
 }
 
 fn centre_stands(ws: Words) -> bool
-    ensures { result ≡ centreStands ws }
+    ensures { result ≡ centre_stands ws }
 {
     let i = ws.i;
     let j = ws.j;
@@ -79,7 +79,7 @@ pub fn moves(ws: Words) -> bool
 }
 
 fn motion_known(m: Motion) -> bool
-    ensures { result ≡ motionKnown m }
+    ensures { result ≡ motion_known m }
 {
     match m {
         Motion::Unknown => false,
@@ -89,7 +89,7 @@ fn motion_known(m: Motion) -> bool
 }
 
 fn feed_known(f: Feed) -> bool
-    ensures { result ≡ feedKnown f }
+    ensures { result ≡ feed_known f }
 {
     match f {
         Feed::Unknown => false,
@@ -98,7 +98,7 @@ fn feed_known(f: Feed) -> bool
 }
 
 pub fn is_arc(m: Motion) -> bool
-    ensures { result ≡ isArc m }
+    ensures { result ≡ is_arc m }
 {
     match m {
         Motion::Unknown => false,
@@ -108,7 +108,7 @@ pub fn is_arc(m: Motion) -> bool
 }
 
 fn all_known(k: Reader, ws: Words) -> bool
-    ensures { result ≡ allKnown k ws }
+    ensures { result ≡ all_known k ws }
 {
     if !moves(ws) {
         return true;
@@ -122,7 +122,7 @@ fn all_known(k: Reader, ws: Words) -> bool
 }
 
 fn centre_right(m: Motion, ws: Words) -> bool
-    ensures { result ≡ centreRight m ws }
+    ensures { result ≡ centre_right m ws }
 {
     if is_arc(m) {
         if end_stands(ws) {
@@ -136,7 +136,7 @@ fn centre_right(m: Motion, ws: Words) -> bool
 // k is the reader after the line.
 pub fn line_no(scale: u64, k: Reader, bytes: u64, l: Line) -> u64
     requires { SmallWords scale l.words }
-    ensures { result ≡ lineNo scale k bytes l }
+    ensures { result ≡ line_no scale k bytes l }
 {
     if LONGEST_LINE < bytes {
         return 31;

@@ -1,9 +1,9 @@
 // One line of a job, read at a bench: the reader and the record go in and come back beside the answer.
 ghost use Rattle.std.specs.Prelude.{◌≡◌, true, length};
-ghost use Rattle.words.specs.computed.Scan.{firstLine};
-ghost use Rattle.bench.specs.computed.Bench.{soundOf};
+ghost use Rattle.words.specs.computed.Scan.{first_line};
+ghost use Rattle.bench.specs.computed.Bench.{sound_of};
 ghost use Rattle.bench.specs.computed.Calls.{load_of};
-ghost use Rattle.reader.specs.computed.TextLine.{reads, loaded, taken_of, readLineOf};
+ghost use Rattle.reader.specs.computed.TextLine.{reads, loaded, taken_of, read_line_of};
 ghost use Rattle.reader.specs.declared.text_line.Read.TheVariants.{Refused};
 
 use crate::Reader;
@@ -45,7 +45,7 @@ fn refused(k: Reader, m: Bench, number: u64) -> ReadLine
 
 // The block of a line: k is the reader before it, next the one after it.
 fn load(k: Reader, next: Reader, m: Bench, b: Block) -> ReadLine
-    requires { soundOf m ≡ true }
+    requires { sound_of m ≡ true }
     ensures { result ≡ loaded k next m (load_of m b).bench (load_of m b).answer }
 {
     let a = m.load_sound(b);
@@ -68,7 +68,7 @@ fn load(k: Reader, next: Reader, m: Bench, b: Block) -> ReadLine
 
 // What a line asked at a sound record; k is the reader before it.
 fn take(k: Reader, m: Bench, a: Asked) -> ReadLine
-    requires { soundOf m ≡ true }
+    requires { sound_of m ≡ true }
     ensures { result ≡ taken_of k m a }
 {
     let asks = a.asks;
@@ -86,8 +86,8 @@ fn take(k: Reader, m: Bench, a: Asked) -> ReadLine
 
 // The first line of a text; a record that is not sound gets 9.
 pub fn read_first(k: Reader, m: Bench, text: &[u8]) -> ReadFirst
-    ensures read_value { result.read ≡ readLineOf k m (firstLine text.now) }
-    ensures bytes_value { result.bytes ≡ length (firstLine text.now) }
+    ensures read_value { result.read ≡ read_line_of k m (first_line text.now) }
+    ensures bytes_value { result.bytes ≡ length (first_line text.now) }
 {
     let settings = m.settings;
     let at = m.at;
@@ -108,7 +108,7 @@ pub fn read_first(k: Reader, m: Bench, text: &[u8]) -> ReadFirst
 
 // A line alone, likewise.
 pub fn read_line(k: Reader, m: Bench, line: &[u8]) -> ReadLine
-    ensures { result ≡ readLineOf k m line.now }
+    ensures { result ≡ read_line_of k m line.now }
 {
     let settings = m.settings;
     let at = m.at;

@@ -1,9 +1,9 @@
 // What the words tell, whatever they are: each is read where it stands, and the words are not copied as a whole.
 ghost use Rattle.std.specs.Prelude.{◌≡◌, ◌≤◌, ◌<◌};
 ghost use Rattle.encoding.specs.Words.{count_of, at};
-ghost use Rattle.encoding.specs.computed.Words.{headIn, workWordsIn};
+ghost use Rattle.encoding.specs.computed.Words.{head_in, work_words_in};
 ghost use Rattle.machine.specs.Machine.{start_of};
-ghost use Rattle.record.specs.computed.Words.{blockWordsIn, pathRead, waitingOf, waitingIn, queueIn, figuresIn, lenIn, benchIn};
+ghost use Rattle.record.specs.computed.Words.{block_words_in, path_read, waiting_of, waiting_in, queue_in, figures_in, len_in, bench_in};
 
 use bench::Bench;
 use block::{Block, Path};
@@ -41,7 +41,7 @@ pub fn seen(words: &[i64])
 {}
 
 pub fn head_in(words: &[i64; 134]) -> Head
-    ensures { result ≡ headIn words.now }
+    ensures { result ≡ head_in words.now }
 {
     Head {
         p: words[1],
@@ -58,7 +58,7 @@ pub fn head_in(words: &[i64; 134]) -> Head
 }
 
 pub fn work_words_in(words: &[i64; 134]) -> WorkWords
-    ensures { result ≡ workWordsIn words.now }
+    ensures { result ≡ work_words_in words.now }
 {
     WorkWords {
         kind: words[11],
@@ -73,7 +73,7 @@ pub fn work_words_in(words: &[i64; 134]) -> WorkWords
 }
 
 pub fn figures_in(words: &[i64; 134]) -> Figures
-    ensures { result ≡ figuresIn words.now }
+    ensures { result ≡ figures_in words.now }
 {
     Figures {
         root: words[19],
@@ -83,7 +83,7 @@ pub fn figures_in(words: &[i64; 134]) -> Figures
 }
 
 pub fn bench_in(words: &[i64; 134]) -> Bench
-    ensures { result ≡ benchIn words.now }
+    ensures { result ≡ bench_in words.now }
 {
     let work = work_of(work_words_in(words));
     bench_of(head_in(words), work)
@@ -91,7 +91,7 @@ pub fn bench_in(words: &[i64; 134]) -> Bench
 
 pub fn block_words_in(words: &[i64; 134], place: usize) -> BlockWords
     requires { place < 16 }
-    ensures { result ≡ blockWordsIn words.now place }
+    ensures { result ≡ block_words_in words.now place }
 {
     let at = 22 + 7 * place;
     let x = at + 1;
@@ -112,7 +112,7 @@ pub fn block_words_in(words: &[i64; 134], place: usize) -> BlockWords
 }
 
 fn path_of(b: BlockWords) -> Path
-    ensures { result ≡ pathRead b }
+    ensures { result ≡ path_read b }
 {
     let centre = Offset { x: b.i, y: b.j };
     let kind = count(b.kind);
@@ -126,7 +126,7 @@ fn path_of(b: BlockWords) -> Path
 }
 
 pub fn waiting_of(b: BlockWords) -> Waiting
-    ensures { result ≡ waitingOf b }
+    ensures { result ≡ waiting_of b }
 {
     let end = Point { x: b.x, y: b.y };
     let block = Block {
@@ -142,7 +142,7 @@ pub fn waiting_of(b: BlockWords) -> Waiting
 
 pub fn waiting_in(words: &[i64; 134], place: usize) -> Waiting
     requires { place < 16 }
-    ensures { result ≡ waitingIn words.now place }
+    ensures { result ≡ waiting_in words.now place }
 {
     waiting_of(block_words_in(words, place))
 }
@@ -165,7 +165,7 @@ pub fn left_in(words: &[i64; 134]) -> u64
 
 // How many wait.
 pub fn len_in(words: &[i64; 134]) -> u64
-    ensures { result ≡ lenIn words.now }
+    ensures { result ≡ len_in words.now }
 {
     let figures = figures_in(words);
     count(figures.len)
@@ -173,8 +173,8 @@ pub fn len_in(words: &[i64; 134]) -> u64
 
 // Where the next block starts behind this bench: the end of the last one that waits, else of the one in work, else the point.
 pub fn start_in(words: &[i64; 134], k: Bench) -> Point
-    requires { lenIn words.now ≤ 16 }
-    ensures { result ≡ start_of k (queueIn words.now (lenIn words.now)) }
+    requires { len_in words.now ≤ 16 }
+    ensures { result ≡ start_of k (queue_in words.now (len_in words.now)) }
 {
     let len = len_in(words);
     if len == 0 {

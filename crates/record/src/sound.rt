@@ -1,11 +1,11 @@
 // Whether words are a sound record, for any words whatever. With none waiting the first 22 words are looked at and no other.
 ghost use Rattle.std.specs.Prelude.{◌≡◌, true};
-ghost use Rattle.plane.specs.Travel.{insideOf};
+ghost use Rattle.plane.specs.Travel.{inside_of};
 ghost use Rattle.plane.specs.computed.Travel.{Wide};
-ghost use Rattle.bench.specs.computed.Bench.{soundOf};
+ghost use Rattle.bench.specs.computed.Bench.{sound_of};
 ghost use Rattle.encoding.specs.Words.{at};
-ghost use Rattle.record.specs.computed.Words.{soundWords};
-ghost use Rattle.record.specs.computed.Right.{figuresRight, isFront, blockRowRight, rowSound, waitingSound};
+ghost use Rattle.record.specs.computed.Words.{sound_words};
+ghost use Rattle.record.specs.computed.Right.{figures_right, is_front, block_row_right, row_sound, waiting_sound};
 
 use crate::read::{
     BlockWords, Figures, bench_in, block_words_in, figures_in, head_in, seen, waiting_of,
@@ -25,7 +25,7 @@ use work::is_nothing;
 use work::rest::end_of;
 
 fn figures_right(f: Figures) -> bool
-    ensures { result ≡ figuresRight f }
+    ensures { result ≡ figures_right f }
 {
     if !is_count(f.root) {
         return false;
@@ -36,10 +36,10 @@ fn figures_right(f: Figures) -> bool
     is_count(f.len)
 }
 
-// Whether the words in front are those of what they tell. Each that is no position is asked whether `encodeOf` gives such, so that nothing
+// Whether the words in front are those of what they tell. Each that is no position is asked whether `encode_of` gives such, so that nothing
 // need be encoded again.
 fn is_front(words: &[i64; 134]) -> bool
-    ensures { result ≡ isFront words.now }
+    ensures { result ≡ is_front words.now }
 {
     let head = head_in(words);
     let work = work_words_in(words);
@@ -58,7 +58,7 @@ fn is_front(words: &[i64; 134]) -> bool
 
 // Whether a block's words are those of what they tell.
 fn is_block(b: BlockWords) -> bool
-    ensures { result ≡ blockRowRight b }
+    ensures { result ≡ block_row_right b }
 {
     if !is_count(b.feed) {
         return false;
@@ -87,8 +87,8 @@ fn row_right(
     from: Point,
     cycles: u64,
 ) -> bool
-    requires { Wide travel × (insideOf travel from ≡ true) }
-    ensures { result ≡ rowSound q0 travel words.now len from cycles }
+    requires { Wide travel × (inside_of travel from ≡ true) }
+    ensures { result ≡ row_sound q0 travel words.now len from cycles }
 {
     if 16 < len {
         return false;
@@ -117,8 +117,8 @@ fn row_right(
 
 // Whether root, figure and queue are right behind a bench that has been tested.
 fn waiting_right(words: &[i64; 134], k: Bench) -> bool
-    requires { soundOf k ≡ true }
-    ensures { result ≡ waitingSound words.now k }
+    requires { sound_of k ≡ true }
+    ensures { result ≡ waiting_sound words.now k }
 {
     let at = k.at;
     let work = k.work;
@@ -142,7 +142,7 @@ fn waiting_right(words: &[i64; 134], k: Bench) -> bool
 
 // Whether the words are those of a sound record.
 pub fn is_sound(words: &[i64; 134]) -> bool
-    ensures { result ≡ soundWords words.now }
+    ensures { result ≡ sound_words words.now }
 {
     seen(words);
     if !is_front(words) {

@@ -2,13 +2,13 @@
 ghost use Rattle.std.specs.Prelude.{◌≡◌, true, ◌≤◌, ◌<◌, set};
 ghost use Rattle.work.specs.declared.Work.{Work};
 ghost use Rattle.machine.specs.Calls.{mark_of, next_of};
-ghost use Rattle.machine.specs.computed.Calls.{loadWith};
-ghost use Rattle.work.specs.Work.{begunOf};
-ghost use Rattle.record.specs.Words.{blockWordsOf, encodeOf, over};
-ghost use Rattle.record.specs.computed.Words.{lenIn, machineIn, soundWords};
-ghost use Rattle.record.specs.computed.Write.{Bringing, Later, Loading, setPlace, setWork, setBlock, shifted, broughtOf, workingOf};
-ghost use Rattle.record.specs.computed.Write.{waitsOf};
-ghost use Rattle.record.specs.computed.Write.{idleOf};
+ghost use Rattle.machine.specs.computed.Calls.{load_with};
+ghost use Rattle.work.specs.Work.{begun_of};
+ghost use Rattle.record.specs.Words.{block_words_of, encode_of, over};
+ghost use Rattle.record.specs.computed.Words.{len_in, machine_in, sound_words};
+ghost use Rattle.record.specs.computed.Write.{Bringing, Later, Loading, set_place, set_work, set_block, shifted, brought_of, working_of};
+ghost use Rattle.record.specs.computed.Write.{waits_of};
+ghost use Rattle.record.specs.computed.Write.{idle_of};
 ghost use Rattle.encoding.specs.Words.{word_of};
 
 use crate::read::{BlockWords, bench_in, figures_in, left_in, len_in, seen, waiting_in};
@@ -22,7 +22,7 @@ use work::rest::{cycles_left, root_of};
 use work::{Work, begin, is_nothing};
 
 fn set_place(words: &mut [i64; 134], at: Point, remainder: u64)
-    ensures { words.new ≡ setPlace words.old at remainder }
+    ensures { words.new ≡ set_place words.old at remainder }
 {
     let x = at.x;
     let y = at.y;
@@ -32,7 +32,7 @@ fn set_place(words: &mut [i64; 134], at: Point, remainder: u64)
 }
 
 fn set_work(words: &mut [i64; 134], w: WorkWords)
-    ensures { words.new ≡ setWork words.old w }
+    ensures { words.new ≡ set_work words.old w }
 {
     let kind = w.kind;
     let a = w.a;
@@ -72,7 +72,7 @@ fn shift(words: &mut [i64; 134], others: usize)
 // A block comes into work where one has ended: the first that waits, or none.
 fn bring_in(words: &mut [i64; 134], at: Point)
     requires { Bringing words.old at }
-    ensures { words.new ≡ broughtOf words.old at (lenIn words.old) }
+    ensures { words.new ≡ brought_of words.old at (len_in words.old) }
 {
     let figures = figures_in(words);
     let len = count(figures.len);
@@ -101,7 +101,7 @@ fn set_done(words: &mut [i64; 134], done: u64)
 // After ticks that left the bench so and so many cycles to do: where nothing is in work any more, the next block comes into work.
 pub fn store_ticks(words: &mut [i64; 134], k: Bench, left: u64)
     requires { Later words.old k left }
-    ensures { words.new ≡ over (encodeOf (next_of k (machineIn words.old).queue)) words.old }
+    ensures { words.new ≡ over (encode_of (next_of k (machine_in words.old).queue)) words.old }
 {
     let at = k.at;
     let work = k.work;
@@ -115,7 +115,7 @@ pub fn store_ticks(words: &mut [i64; 134], k: Bench, left: u64)
 }
 
 fn block_words(w: Waiting) -> BlockWords
-    ensures { result ≡ blockWordsOf w }
+    ensures { result ≡ block_words_of w }
 {
     let b = w.block;
     let end = b.end;
@@ -144,7 +144,7 @@ fn block_words(w: Waiting) -> BlockWords
 
 fn set_block(words: &mut [i64; 134], at: usize, b: BlockWords)
     requires { at ≤ 127 }
-    ensures { words.new ≡ setBlock words.old at b }
+    ensures { words.new ≡ set_block words.old at b }
 {
     let kind = b.kind;
     let x = b.x;
@@ -164,8 +164,8 @@ fn set_block(words: &mut [i64; 134], at: usize, b: BlockWords)
 
 // After a load with nothing in work: the block comes into work.
 pub fn into_work(words: &mut [i64; 134], w: Work, root: u64, left: u64)
-    requires { soundWords words.old ≡ true }
-    ensures { words.new ≡ over (encodeOf (workingOf (machineIn words.old) w root left)) words.old }
+    requires { sound_words words.old ≡ true }
+    ensures { words.new ≡ over (encode_of (working_of (machine_in words.old) w root left)) words.old }
 {
     set_work(words, work_words(w));
     words[19] = word(root);
@@ -174,8 +174,8 @@ pub fn into_work(words: &mut [i64; 134], w: Work, root: u64, left: u64)
 
 // After a load with a block in work: this one waits behind all others.
 pub fn push(words: &mut [i64; 134], w: Waiting, left: u64)
-    requires { (soundWords words.old ≡ true) × (lenIn words.old < 16) }
-    ensures { words.new ≡ over (encodeOf (waitsOf (machineIn words.old) w left)) words.old }
+    requires { (sound_words words.old ≡ true) × (len_in words.old < 16) }
+    ensures { words.new ≡ over (encode_of (waits_of (machine_in words.old) w left)) words.old }
 {
     seen(words);
     let len = len_in(words);
@@ -188,8 +188,8 @@ pub fn push(words: &mut [i64; 134], w: Waiting, left: u64)
 // A block that no question refused, from here: into work where nothing is, else behind those that wait. Answers its width.
 pub fn take(words: &mut [i64; 134], work: Work, start: Point, b: Block) -> u64
     requires { Loading words.old work start b }
-    ensures value { result ≡ (begunOf start b).width }
-    ensures words_after { words.new ≡ over (encodeOf (loadWith (machineIn words.old) b 0).machine) words.old }
+    ensures value { result ≡ (begun_of start b).width }
+    ensures words_after { words.new ≡ over (encode_of (load_with (machine_in words.old) b 0).machine) words.old }
 {
     let begun = begin(start, b);
     let first = begun.work;
@@ -209,16 +209,16 @@ pub fn take(words: &mut [i64; 134], work: Work, start: Point, b: Block) -> u64
 
 // After a hold or a release.
 pub fn store_mark(words: &mut [i64; 134], held: bool)
-    requires { soundWords words.old ≡ true }
-    ensures { words.new ≡ over (encodeOf (mark_of (machineIn words.old) held)) words.old }
+    requires { sound_words words.old ≡ true }
+    ensures { words.new ≡ over (encode_of (mark_of (machine_in words.old) held)) words.old }
 {
     words[9] = mark_word(held);
 }
 
 // After a stop: no remainder, and none waits, so that nothing comes into work.
 pub fn store_stop(words: &mut [i64; 134])
-    requires { soundWords words.old ≡ true }
-    ensures { words.new ≡ over (encodeOf (idleOf (machineIn words.old))) words.old }
+    requires { sound_words words.old ≡ true }
+    ensures { words.new ≡ over (encode_of (idle_of (machine_in words.old))) words.old }
 {
     let k = bench_in(words);
     words[10] = 0;

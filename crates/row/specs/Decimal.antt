@@ -6,15 +6,15 @@ abbrev pub digit : ℕ → ℕ
 digit d = 48 + d
 
 -- A number below 10 is its digit; any other is the digits of its tens and then its last digit. Each digit takes one try.
-abbrev pub digitsIn : (tries n : ℕ) → List ℕ
-digitsIn zero n = []
-digitsIn (suc k) n = cond (ltb n 10) (digit n ∷ []) (digitsIn k (n / 10) ++ (digit (n % 10) ∷ []))
+abbrev pub digits_in : (tries n : ℕ) → List ℕ
+digits_in zero n = []
+digits_in (suc k) n = cond (ltb n 10) (digit n ∷ []) (digits_in k (n / 10) ++ (digit (n % 10) ∷ []))
 
 -- Plain decimal: no sign, no leading zeros, and 0 is "0". No number n has more than n + 1 digits.
 unfoldable pub decimal : ℕ → List ℕ
-decimal n = digitsIn (suc n) n
+decimal n = digits_in (suc n) n
 
 -- '-', byte 45, before a negative number; nothing before any other
-unfoldable pub signedDecimal : ℤ → List ℕ
-signedDecimal (pos n) = decimal n
-signedDecimal (negsuc n) = 45 ∷ decimal (suc n)
+unfoldable pub signed_decimal : ℤ → List ℕ
+signed_decimal (pos n) = decimal n
+signed_decimal (negsuc n) = 45 ∷ decimal (suc n)

@@ -1,8 +1,8 @@
 // The four lines of the listing, each whole, from a place of a lent buffer on. Where the buffer is too short, it stays as it is.
 ghost use Rattle.std.specs.Prelude.{◌≡◌, ◌+◌, ◌-◌, leb};
-ghost use Rattle.row.specs.Lines.{kindLetter, headerLine, block_line, totalLine, refusedLine};
-ghost use Rattle.row.specs.computed.Buffer.{lineRoom, bufferAfter, placeAfter};
-ghost use Rattle.row.specs.computed.Long.{longOf};
+ghost use Rattle.row.specs.Lines.{kind_letter, header_line, block_line, total_line, refused_line};
+ghost use Rattle.row.specs.computed.Buffer.{line_room, buffer_after, place_after};
+ghost use Rattle.row.specs.computed.Long.{long_of};
 
 use crate::long::LongCount;
 use crate::push;
@@ -28,7 +28,7 @@ pub enum Place {
 }
 
 fn letter(kind: Kind) -> u8
-    ensures { result ≡ kindLetter kind }
+    ensures { result ≡ kind_letter kind }
 {
     match kind {
         Kind::Line => b'L',
@@ -45,14 +45,14 @@ fn left(len: usize, at: usize) -> usize
 
 // Whether a buffer of this length has room for every line from a place on.
 pub fn has_room(len: usize, at: usize) -> bool
-    ensures { result ≡ leb (at + lineRoom) len }
+    ensures { result ≡ leb (at + line_room) len }
 {
     ROOM <= left(len, at)
 }
 
 pub fn header(out: &mut [u8], at: usize) -> Place
-    ensures buffer { out.new ≡ bufferAfter headerLine out.old at }
-    ensures place { result ≡ placeAfter headerLine out.old at }
+    ensures buffer { out.new ≡ buffer_after header_line out.old at }
+    ensures place { result ≡ place_after header_line out.old at }
 {
     if left(out.len(), at) < ROOM {
         return Place::NoRoom;
@@ -73,8 +73,8 @@ pub fn block(
     y: i64,
     bits: u64,
 ) -> Place
-    ensures buffer { out.new ≡ bufferAfter (block_line block line kind cycles x y bits) out.old at }
-    ensures place { result ≡ placeAfter (block_line block line kind cycles x y bits) out.old at }
+    ensures buffer { out.new ≡ buffer_after (block_line block line kind cycles x y bits) out.old at }
+    ensures place { result ≡ place_after (block_line block line kind cycles x y bits) out.old at }
 {
     if left(out.len(), at) < ROOM {
         return Place::NoRoom;
@@ -92,8 +92,8 @@ pub fn block(
 
 // The last line of a job that was read to its end.
 pub fn total(out: &mut [u8], at: usize, blocks: u64, cycles: u64, ticks: LongCount) -> Place
-    ensures buffer { out.new ≡ bufferAfter (totalLine blocks cycles (longOf ticks)) out.old at }
-    ensures place { result ≡ placeAfter (totalLine blocks cycles (longOf ticks)) out.old at }
+    ensures buffer { out.new ≡ buffer_after (total_line blocks cycles (long_of ticks)) out.old at }
+    ensures place { result ≡ place_after (total_line blocks cycles (long_of ticks)) out.old at }
 {
     if left(out.len(), at) < ROOM {
         return Place::NoRoom;
@@ -107,8 +107,8 @@ pub fn total(out: &mut [u8], at: usize, blocks: u64, cycles: u64, ticks: LongCou
 
 // The last line of a job that was refused: where, and the number of the question.
 pub fn refused(out: &mut [u8], at: usize, line: u64, number: u64) -> Place
-    ensures buffer { out.new ≡ bufferAfter (refusedLine line number) out.old at }
-    ensures place { result ≡ placeAfter (refusedLine line number) out.old at }
+    ensures buffer { out.new ≡ buffer_after (refused_line line number) out.old at }
+    ensures place { result ≡ place_after (refused_line line number) out.old at }
 {
     if left(out.len(), at) < ROOM {
         return Place::NoRoom;

@@ -1,6 +1,6 @@
 // A line of plain numbers from a place of a lent buffer on. Where the buffer is too short, it stays as it is.
 ghost use Rattle.std.specs.Prelude.{◌≡◌, ◌+◌, ◌*◌, ◌≤◌, ◌<◌, length};
-ghost use Rattle.row.specs.computed.Numbers.{bufferWith, placeWith};
+ghost use Rattle.row.specs.computed.Numbers.{buffer_with, place_with};
 ghost use Rattle.row.specs.computed.Numbers.{PutsNumbers, EndsIn};
 
 use crate::lines::Place;
@@ -29,8 +29,8 @@ fn fields(out: &mut [u8], at: usize, numbers: &[i64]) -> usize
 
 // One line with the numbers, a blank between.
 pub fn line(out: &mut [u8], at: usize, numbers: &[i64]) -> Place
-    ensures buffer { out.new ≡ bufferWith numbers.now out.old at }
-    ensures place { result ≡ placeWith numbers.now out.old at }
+    ensures buffer { out.new ≡ buffer_with numbers.now out.old at }
+    ensures place { result ≡ place_with numbers.now out.old at }
     ensures within { EndsIn out.old result }
 {
     if out.len() < at {

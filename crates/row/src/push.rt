@@ -1,7 +1,7 @@
 // Bytes, texts and numbers put into a buffer from a place on. Each answers the next place; each caller shows that there is room.
 ghost use Rattle.std.specs.Prelude.{◌≡◌, ◌++◌, ◌∷◌, [], ◌+◌, ◌≤◌, ◌<◌, length};
-ghost use Rattle.row.specs.Decimal.{decimal, signedDecimal};
-ghost use Rattle.row.specs.computed.Long.{longOf, lastDigits};
+ghost use Rattle.row.specs.Decimal.{decimal, signed_decimal};
+ghost use Rattle.row.specs.computed.Long.{long_of, last_digits};
 ghost use Rattle.row.specs.computed.Puts.{Puts};
 
 use crate::long::{LOW_LIMIT, LongCount};
@@ -87,7 +87,7 @@ pub fn number(out: &mut [u8], at: usize, n: u64, end: u8) -> usize
 // The last eighteen digits of n, zeros too, from the last to the first: those of m are still to be written, in the places before i.
 fn eighteen(out: &mut [u8], at: usize, n: u64) -> usize
     requires { at + 18 ≤ length out.old }
-    ensures { Puts (lastDigits 18 n) 18 out.old at out.new result }
+    ensures { Puts (last_digits 18 n) 18 out.old at out.new result }
 {
     let end = at + 18;
     let mut m = n;
@@ -104,7 +104,7 @@ fn eighteen(out: &mut [u8], at: usize, n: u64) -> usize
 // A count in two parts and the byte that ends its field; a low part of 10^18 or more carries into the high one.
 pub fn long(out: &mut [u8], at: usize, n: LongCount, end: u8) -> usize
     requires { at + 39 ≤ length out.old }
-    ensures { Puts (decimal (longOf n) ++ (end ∷ [])) 39 out.old at out.new result }
+    ensures { Puts (decimal (long_of n) ++ (end ∷ [])) 39 out.old at out.new result }
 {
     let high = n.high as u64 + n.low / LOW_LIMIT;
     let low = n.low % LOW_LIMIT;
@@ -121,7 +121,7 @@ pub fn long(out: &mut [u8], at: usize, n: LongCount, end: u8) -> usize
 // that is not negative goes over it.
 pub fn signed(out: &mut [u8], at: usize, v: i64, end: u8) -> usize
     requires { at + 22 ≤ length out.old }
-    ensures { Puts (signedDecimal v ++ (end ∷ [])) 22 out.old at out.new result }
+    ensures { Puts (signed_decimal v ++ (end ∷ [])) 22 out.old at out.new result }
 {
     let p = sign::part(v);
     out[at] = MINUS;

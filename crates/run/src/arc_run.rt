@@ -1,7 +1,7 @@
 // A run along an arc, as along a line. The tracer tells what the next cycle is charged, and there are two dues: a straight step's and a
 // diagonal one's.
 ghost use Rattle.std.specs.Prelude.{◌≡◌, ◌≤◌, length};
-ghost use Rattle.run.specs.computed.Run.{stripOf, ranOf, written, SoundIn};
+ghost use Rattle.run.specs.computed.Run.{strip_of, ran_of, written, SoundIn};
 
 use crate::Ran;
 use crate::buffer::{clear, least};
@@ -17,8 +17,8 @@ use work::Work;
 
 pub fn run_arc(capacity: u64, at: Point, remainder: u64, a: Arc, most: u64, out: &mut [u8]) -> Ran
     requires { SoundIn capacity at remainder (Work.Arc a) × (most ≤ length out.old) }
-    ensures value { result ≡ ranOf (stripOf capacity most at remainder (Work.Arc a)) }
-    ensures out_after { out.new ≡ written (stripOf capacity most at remainder (Work.Arc a)).bytes out.old }
+    ensures value { result ≡ ran_of (strip_of capacity most at remainder (Work.Arc a)) }
+    ensures out_after { out.new ≡ written (strip_of capacity most at remainder (Work.Arc a)).bytes out.old }
 {
     let added = FEED_SCALE * a.feed;
     let end = arc_end(capacity, at, remainder, a, most);

@@ -1,6 +1,6 @@
 // The bytes of a run: how many it may write, and their clearing.
 ghost use Rattle.std.specs.Prelude.{◌≡◌, min, ◌≤◌, length};
-ghost use Rattle.run.specs.computed.Gap.{clearedOf};
+ghost use Rattle.run.specs.computed.Gap.{cleared_of};
 
 pub fn least(a: u64, b: u64) -> u64
     ensures { result ≡ min a b }
@@ -11,7 +11,7 @@ pub fn least(a: u64, b: u64) -> u64
 // The bytes of ticks without a cycle.
 pub fn clear(out: &mut [u8], n: u64)
     requires { n ≤ length out.old }
-    ensures { out.new ≡ clearedOf n out.old }
+    ensures { out.new ≡ cleared_of n out.old }
 {
     let mut i: u64 = 0;
     while i < n {

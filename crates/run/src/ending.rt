@@ -1,12 +1,12 @@
 // The end tick as far as a run asks it: exact where the run can reach it, else one beyond the run. Most runs of a long block cannot, and
 // then need no division, and on an arc no count of what is left and no root.
 ghost use Rattle.std.specs.Prelude.{◌≡◌, ◌-◌, ◌*◌, ◌≤◌, ◌<◌};
-ghost use Rattle.divider.specs.computed.Divider.{lastTick};
-ghost use Rattle.arc.specs.computed.Arc.{arcCycles};
-ghost use Rattle.arc.specs.computed.Charge.{arcCharges};
+ghost use Rattle.divider.specs.computed.Divider.{last_tick};
+ghost use Rattle.arc.specs.computed.Arc.{arc_cycles};
+ghost use Rattle.arc.specs.computed.Charge.{arc_charges};
 ghost use Rattle.work.specs.declared.Work.{Work};
 ghost use Rattle.run.specs.computed.Run.{SoundIn};
-ghost use Rattle.run.specs.computed.Ending.{fallsShort, longerOf, Same};
+ghost use Rattle.run.specs.computed.Ending.{falls_short, longer_of, Same};
 
 use arc::arc::Arc;
 use circle::step::STRAIGHT;
@@ -17,7 +17,7 @@ use plane::point::{Point, between};
 // Whether what so many ticks add does not reach this due. The bound keeps their product in 64 bits.
 fn falls_short(due: u64, added: u64, remainder: u64, ticks: u64) -> bool
     requires { (added ≤ 1200000000000) × (remainder ≤ 1696800000000) }
-    ensures { result ≡ fallsShort due added remainder ticks }
+    ensures { result ≡ falls_short due added remainder ticks }
 {
     if 10_000_000 <= ticks {
         return false;
@@ -27,7 +27,7 @@ fn falls_short(due: u64, added: u64, remainder: u64, ticks: u64) -> bool
 
 // The longer way between two points on one axis.
 fn longer_way(from: Point, to: Point) -> u64
-    ensures { result ≡ longerOf from to }
+    ensures { result ≡ longer_of from to }
 {
     let way = between(from, to);
     let x = way.x;
@@ -41,7 +41,7 @@ fn longer_way(from: Point, to: Point) -> u64
 
 pub fn line_end(capacity: u64, at: Point, remainder: u64, l: Line, most: u64) -> u64
     requires { SoundIn capacity at remainder (Work.Line l) }
-    ensures { Same most result (lastTick (1000 * (l.cycles - l.done) * capacity) (1000 * l.feed) remainder (l.cycles - l.done)) }
+    ensures { Same most result (last_tick (1000 * (l.cycles - l.done) * capacity) (1000 * l.feed) remainder (l.cycles - l.done)) }
 {
     let left = l.cycles - l.done;
     let due = STRAIGHT * left * capacity;
@@ -55,7 +55,7 @@ pub fn line_end(capacity: u64, at: Point, remainder: u64, l: Line, most: u64) ->
 // A cycle sends one pulse at most on each axis, so as many are left as the longer way has, and each is charged 1,000 at least.
 pub fn arc_end(capacity: u64, at: Point, remainder: u64, a: Arc, most: u64) -> u64
     requires { SoundIn capacity at remainder (Work.Arc a) }
-    ensures { Same most result (lastTick (arcCharges a at * capacity) (1000 * a.feed) remainder (arcCycles a at)) }
+    ensures { Same most result (last_tick (arc_charges a at * capacity) (1000 * a.feed) remainder (arc_cycles a at)) }
 {
     let end = a.end;
     let added = FEED_SCALE * a.feed;

@@ -1,8 +1,8 @@
 // The gap to the next cycle.
 ghost use Rattle.std.specs.Prelude.{◌≡◌, ◌+◌, ◌*◌, ◌^◌, ◌≤◌, ◌<◌};
 ghost use Rattle.work.specs.computed.Sound.{Feed};
-ghost use Rattle.circle.specs.computed.Charge.{moveCharge};
-ghost use Rattle.run.specs.computed.Gap.{gap_of, dividedOf, nextGap, remainderAt, ifLess, byMove, Before, ArcGap};
+ghost use Rattle.circle.specs.computed.Charge.{move_charge};
+ghost use Rattle.run.specs.computed.Gap.{gap_of, divided_of, next_gap, remainder_at, if_less, by_move, Before, ArcGap};
 
 use circle::step::{Move, move_charge};
 
@@ -22,7 +22,7 @@ pub struct Divided {
 
 pub fn divide(due: u64, added: u64) -> Divided
     requires { 1 ≤ added }
-    ensures { result ≡ dividedOf due added }
+    ensures { result ≡ divided_of due added }
 {
     let whole = due / added;
     Divided {
@@ -51,13 +51,13 @@ pub fn first_gap(due: u64, added: u64, remainder: u64) -> Gap
 
 // Both choose a number without a branch, which along an arc the processor could not predict.
 fn if_less(a: u64, b: u64, n: u64) -> u64
-    ensures { result ≡ ifLess a b n }
+    ensures { result ≡ if_less a b n }
 {
     if a < b { n } else { 0 }
 }
 
 fn by_move(m: Move, straight: u64, diagonal: u64) -> u64
-    ensures { result ≡ byMove m straight diagonal }
+    ensures { result ≡ by_move m straight diagonal }
 {
     match m {
         Move::Rise => straight,
@@ -69,9 +69,9 @@ fn by_move(m: Move, straight: u64, diagonal: u64) -> u64
 // The gap after a gap's cycle, to a cycle of this due, divided before the first gap. A cycle leaves less than a tick adds; then it is
 // `whole` ticks more, or one more: no division. Only after a made-up remainder more can be left.
 pub fn next_gap(due: u64, added: u64, parts: Divided, gap: Gap) -> Gap
-    requires { Feed due added × (parts ≡ dividedOf due added) × (due ≤ 1696800000000)
+    requires { Feed due added × (parts ≡ divided_of due added) × (due ≤ 1696800000000)
         × (gap.remainder ≤ 1696800000000) × (gap.ticks + 4000000000000 < 2 ^ 64) }
-    ensures { result ≡ nextGap due added gap }
+    ensures { result ≡ next_gap due added gap }
 {
     if added <= gap.remainder {
         let more = first_gap(due, added, gap.remainder);
@@ -100,7 +100,7 @@ pub fn arc_gap(
     gap: Gap,
 ) -> Gap
     requires { ArcGap capacity added straight diagonal gap }
-    ensures { result ≡ nextGap (moveCharge m * capacity) added gap }
+    ensures { result ≡ next_gap (move_charge m * capacity) added gap }
 {
     let due = move_charge(m) * capacity;
     let parts = Divided {
@@ -113,7 +113,7 @@ pub fn arc_gap(
 // The remainder after n ticks, none of which does the gap's cycle.
 pub fn remainder_at(due: u64, added: u64, gap: Gap, n: u64) -> u64
     requires { Before due added gap n }
-    ensures { result ≡ remainderAt due added gap n }
+    ensures { result ≡ remainder_at due added gap n }
 {
     gap.remainder + due - (gap.ticks + 1 - n) * added
 }

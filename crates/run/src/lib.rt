@@ -1,7 +1,7 @@
 // The ticks of a run, over what is in work. A run does not go tick by tick: it clears its bytes at once, since most ticks have byte 0, and
 // then goes from cycle to cycle and writes the bytes of those.
 ghost use Rattle.std.specs.Prelude.{◌≡◌, min, length};
-ghost use Rattle.run.specs.computed.Run.{stripOf, ranOf, written, SoundIn};
+ghost use Rattle.run.specs.computed.Run.{strip_of, ran_of, written, SoundIn};
 
 use arc_run::run_arc;
 use buffer::least;
@@ -38,8 +38,8 @@ pub fn run_work(
     out: &mut [u8],
 ) -> Ran
     requires { SoundIn capacity at remainder work }
-    ensures value { result ≡ ranOf (stripOf capacity (min budget (length out.old)) at remainder work) }
-    ensures out_after { out.new ≡ written (stripOf capacity (min budget (length out.old)) at remainder work).bytes out.old }
+    ensures value { result ≡ ran_of (strip_of capacity (min budget (length out.old)) at remainder work) }
+    ensures out_after { out.new ≡ written (strip_of capacity (min budget (length out.old)) at remainder work).bytes out.old }
 {
     let most = least(budget, out.len() as u64);
     match work {

@@ -1,7 +1,7 @@
 // A run along a line: n is where the ticks asked for or the line end, so no byte after it is touched. The loop does the cycles that cannot
 // be the line's last, and so tests nothing but the tick; the last one comes after it.
 ghost use Rattle.std.specs.Prelude.{◌≡◌, ◌≤◌, length};
-ghost use Rattle.run.specs.computed.Run.{stripOf, ranOf, written, SoundIn};
+ghost use Rattle.run.specs.computed.Run.{strip_of, ran_of, written, SoundIn};
 
 use crate::Ran;
 use crate::buffer::{clear, least};
@@ -17,8 +17,8 @@ use work::Work;
 
 pub fn run_line(capacity: u64, at: Point, remainder: u64, l: Line, most: u64, out: &mut [u8]) -> Ran
     requires { SoundIn capacity at remainder (Work.Line l) × (most ≤ length out.old) }
-    ensures value { result ≡ ranOf (stripOf capacity most at remainder (Work.Line l)) }
-    ensures out_after { out.new ≡ written (stripOf capacity most at remainder (Work.Line l)).bytes out.old }
+    ensures value { result ≡ ran_of (strip_of capacity most at remainder (Work.Line l)) }
+    ensures out_after { out.new ≡ written (strip_of capacity most at remainder (Work.Line l)).bytes out.old }
 {
     let due = STRAIGHT * capacity;
     let added = FEED_SCALE * l.feed;

@@ -1,11 +1,11 @@
 // The ticks of a run without their bytes: what is left gives the end tick, and what the ticks add the cycles done before it and their
 // point. The cost does not grow with the ticks.
 ghost use Rattle.std.specs.Prelude.{◌≡◌, ◌<◌};
-ghost use Rattle.arc.specs.computed.Arc.{arcCycles};
-ghost use Rattle.work.specs.Work.{cyclesLeft};
-ghost use Rattle.work.specs.computed.Work.{lastTickFor};
+ghost use Rattle.arc.specs.computed.Arc.{arc_cycles};
+ghost use Rattle.work.specs.Work.{cycles_left};
+ghost use Rattle.work.specs.computed.Work.{last_tick_for};
 ghost use Rattle.work.specs.computed.Rest.{left_of};
-ghost use Rattle.run.specs.computed.Run.{stripOf, ranOf, SoundIn};
+ghost use Rattle.run.specs.computed.Run.{strip_of, ran_of, SoundIn};
 
 use crate::Ran;
 use crate::buffer::least;
@@ -19,8 +19,8 @@ use work::rest::{Left, work_left};
 
 // A line so many ticks on, before its end: its cycles are all charged the same.
 fn line_on(capacity: u64, at: Point, remainder: u64, l: Line, ticks: u64) -> Ran
-    requires { SoundIn capacity at remainder (Work.Line l) × (ticks < lastTickFor capacity at remainder (Work.Line l)) }
-    ensures { result ≡ ranOf (stripOf capacity ticks at remainder (Work.Line l)) }
+    requires { SoundIn capacity at remainder (Work.Line l) × (ticks < last_tick_for capacity at remainder (Work.Line l)) }
+    ensures { result ≡ ran_of (strip_of capacity ticks at remainder (Work.Line l)) }
 {
     let gone = add_feeds(STRAIGHT * capacity, FEED_SCALE * l.feed, remainder, ticks);
     let mut line = l;
@@ -37,9 +37,9 @@ fn line_on(capacity: u64, at: Point, remainder: u64, l: Line, ticks: u64) -> Ran
 
 // An arc so many ticks on, before its end: as many cycles as the sum of the ticks pays, at most one a tick.
 fn arc_on(capacity: u64, at: Point, remainder: u64, a: Arc, cycles: u64, ticks: u64) -> Ran
-    requires { SoundIn capacity at remainder (Work.Arc a) × (cycles ≡ arcCycles a at)
-        × (ticks < lastTickFor capacity at remainder (Work.Arc a)) }
-    ensures { result ≡ ranOf (stripOf capacity ticks at remainder (Work.Arc a)) }
+    requires { SoundIn capacity at remainder (Work.Arc a) × (cycles ≡ arc_cycles a at)
+        × (ticks < last_tick_for capacity at remainder (Work.Arc a)) }
+    ensures { result ≡ ran_of (strip_of capacity ticks at remainder (Work.Arc a)) }
 {
     let sum = remainder + ticks * (FEED_SCALE * a.feed);
     let most = least(ticks, cycles - 1);
@@ -57,8 +57,8 @@ fn arc_on(capacity: u64, at: Point, remainder: u64, a: Arc, cycles: u64, ticks: 
 
 // What is in work so many ticks on, before its end.
 fn work_on(capacity: u64, at: Point, remainder: u64, work: Work, cycles: u64, ticks: u64) -> Ran
-    requires { SoundIn capacity at remainder work × (cycles ≡ cyclesLeft at work) × (ticks < lastTickFor capacity at remainder work) }
-    ensures { result ≡ ranOf (stripOf capacity ticks at remainder work) }
+    requires { SoundIn capacity at remainder work × (cycles ≡ cycles_left at work) × (ticks < last_tick_for capacity at remainder work) }
+    ensures { result ≡ ran_of (strip_of capacity ticks at remainder work) }
 {
     match work {
         Work::Nothing => Ran {
@@ -77,7 +77,7 @@ fn work_on(capacity: u64, at: Point, remainder: u64, work: Work, cycles: u64, ti
 // By what is left: to the block's end, or as far as the ticks go.
 fn skip_left(capacity: u64, at: Point, remainder: u64, work: Work, left: Left, ticks: u64) -> Ran
     requires { SoundIn capacity at remainder work × (left ≡ left_of at work) }
-    ensures { result ≡ ranOf (stripOf capacity ticks at remainder work) }
+    ensures { result ≡ ran_of (strip_of capacity ticks at remainder work) }
 {
     let last = ending(
         left.charges * capacity,
@@ -102,7 +102,7 @@ fn skip_left(capacity: u64, at: Point, remainder: u64, work: Work, left: Left, t
 // What a run of at most so many ticks of the line or the arc in work leaves; callers ask first whether there is one.
 pub fn skip_work(capacity: u64, at: Point, remainder: u64, work: Work, ticks: u64) -> Ran
     requires { SoundIn capacity at remainder work }
-    ensures { result ≡ ranOf (stripOf capacity ticks at remainder work) }
+    ensures { result ≡ ran_of (strip_of capacity ticks at remainder work) }
 {
     let left = work_left(at, work);
     skip_left(capacity, at, remainder, work, left, ticks)

@@ -1,9 +1,9 @@
 // Where a whole job stands after so many ticks: the block in work then, its line and cycles left, and the record. No tick is done: the
 // blocks before it are finished, and the record after some of its own ticks is found, by closed forms. The cost grows with the text alone.
 ghost use Rattle.std.specs.Prelude.{◌≡◌, true};
-ghost use Rattle.bench.specs.computed.Bench.{soundOf};
-ghost use Rattle.seek.specs.computed.Seek.{seekOf};
-ghost use Rattle.seek.specs.computed.Search.{Counted, Tested, searchFrom, passedOf, block_of, refusedOf, searchAfter};
+ghost use Rattle.bench.specs.computed.Bench.{sound_of};
+ghost use Rattle.seek.specs.computed.Seek.{seek_of};
+ghost use Rattle.seek.specs.computed.Search.{Counted, Tested, search_from, passed_of, block_of, refused_of, search_after};
 
 use ahead::after_ticks;
 use bench::Bench;
@@ -45,7 +45,7 @@ struct Search {
 
 impl Search {
     fn start(settings: Settings, ticks: u64) -> Search
-        ensures { result ≡ searchFrom settings ticks }
+        ensures { result ≡ search_from settings ticks }
     {
         let made = Bench::make(settings);
         let bench = made.bench;
@@ -68,7 +68,7 @@ impl Search {
     // The next line makes no block.
     fn passed(self, reader: Reader, bench: Bench) -> Search
         requires { Counted self }
-        ensures { result ≡ passedOf self reader bench }
+        ensures { result ≡ passed_of self reader bench }
     {
         let s = self.sought;
         let next = Sought {
@@ -88,7 +88,7 @@ impl Search {
 
     // The next line brought a block into work: the one sought, or it ends with ticks left over.
     fn block(self, reader: Reader, loaded: Bench) -> Search
-        requires { Counted self × (soundOf loaded ≡ true) }
+        requires { Counted self × (sound_of loaded ≡ true) }
         ensures { result ≡ block_of self reader loaded }
     {
         let s = self.sought;
@@ -127,7 +127,7 @@ impl Search {
 
     fn refused(self, bench: Bench, number: u64) -> Search
         requires { Counted self }
-        ensures { result ≡ refusedOf self bench number }
+        ensures { result ≡ refused_of self bench number }
     {
         let reader = self.reader;
         let s = self.sought;
@@ -148,7 +148,7 @@ impl Search {
 
     fn line(self, read: ReadLine) -> Search
         requires { Counted self × Tested read }
-        ensures { result ≡ searchAfter self read }
+        ensures { result ≡ search_after self read }
     {
         let reader = read.reader;
         let bench = read.bench;
@@ -163,7 +163,7 @@ impl Search {
 
 // After so many ticks of a job that begins at the machine that a make with these settings answers.
 pub fn seek(settings: Settings, text: &[u8], ticks: u64) -> Sought
-    ensures { result ≡ seekOf settings text.now ticks }
+    ensures { result ≡ seek_of settings text.now ticks }
 {
     let mut search = Search::start(settings, ticks);
     if LONGEST_TEXT < text.len() {

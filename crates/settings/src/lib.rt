@@ -1,7 +1,7 @@
 // The settings of a table, and questions 1 to 3.
 ghost use Rattle.std.specs.Prelude.{◌≡◌};
-ghost use Rattle.settings.specs.Settings.{capacityOf, standardSettings};
-ghost use Rattle.settings.specs.computed.Settings.{in_range, axisRight, travelRight, settingsNo};
+ghost use Rattle.settings.specs.Settings.{capacity_of, standard_settings};
+ghost use Rattle.settings.specs.computed.Settings.{in_range, axis_right, travel_right, settings_no};
 
 use plane::travel::{Range, Travel, within};
 
@@ -15,7 +15,7 @@ pub struct Settings {
 }
 
 fn axis_right(axis: Range) -> bool
-    ensures { result ≡ axisRight axis }
+    ensures { result ≡ axis_right axis }
 {
     let lowers = Range {
         lower: -1_000_000,
@@ -32,7 +32,7 @@ fn axis_right(axis: Range) -> bool
 }
 
 fn travel_right(travel: Travel) -> bool
-    ensures { result ≡ travelRight travel }
+    ensures { result ≡ travel_right travel }
 {
     let x = travel.x;
     let y = travel.y;
@@ -53,7 +53,7 @@ fn in_range(low: u64, high: u64, v: u64) -> bool
 
 // The number of the first "no", or 0.
 pub fn settings_no(s: Settings) -> u64
-    ensures { result ≡ settingsNo s }
+    ensures { result ≡ settings_no s }
 {
     if !in_range(1, 1_000, s.scale) {
         return 1;
@@ -73,15 +73,15 @@ const CAPACITY_PER_HERTZ: u64 = 60_000;
 
 // q0, the capacity of the feed divider, of settings that have been tested.
 pub fn capacity(s: Settings) -> u64
-    requires { settingsNo s ≡ 0 }
-    ensures { result ≡ capacityOf s }
+    requires { settings_no s ≡ 0 }
+    ensures { result ≡ capacity_of s }
 {
     CAPACITY_PER_HERTZ * s.clock
 }
 
 // p 50, w 5,000 and the widest travel: what a refused make hands back, and what the programs take.
 pub fn standard() -> Settings
-    ensures { result ≡ standardSettings }
+    ensures { result ≡ standard_settings }
 {
     let axis = Range {
         lower: -1_000_000,

@@ -1,6 +1,6 @@
 // The tick bytes of a job text, handed out piece by piece into a lent buffer. How far it has come goes in by value and comes back by value.
 ghost use Rattle.std.specs.Prelude.{◌≡◌, false};
-ghost use Rattle.stream.specs.computed.Stream.{NextLine, Fills, is_refused, streamFrom, ended_of, atMachine};
+ghost use Rattle.stream.specs.computed.Stream.{NextLine, Fills, is_refused, stream_from, ended_of, at_machine};
 
 use bench::Bench;
 use reader::text_line::{Read, read_first};
@@ -38,7 +38,7 @@ fn is_refused(answer: Read) -> bool
 impl Stream {
     // The tick bytes of a job that begins at this bench.
     pub fn start(bench: Bench) -> Stream
-        ensures { result ≡ streamFrom bench }
+        ensures { result ≡ stream_from bench }
     {
         let reader = Reader::start();
         Stream {
@@ -58,7 +58,7 @@ impl Stream {
     }
 
     fn at_machine(self, bench: Bench) -> Stream
-        ensures { result ≡ atMachine self bench }
+        ensures { result ≡ at_machine self bench }
     {
         let reader = self.reader;
         Stream {

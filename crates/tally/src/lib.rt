@@ -1,11 +1,11 @@
 // The listing of a job, line by line: document 01, "The check program". What has been read so far is a tally, which goes in by value and
 // comes back by value beside the row, as the machine does. Blocks are not walked: each is finished by the closed forms.
 ghost use Rattle.std.specs.Prelude.{◌≡◌, true, ◌≤◌, length};
-ghost use Rattle.bench.specs.computed.Bench.{soundOf};
-ghost use Rattle.words.specs.computed.Scan.{firstLine};
-ghost use Rattle.row.specs.computed.Buffer.{lineRoom, hasRoom, bufferAfter, placeAfter};
-ghost use Rattle.tally.specs.computed.Tally.{Gives, countsRight, kind_of, placeAfterRow, tallyFrom, blockListed, total_of};
-ghost use Rattle.tally.specs.computed.Tally.{Reads, bytesRead, unreadOf, passedOf};
+ghost use Rattle.bench.specs.computed.Bench.{sound_of};
+ghost use Rattle.words.specs.computed.Scan.{first_line};
+ghost use Rattle.row.specs.computed.Buffer.{line_room, has_room, buffer_after, place_after};
+ghost use Rattle.tally.specs.computed.Tally.{Gives, counts_right, kind_of, place_after_row, tally_from, block_listed, total_of};
+ghost use Rattle.tally.specs.computed.Tally.{Reads, bytes_read, unread_of, passed_of};
 
 use bench::Bench;
 use finish::finish;
@@ -59,7 +59,7 @@ fn kind_of(work: Work) -> Kind
 
 // The place after a line; the line's own where it was not written.
 pub fn next_place(place: Place, at: usize) -> usize
-    ensures { result ≡ placeAfterRow place at }
+    ensures { result ≡ place_after_row place at }
 {
     match place {
         Place::Next(next) => next,
@@ -70,7 +70,7 @@ pub fn next_place(place: Place, at: usize) -> usize
 impl Tally {
     // Before the first line of a job at this bench.
     pub fn start(bench: Bench) -> Tally
-        ensures { result ≡ tallyFrom bench }
+        ensures { result ≡ tally_from bench }
     {
         let reader = Reader::start();
         let ticks = LongCount::zero();
@@ -86,7 +86,7 @@ impl Tally {
 
     // Whether the counts are some that a text can reach: then those after the next line fit too.
     fn counts_right(self) -> bool
-        ensures { result ≡ countsRight self }
+        ensures { result ≡ counts_right self }
     {
         if MOST_LINES < self.lines {
             return false;
@@ -106,7 +106,7 @@ impl Tally {
 
     // Nothing read, and nothing written.
     fn unread(self, at: usize, over: bool) -> Listed
-        ensures { result ≡ unreadOf self at over }
+        ensures { result ≡ unread_of self at over }
     {
         Listed {
             next: at,
@@ -118,8 +118,8 @@ impl Tally {
 
     // A line of so many bytes that makes no block: nothing is written.
     fn passed(self, reader: Reader, bench: Bench, bytes: usize, at: usize) -> Listed
-        requires { countsRight self ≡ true }
-        ensures { result ≡ passedOf self reader bench bytes at }
+        requires { counts_right self ≡ true }
+        ensures { result ≡ passed_of self reader bench bytes at }
     {
         let ticks = self.ticks;
         let tally = Tally {
@@ -148,8 +148,8 @@ impl Tally {
         out: &mut [u8],
         at: usize,
     ) -> Listed
-        requires { (countsRight self ≡ true) × (hasRoom out.old at ≡ true) × (soundOf loaded ≡ true) }
-        ensures gives { Gives (blockListed self reader loaded bits) out.old at result out.new }
+        requires { (counts_right self ≡ true) × (has_room out.old at ≡ true) × (sound_of loaded ≡ true) }
+        ensures gives { Gives (block_listed self reader loaded bits) out.old at result out.new }
         ensures bytes_value { result.bytes ≡ bytes }
     {
         let done = finish(loaded);
@@ -189,8 +189,8 @@ impl Tally {
 
     // The first line of what is left of the text; its row goes into the buffer from `at` on. Without room for a row nothing is read.
     pub fn read(self, text: &[u8], out: &mut [u8], at: usize) -> Listed
-        ensures reads { Reads self (firstLine text.now) out.old at result out.new }
-        ensures bytes_value { result.bytes ≡ bytesRead self (firstLine text.now) out.old at }
+        ensures reads { Reads self (first_line text.now) out.old at result out.new }
+        ensures bytes_value { result.bytes ≡ bytes_read self (first_line text.now) out.old at }
     {
         if !has_room(out.len(), at) {
             return self.unread(at, false);
@@ -250,9 +250,9 @@ impl Tally {
 
     // The last row of a job that was read to its end.
     pub fn total(self, out: &mut [u8], at: usize) -> Place
-        ensures buffer { out.new ≡ bufferAfter (total_of self) out.old at }
-        ensures place { result ≡ placeAfter (total_of self) out.old at }
-        ensures short { length (total_of self) ≤ lineRoom }
+        ensures buffer { out.new ≡ buffer_after (total_of self) out.old at }
+        ensures place { result ≡ place_after (total_of self) out.old at }
+        ensures short { length (total_of self) ≤ line_room }
     {
         let ticks = self.ticks;
         row::lines::total(out, at, self.blocks, self.cycles, ticks)

@@ -3,7 +3,7 @@
 ghost use Rattle.std.specs.Prelude.{◌≡◌};
 ghost use Rattle.machine.specs.computed.Calls.{load_of};
 ghost use Rattle.reader.specs.declared.text_line.Read.TheVariants.{Refused};
-ghost use Rattle.textline.specs.computed.TextLine.{reads, loaded, taken_of, readLineOf};
+ghost use Rattle.textline.specs.computed.TextLine.{reads, loaded, taken_of, read_line_of};
 
 use bench::Answer;
 use block::Block;
@@ -71,7 +71,7 @@ fn take(k: Reader, m: Machine, a: Asked) -> ReadLine
 
 // A line without its LF; a record that is not sound gets 9.
 pub fn read_line(k: Reader, m: Machine, line: &[u8]) -> ReadLine
-    ensures { result ≡ readLineOf k m line.now }
+    ensures { result ≡ read_line_of k m line.now }
 {
     if !m.is_sound() {
         return refused(k, m, 9);

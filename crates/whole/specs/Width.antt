@@ -1,7 +1,7 @@
 -- The register width.
 use Rattle.std.specs.Prelude.{ℕ, ◌^◌, ltb}
-use Rattle.whole.specs.First.{firstFrom}
+use Rattle.whole.specs.First.{first_from}
 
 -- 01, Arcs: "the fewest bits that hold" n. w bits hold the numbers below 2 ^ w.
 unfoldable pub width_of : ℕ → ℕ
-width_of n = firstFrom (λ w. ltb n (2 ^ w)) n 0
+width_of n = first_from (λ w. ltb n (2 ^ w)) n 0

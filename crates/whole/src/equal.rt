@@ -1,9 +1,9 @@
 // Equality of whole numbers.
 ghost use Rattle.std.specs.Prelude.{◌≡◌};
-ghost use Rattle.whole.specs.Equal.{equalZ};
+ghost use Rattle.whole.specs.Equal.{equal_z};
 
 pub fn equal(x: i64, y: i64) -> bool
-    ensures { result ≡ equalZ x y }
+    ensures { result ≡ equal_z x y }
 {
     x == y
 }

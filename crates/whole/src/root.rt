@@ -1,13 +1,13 @@
 // The least root (a line's cycles) and the nearest root (a circle's radius on an axis).
 ghost use Rattle.std.specs.Prelude.{◌≡◌, ◌*◌, ◌^◌, ◌≤◌, eqb};
-ghost use Rattle.whole.specs.Root.{leastRoot, nearestRoot};
+ghost use Rattle.whole.specs.Root.{least_root, nearest_root};
 
 // The least q with q * q >= s, which is at most `reach`. Halves the gap between a number whose square is below s and one whose square is
 // not.
 fn root_within(s: u64, reach: u64) -> u64
     requires le_s { (1 ≤ s) × (s ≤ reach * reach) }
     requires le_reach { (1 ≤ reach) × (reach ≤ 2 ^ 32) }
-    ensures { result ≡ leastRoot s }
+    ensures { result ≡ least_root s }
 {
     let mut below: u64 = 0;
     let mut gap = reach;
@@ -54,7 +54,7 @@ fn near_root(s: u64) -> f64
 // The least q with q * q >= s, for every s. Up to 65,536 the search is quickest, and up to 2^44, more than any line on a table has, a guess
 // that its square confirms. Nothing is proved of the guess: where the square does not confirm it, the search follows.
 pub fn least_root(s: u64) -> u64
-    ensures { result ≡ leastRoot s }
+    ensures { result ≡ least_root s }
 {
     if s == 0 {
         return 0;
@@ -84,7 +84,7 @@ pub fn least_root(s: u64) -> u64
 
 // The r with r * r - r < n <= r * r + r, for every n from 1 on: the root rounded to the nearest; 0 for 0.
 pub fn nearest_root(n: u64) -> u64
-    ensures { result ≡ nearestRoot n }
+    ensures { result ≡ nearest_root n }
 {
     let q = least_root(n);
     if q == 0 {
@@ -100,7 +100,7 @@ const MOST_ROOT: u64 = 4_194_304;
 // Whether q is the least root of s, by two squares; any q may be asked.
 pub fn is_least_root(s: u64, q: u64) -> bool
     requires { s ≤ 2 ^ 44 }
-    ensures { result ≡ eqb q (leastRoot s) }
+    ensures { result ≡ eqb q (least_root s) }
 {
     if q == 0 {
         return s == 0;
@@ -118,7 +118,7 @@ pub fn is_least_root(s: u64, q: u64) -> bool
 // Whether r is the nearest root of n, by its square; any r may be asked.
 pub fn is_nearest_root(n: u64, r: u64) -> bool
     requires { n ≤ 2 ^ 44 }
-    ensures { result ≡ eqb r (nearestRoot n) }
+    ensures { result ≡ eqb r (nearest_root n) }
 {
     if r == 0 {
         return n == 0;

@@ -2,7 +2,7 @@
 ghost use Rattle.std.specs.Prelude.{◌≡◌};
 ghost use Rattle.std.specs.Int.{w64};
 ghost use Rattle.std.proofs.Common.{SFits};
-ghost use Rattle.whole.specs.computed.Sign.{offset_of, part_of, join_of, differenceOf};
+ghost use Rattle.whole.specs.computed.Sign.{offset_of, part_of, join_of, difference_of};
 
 // A whole number as sign and magnitude; 0 is not negative.
 #[derive(Drop)]
@@ -26,7 +26,7 @@ fn offset(x: i64) -> u64
 
 // The way from one number to another. It is below 2^64, so it is exact for every pair of i64.
 pub fn difference(from: i64, to: i64) -> SignMagnitude
-    ensures { result ≡ differenceOf from to }
+    ensures { result ≡ difference_of from to }
 {
     let f = offset(from);
     let t = offset(to);

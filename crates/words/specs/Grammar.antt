@@ -2,7 +2,7 @@
 -- between and after?" The letters, their bytes, and which of them take a sign and a point: `Letter` in crate `letters`.
 use Rattle.std.specs.Prelude.{ℕ, ◌+◌, ◌≤◌, ◌<◌, ◌≡◌, List, [], ◌∷◌, ◌++◌, Bool, true, false, length}
 use Rattle.letters.specs.declared.letter.Letter.{Letter}
-use Rattle.letters.specs.Letter.{letterByte, takesSign, takesPoint}
+use Rattle.letters.specs.Letter.{letter_byte, takes_sign, takes_point}
 
 -- ---- a line is a list of items
 
@@ -16,26 +16,26 @@ pub data Item : Type 0 where
 
 -- ---- how it is written
 
-abbrev pub signText : Sign → List ℕ
-signText unsigned = []
-signText plus = 43 ∷ []
-signText minus = 45 ∷ []
+abbrev pub sign_text : Sign → List ℕ
+sign_text unsigned = []
+sign_text plus = 43 ∷ []
+sign_text minus = 45 ∷ []
 
-abbrev pub digitsText : List ℕ → List ℕ
-digitsText [] = []
-digitsText (d ∷ ds) = (48 + d) ∷ digitsText ds
+abbrev pub digits_text : List ℕ → List ℕ
+digits_text [] = []
+digits_text (d ∷ ds) = (48 + d) ∷ digits_text ds
 
-abbrev pub decimalsText : List ℕ → List ℕ
-decimalsText [] = []
-decimalsText (d ∷ ds) = 46 ∷ digitsText (d ∷ ds)
+abbrev pub decimals_text : List ℕ → List ℕ
+decimals_text [] = []
+decimals_text (d ∷ ds) = 46 ∷ digits_text (d ∷ ds)
 
-abbrev pub itemText : Item → List ℕ
-itemText blank = 32 ∷ []
-itemText (word l s w f) = letterByte l ∷ (signText s ++ (digitsText w ++ decimalsText f))
+abbrev pub item_text : Item → List ℕ
+item_text blank = 32 ∷ []
+item_text (word l s w f) = letter_byte l ∷ (sign_text s ++ (digits_text w ++ decimals_text f))
 
-abbrev pub lineText : List Item → List ℕ
-lineText [] = []
-lineText (i ∷ is) = itemText i ++ lineText is
+abbrev pub line_text : List Item → List ℕ
+line_text [] = []
+line_text (i ∷ is) = item_text i ++ line_text is
 
 -- ---- which items are right
 
@@ -59,8 +59,8 @@ pub record RightWord (l : Letter) (s : Sign) (w f : List ℕ) : Type 0 where
   pub places : length f ≤ 3
   pub digits : AllDigits w
   pub decimals : AllDigits f
-  pub sign : SignRight (takesSign l) s
-  pub point : PointRight (takesPoint l) f
+  pub sign : SignRight (takes_sign l) s
+  pub point : PointRight (takes_point l) f
 
 abbrev pub RightItem : Item → Type 0
 RightItem blank = Unit
@@ -74,4 +74,4 @@ RightLine (i ∷ is) = RightItem i × RightLine is
 pub record LineOfWords (bytes : List ℕ) : Type 0 where
   pub items : List Item
   pub right : RightLine items
-  pub text : lineText items ≡ bytes
+  pub text : line_text items ≡ bytes

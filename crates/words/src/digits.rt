@@ -1,6 +1,6 @@
 // The digits from a place of a line on.
 ghost use Rattle.std.specs.Prelude.{◌≡◌, ◌≤◌, ◌<◌, length, drop};
-ghost use Rattle.words.specs.computed.Scan.{firstByte, isDigit, digitsOf, Sized};
+ghost use Rattle.words.specs.computed.Scan.{first_byte, is_digit, digits_of, Sized};
 
 // What was read: the number that the digits write, after those that stood before, and how many of them there are.
 #[derive(Drop)]
@@ -12,13 +12,13 @@ pub struct Digits {
 // After its last byte a line has a blank more: it ends the last number and changes nothing else.
 pub fn byte_at(s: &[u8], i: usize) -> u8
     requires { i ≤ length s.now }
-    ensures { result ≡ firstByte (drop i s.now) }
+    ensures { result ≡ first_byte (drop i s.now) }
 {
     if i < s.len() { s[i] } else { b' ' }
 }
 
 fn is_digit(b: u8) -> bool
-    ensures { result ≡ isDigit b }
+    ensures { result ≡ is_digit b }
 {
     if b < b'0' {
         return false;
@@ -31,7 +31,7 @@ pub fn read(s: &[u8], from: usize, most: usize, value: u64) -> Digits
     requires from_in_bounds { from ≤ length s.now }
     requires most_bound { most ≤ 7 }
     requires value_bound { value < 10_000_000 }
-    ensures value { result ≡ digitsOf most value (drop from s.now) }
+    ensures value { result ≡ digits_of most value (drop from s.now) }
     ensures sized { Sized s.now from most value result }
 {
     let mut d = Digits {

@@ -3,9 +3,9 @@
 ghost use Rattle.std.specs.Prelude.{◌≡◌, true, ◌+◌, length, drop};
 ghost use Rattle.letters.specs.computed.Found.{words_in};
 ghost use Rattle.letters.specs.computed.Put.{Gathered};
-ghost use Rattle.words.specs.Meaning.{answer_of, notWords};
-ghost use Rattle.words.specs.computed.Meaning.{meaningOf};
-ghost use Rattle.words.specs.computed.Scan.{firstLine};
+ghost use Rattle.words.specs.Meaning.{answer_of, not_words};
+ghost use Rattle.words.specs.computed.Meaning.{meaning_of};
+ghost use Rattle.words.specs.computed.Scan.{first_line};
 
 use crate::number;
 use crate::text::{end_of_line, in_line};
@@ -32,7 +32,7 @@ pub struct First {
 }
 
 fn not_words() -> Line
-    ensures { result ≡ notWords }
+    ensures { result ≡ not_words }
 {
     Line {
         formed: false,
@@ -54,8 +54,8 @@ fn formed(found: Found, magnitudes: &[u64]) -> Line
 
 // No line of words, seen before its end: that is still to be found.
 fn refused(s: &[u8], from: usize) -> First
-    ensures line_value { result.line ≡ notWords }
-    ensures bytes_value { result.bytes ≡ from + length (firstLine (drop from s.now)) }
+    ensures line_value { result.line ≡ not_words }
+    ensures bytes_value { result.bytes ≡ from + length (first_line (drop from s.now)) }
 {
     First {
         line: not_words(),
@@ -65,8 +65,8 @@ fn refused(s: &[u8], from: usize) -> First
 
 // The words of a text's first line: any bytes, of any length.
 pub fn read_first(s: &[u8]) -> First
-    ensures line_value { result.line ≡ meaningOf (firstLine s.now) }
-    ensures bytes_value { result.bytes ≡ length (firstLine s.now) }
+    ensures line_value { result.line ≡ meaning_of (first_line s.now) }
+    ensures bytes_value { result.bytes ≡ length (first_line s.now) }
 {
     let mut found = found::nothing();
     let mut magnitudes = [0u64; 7];

@@ -1,6 +1,6 @@
 // The number of a word: a sign, digits, a point and decimals.
 ghost use Rattle.std.specs.Prelude.{◌≡◌, cond, ◌+◌, ◌-◌, ◌^◌, ◌≤◌, length, drop};
-ghost use Rattle.words.specs.computed.Scan.{firstByte, sign_of, amountOf, number_of};
+ghost use Rattle.words.specs.computed.Scan.{first_byte, sign_of, amount_of, number_of};
 
 use crate::digits;
 use crate::digits::byte_at;
@@ -41,7 +41,7 @@ fn one_if(b: bool) -> usize
 // A sign where the letter takes one. Signs come as they like, so this is written for a compiler to need no jump.
 fn read_sign(s: &[u8], from: usize, takes: bool) -> Sign
     requires { from ≤ length s.now }
-    ensures value { result ≡ sign_of takes (firstByte (drop from s.now)) }
+    ensures value { result ≡ sign_of takes (first_byte (drop from s.now)) }
     ensures bytes_in_bounds { from + result.bytes ≤ length s.now }
 {
     if !takes {
@@ -76,7 +76,7 @@ fn place(count: usize) -> u64
 // that is not taken is left to the scan of the line, which refuses it, since no item begins so.
 fn read_amount(s: &[u8], from: usize, fine: bool) -> Amount
     requires { from ≤ length s.now }
-    ensures value { result ≡ amountOf fine (drop from s.now) }
+    ensures value { result ≡ amount_of fine (drop from s.now) }
     ensures bytes_in_bounds { from + result.bytes ≤ length s.now }
 {
     let w = digits::read(s, from, 7, 0);

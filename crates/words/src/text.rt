@@ -1,12 +1,12 @@
 // The lines of a job text: LF, byte 10, ends a line, and the last may lack it.
 ghost use Rattle.std.specs.Prelude.{◌≡◌, ◌+◌, ltb, length, drop};
-ghost use Rattle.words.specs.computed.Scan.{firstLine};
+ghost use Rattle.words.specs.computed.Scan.{first_line};
 
 const LF: u8 = 10;
 
 // Whether a byte of the line stands here.
 pub fn in_line(text: &[u8], at: usize) -> bool
-    ensures { result ≡ ltb 0 (length (firstLine (drop at text.now))) }
+    ensures { result ≡ ltb 0 (length (first_line (drop at text.now))) }
 {
     if text.len() <= at {
         return false;
@@ -16,7 +16,7 @@ pub fn in_line(text: &[u8], at: usize) -> bool
 
 // Where the line that begins here ends: at its LF, or at the end of the text.
 pub fn end_of_line(text: &[u8], from: usize) -> usize
-    ensures { result ≡ from + length (firstLine (drop from text.now)) }
+    ensures { result ≡ from + length (first_line (drop from text.now)) }
 {
     let mut end = from;
     while in_line(text, end) {

@@ -1,14 +1,14 @@
 // What is in work: nothing, a line or an arc; its test, and what a working tick does to it.
 // The functions take the few numbers that they need and no machine, so that a tick copies little.
 ghost use Rattle.std.specs.Prelude.{◌≡◌, true, ◌≤◌};
-ghost use Rattle.plane.specs.Travel.{insideOf};
+ghost use Rattle.plane.specs.Travel.{inside_of};
 ghost use Rattle.plane.specs.computed.Travel.{Wide};
 ghost use Rattle.line.specs.computed.Line.{line_at};
 ghost use Rattle.arc.specs.computed.Arc.{StandsOnArc};
-ghost use Rattle.divider.specs.Divider.{fedOf};
-ghost use Rattle.work.specs.Work.{isNothing, feedOf, addedOf};
-ghost use Rattle.work.specs.computed.Work.{lineSound, arcSound, workSound, lineCycle, arcCycle, cycleOf, chargeOf, dueOf, advanceOf};
-ghost use Rattle.work.specs.Work.{begunOf};
+ghost use Rattle.divider.specs.Divider.{fed_of};
+ghost use Rattle.work.specs.Work.{is_nothing, feed_of, added_of};
+ghost use Rattle.work.specs.computed.Work.{line_sound, arc_sound, work_sound, line_cycle, arc_cycle, cycle_of, charge_of, due_of, advance_of};
+ghost use Rattle.work.specs.Work.{begun_of};
 ghost use Rattle.work.specs.computed.Asked.{Cycling, Ready, Loadable};
 
 use arc::arc::Arc;
@@ -48,7 +48,7 @@ pub struct Advance {
 }
 
 pub fn is_nothing(work: Work) -> bool
-    ensures { result ≡ isNothing work }
+    ensures { result ≡ is_nothing work }
 {
     match work {
         Work::Nothing => true,
@@ -60,7 +60,7 @@ pub fn is_nothing(work: Work) -> bool
 // ---- the test of what is in work, for any numbers; the point and the travel have been tested
 
 fn line_sound(capacity: u64, travel: Travel, at: Point, l: Line) -> bool
-    ensures { result ≡ lineSound capacity travel at l }
+    ensures { result ≡ line_sound capacity travel at l }
 {
     let start = l.start;
     let end = l.end;
@@ -80,8 +80,8 @@ fn line_sound(capacity: u64, travel: Travel, at: Point, l: Line) -> bool
 }
 
 fn arc_sound(capacity: u64, travel: Travel, at: Point, a: Arc) -> bool
-    requires { Wide travel × (insideOf travel at ≡ true) }
-    ensures { result ≡ arcSound capacity travel at a }
+    requires { Wide travel × (inside_of travel at ≡ true) }
+    ensures { result ≡ arc_sound capacity travel at a }
 {
     if a.feed < 1 {
         return false;
@@ -93,8 +93,8 @@ fn arc_sound(capacity: u64, travel: Travel, at: Point, a: Arc) -> bool
 }
 
 pub fn work_sound(capacity: u64, travel: Travel, at: Point, work: Work) -> bool
-    requires { Wide travel × (insideOf travel at ≡ true) }
-    ensures { result ≡ workSound capacity travel at work }
+    requires { Wide travel × (inside_of travel at ≡ true) }
+    ensures { result ≡ work_sound capacity travel at work }
 {
     match work {
         Work::Nothing => true,
@@ -107,7 +107,7 @@ pub fn work_sound(capacity: u64, travel: Travel, at: Point, work: Work) -> bool
 
 fn line_cycle(at: Point, l: Line) -> Cycle
     requires { line_at l at ≡ true }
-    ensures { result ≡ lineCycle l }
+    ensures { result ≡ line_cycle l }
 {
     let s = l.step(at);
     let here = s.at;
@@ -129,7 +129,7 @@ fn line_cycle(at: Point, l: Line) -> Cycle
 
 fn arc_cycle(at: Point, a: Arc) -> Cycle
     requires { StandsOnArc a at }
-    ensures { result ≡ arcCycle at a }
+    ensures { result ≡ arc_cycle at a }
 {
     let s = a.step(at);
     let here = s.at;
@@ -152,7 +152,7 @@ fn arc_cycle(at: Point, a: Arc) -> Cycle
 // The cycle of what is in work; callers ask first whether there is something.
 fn work_cycle(at: Point, work: Work) -> Cycle
     requires { Cycling at work }
-    ensures { result ≡ cycleOf at work }
+    ensures { result ≡ cycle_of at work }
 {
     match work {
         Work::Nothing => Cycle {
@@ -168,7 +168,7 @@ fn work_cycle(at: Point, work: Work) -> Cycle
 // ---- a working tick
 
 fn feed_number(work: Work) -> u64
-    ensures { result ≡ feedOf work }
+    ensures { result ≡ feed_of work }
 {
     match work {
         Work::Nothing => 0,
@@ -180,7 +180,7 @@ fn feed_number(work: Work) -> u64
 // What the next cycle is charged.
 fn charge(at: Point, work: Work) -> u64
     requires { Cycling at work }
-    ensures { result ≡ chargeOf at work }
+    ensures { result ≡ charge_of at work }
 {
     match work {
         Work::Nothing => STRAIGHT,
@@ -192,7 +192,7 @@ fn charge(at: Point, work: Work) -> u64
 // The divider's tick: the remainder after it, and whether a cycle is due.
 fn feed(capacity: u64, at: Point, remainder: u64, work: Work) -> Fed
     requires { Ready at remainder work × (capacity ≤ 1200000000) }
-    ensures { result ≡ fedOf (dueOf capacity at work) (addedOf work) remainder }
+    ensures { result ≡ fed_of (due_of capacity at work) (added_of work) remainder }
 {
     let added = FEED_SCALE * feed_number(work);
     let sum = remainder + added;
@@ -209,7 +209,7 @@ fn feed(capacity: u64, at: Point, remainder: u64, work: Work) -> Fed
 // One working tick of what is in work; callers ask first whether there is something.
 pub fn work_tick(capacity: u64, at: Point, remainder: u64, work: Work) -> Advance
     requires { Ready at remainder work × (capacity ≤ 1200000000) }
-    ensures { result ≡ advanceOf capacity at remainder work }
+    ensures { result ≡ advance_of capacity at remainder work }
 {
     let f = feed(capacity, at, remainder, work);
     if f.cycle {
@@ -242,7 +242,7 @@ pub struct Begun {
 
 pub fn begin(start: Point, b: Block) -> Begun
     requires { Loadable start b b.path }
-    ensures { result ≡ begunOf start b }
+    ensures { result ≡ begun_of start b }
 {
     let end = b.end;
     let path = b.path;

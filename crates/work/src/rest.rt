@@ -1,8 +1,8 @@
 // What is left of the block in work, without walking to its end.
 ghost use Rattle.std.specs.Prelude.{◌≡◌};
-ghost use Rattle.work.specs.Work.{cyclesLeft, end_of};
+ghost use Rattle.work.specs.Work.{cycles_left, end_of};
 ghost use Rattle.work.specs.computed.Rest.{Countable, left_of, Rooted};
-ghost use Rattle.work.specs.Work.{rootIn};
+ghost use Rattle.work.specs.Work.{root_in};
 
 use crate::Work;
 use circle::step::STRAIGHT;
@@ -56,7 +56,7 @@ pub fn work_left(at: Point, work: Work) -> Left
 // The root by which the cycles left are known: q of a line, the cycles of a quarter turn of an arc, 0 of nothing.
 pub fn root_of(work: Work) -> u64
     requires { Rooted work }
-    ensures { result ≡ rootIn work }
+    ensures { result ≡ root_in work }
 {
     match work {
         Work::Nothing => 0,
@@ -67,8 +67,8 @@ pub fn root_of(work: Work) -> u64
 
 // The cycles left, from the root.
 pub fn cycles_left(at: Point, work: Work, root: u64) -> u64
-    requires { Countable at work × (root ≡ rootIn work) }
-    ensures { result ≡ cyclesLeft at work }
+    requires { Countable at work × (root ≡ root_in work) }
+    ensures { result ≡ cycles_left at work }
 {
     match work {
         Work::Nothing => 0,

@@ -2,7 +2,7 @@
 use Rattle.std.specs.Prelude.{List, [], ◌∷◌, ℕ, zero, suc}
 use Rattle.bench.specs.declared.Bench.{Bench}
 use Rattle.bench.specs.declared.Tick.{Tick}
-use Rattle.bench.specs.computed.Calls.{tickOf}
+use Rattle.bench.specs.computed.Calls.{tick_of}
 
 -- "the same ticks": tick calls one after the other, their bytes, and the record that the last hands back
 pub record Ticking : Type 0 where
@@ -10,13 +10,13 @@ pub record Ticking : Type 0 where
   pub bench : Bench
 
 -- a refused tick has no byte
-abbrev pub inFront : Tick → List ℕ → List ℕ
-inFront (Tick.Byte b) bytes = b ∷ bytes
-inFront (Tick.Refused number) bytes = bytes
+abbrev pub in_front : Tick → List ℕ → List ℕ
+in_front (Tick.Byte b) bytes = b ∷ bytes
+in_front (Tick.Refused number) bytes = bytes
 
-unfoldable pub tickingOf : (n : ℕ) → Bench → Ticking
-tickingOf zero m = record { bytes = []; bench = m }
-tickingOf (suc n) m =
-    let t = tickOf m in
-    let rest = tickingOf n t.bench in
-    record { bytes = inFront t.tick rest.bytes; bench = rest.bench }
+unfoldable pub ticking_of : (n : ℕ) → Bench → Ticking
+ticking_of zero m = record { bytes = []; bench = m }
+ticking_of (suc n) m =
+    let t = tick_of m in
+    let rest = ticking_of n t.bench in
+    record { bytes = in_front t.tick rest.bytes; bench = rest.bench }

@@ -2,46 +2,46 @@
 use Rattle.std.specs.Prelude.{◌≡◌, Bool, true, ◌&&◌, ℕ, pos, negsuc}
 use Rattle.plane.specs.declared.point.Point.{Point}
 use Rattle.plane.specs.declared.travel.Travel.{Travel}
-use Rattle.plane.specs.Pulse.{pulsesBetween}
-use Rattle.plane.specs.Travel.{insideOf, visitsInside}
+use Rattle.plane.specs.Pulse.{pulses_between}
+use Rattle.plane.specs.Travel.{inside_of, visits_inside}
 use Rattle.plane.specs.Point.{Near}
-use Rattle.circle.specs.Circle.{onCircle}
+use Rattle.circle.specs.Circle.{on_circle}
 use Rattle.circle.specs.computed.Step.{after_of}
-use Rattle.circle.specs.computed.Count.{circleCycles}
+use Rattle.circle.specs.computed.Count.{circle_cycles}
 use Rattle.arc.specs.declared.arc.Arc.{Arc}
 use Rattle.arc.specs.declared.arc.Stepped.{Stepped}
-use Rattle.arc.specs.Centre.{seenFrom, backFrom}
+use Rattle.arc.specs.Centre.{seen_from, back_from}
 
 -- the point that the arc visits c cycles after it was at `at`
 -- Tied: `counts` of `AsDemanded`; in question 16 `load` of `EveryAnswer`.
-unfoldable pub arcAfter : Arc → (at : Point) (c : ℕ) → Point
-arcAfter a at c = backFrom a.centre (after_of a.square a.turn (seenFrom a.centre at) c)
+unfoldable pub arc_after : Arc → (at : Point) (c : ℕ) → Point
+arc_after a at c = back_from a.centre (after_of a.square a.turn (seen_from a.centre at) c)
 
 -- the cycles from there to its end; "Start equal to end is a full turn."
--- Tied: `counts` of `AsDemanded`, `cycles-left` of `EveryArc`, `waiting-cycles` of `EveryArc`.
-unfoldable pub arcCycles : Arc → (at : Point) → ℕ
-arcCycles a at = circleCycles a.square a.turn (seenFrom a.centre at) (seenFrom a.centre a.end)
+-- Tied: `counts` of `AsDemanded`, `cycles_left_lem` of `EveryArc`, `waiting_cycles` of `EveryArc`.
+unfoldable pub arc_cycles : Arc → (at : Point) → ℕ
+arc_cycles a at = circle_cycles a.square a.turn (seen_from a.centre at) (seen_from a.centre a.end)
 
 -- "a centre within ±2,000,000"
 abbrev pub centres : Travel
 centres = record { x = record { lower = negsuc 1999999; upper = pos 2000000 }; y = record { lower = negsuc 1999999; upper = pos 2000000 } }
 
 -- 01, Job and machine: an arc in work has "N in 1..2,000,000,000,000, point and end both circle points of N about a centre within
--- ±2,000,000, and every point still to visit in travel". `onCircle` has the bounds of N.
-unfoldable pub arcAt : Travel → Arc → (at : Point) → Bool
-arcAt t a at =
-    insideOf centres a.centre
-    && (onCircle a.square (seenFrom a.centre at)
-    && (onCircle a.square (seenFrom a.centre a.end) && visitsInside t (arcAfter a at) (arcCycles a at)))
+-- ±2,000,000, and every point still to visit in travel". `on_circle` has the bounds of N.
+unfoldable pub arc_at : Travel → Arc → (at : Point) → Bool
+arc_at t a at =
+    inside_of centres a.centre
+    && (on_circle a.square (seen_from a.centre at)
+    && (on_circle a.square (seen_from a.centre a.end) && visits_inside t (arc_after a at) (arc_cycles a at)))
 
 -- one cycle onward
-unfoldable pub arcStepped : Arc → (at : Point) → Stepped
-arcStepped a at = record { at = arcAfter a at 1; pulses = pulsesBetween at (arcAfter a at 1) }
+unfoldable pub arc_stepped : Arc → (at : Point) → Stepped
+arc_stepped a at = record { at = arc_after a at 1; pulses = pulses_between at (arc_after a at 1) }
 
 -- what the code asks of an arc whose circle it works on
 pub record StandsOnArc (a : Arc) (at : Point) : Type 0 where
   pub centre : Near 2000000 a.centre
   pub here : Near 1000000 at
   pub there : Near 1000000 a.end
-  pub on : onCircle a.square (seenFrom a.centre at) ≡ true
-  pub end_on : onCircle a.square (seenFrom a.centre a.end) ≡ true
+  pub on : on_circle a.square (seen_from a.centre at) ≡ true
+  pub end_on : on_circle a.square (seen_from a.centre a.end) ≡ true

@@ -6,8 +6,8 @@ use Rattle.circle.specs.declared.plane.Offset.{Offset}
 use Rattle.clearance.specs.declared.Room.{Room}
 
 -- how far travel reaches from the centre on each side
-abbrev pub roomOf : Travel → (centre : Point) → Room
-roomOf t centre =
+abbrev pub room_of : Travel → (centre : Point) → Room
+room_of t centre =
     record {
       right = t.x.upper -ℤ centre.x;
       up = t.y.upper -ℤ centre.y;

@@ -1,34 +1,34 @@
 -- 02 §2, "Arcs cut too fast at 45 degrees": what the cycles of an arc in work are charged.
 use Rattle.std.specs.Prelude.{ℕ}
 use Rattle.plane.specs.declared.point.Point.{Point}
-use Rattle.circle.specs.computed.Charge.{stepCharge}
+use Rattle.circle.specs.computed.Charge.{step_charge}
 use Rattle.charges.specs.declared.Span.{Span}
-use Rattle.charges.specs.Paid.{mostPaid}
-use Rattle.charges.specs.computed.Sum.{chargesIn}
+use Rattle.charges.specs.Paid.{most_paid}
+use Rattle.charges.specs.computed.Sum.{charges_in}
 use Rattle.arc.specs.declared.arc.Arc.{Arc}
 use Rattle.arc.specs.declared.arc.ArcPaid.{ArcPaid}
-use Rattle.arc.specs.Centre.{seenFrom}
-use Rattle.arc.specs.computed.Arc.{arcAfter, arcCycles}
+use Rattle.arc.specs.Centre.{seen_from}
+use Rattle.arc.specs.computed.Arc.{arc_after, arc_cycles}
 
 -- "a straight arc step is charged 1,000 and a diagonal one 1,414": the step from there
-unfoldable pub arcCharge : Arc → (at : Point) → ℕ
-arcCharge a at = stepCharge a.square a.turn (seenFrom a.centre at)
+unfoldable pub arc_charge : Arc → (at : Point) → ℕ
+arc_charge a at = step_charge a.square a.turn (seen_from a.centre at)
 
 -- the sum of the charges of c cycles from there on
 -- Tied: `charges` of `EveryArc`.
-abbrev pub arcChargesIn : Arc → (at : Point) (c : ℕ) → ℕ
-arcChargesIn a at c = chargesIn a.square a.turn (seenFrom a.centre at) c
+abbrev pub arc_charges_in : Arc → (at : Point) (c : ℕ) → ℕ
+arc_charges_in a at c = charges_in a.square a.turn (seen_from a.centre at) c
 
 -- of those to its end
-abbrev pub arcCharges : Arc → (at : Point) → ℕ
-arcCharges a at = arcChargesIn a at (arcCycles a at)
+abbrev pub arc_charges : Arc → (at : Point) → ℕ
+arc_charges a at = arc_charges_in a at (arc_cycles a at)
 
 -- the span to its end
-abbrev pub arcSpanOf : Arc → (at : Point) → Span
-arcSpanOf a at = record { cycles = arcCycles a at; charges = arcCharges a at }
+abbrev pub arc_span_of : Arc → (at : Point) → Span
+arc_span_of a at = record { cycles = arc_cycles a at; charges = arc_charges a at }
 
 -- what a sum pays for: so many cycles, their charges, and the point after them
-unfoldable pub arcPaidOf : Arc → (at : Point) (most sum : ℕ) → ArcPaid
-arcPaidOf a at most sum =
-    let c = mostPaid (arcChargesIn a at) sum most in
-    record { cycles = c; charges = arcChargesIn a at c; at = arcAfter a at c }
+unfoldable pub arc_paid_of : Arc → (at : Point) (most sum : ℕ) → ArcPaid
+arc_paid_of a at most sum =
+    let c = most_paid (arc_charges_in a at) sum most in
+    record { cycles = c; charges = arc_charges_in a at c; at = arc_after a at c }

@@ -1,8 +1,8 @@
 -- The arc's stepper: the circle's, with the codes of its moves. `laws/Stepper.antt` proves that it computes the step.
 use Rattle.std.specs.Prelude.{◌≡◌, ℕ, ◌+◌, pos, negsuc}
 use Rattle.plane.specs.declared.point.Point.{Point}
-use Rattle.plane.specs.Pulse.{changeOf}
-use Rattle.plane.specs.Byte.{bothCodes}
+use Rattle.plane.specs.Pulse.{change_of}
+use Rattle.plane.specs.Byte.{both_codes}
 use Rattle.circle.specs.declared.plane.Offset.{Offset}
 use Rattle.circle.specs.declared.plane.Turn.{Turn}
 use Rattle.circle.specs.declared.step.Move.{Move}
@@ -10,25 +10,25 @@ use Rattle.circle.specs.declared.step.Move.TheVariants.{Rise, Slant, Fall}
 use Rattle.circle.specs.declared.step.Stepper.{Stepper}
 use Rattle.circle.specs.Circle.{offset}
 use Rattle.circle.specs.computed.Step.{seen, turned}
-use Rattle.circle.specs.computed.Stepper.{enterOf, leaveOf, move_of, advancedBy, quadrantPulse, stepPulse, Entered}
+use Rattle.circle.specs.computed.Stepper.{enter_of, leave_of, move_of, advanced_by, quadrant_pulse, step_pulse, Entered}
 use Rattle.arc.specs.declared.arc.Arc.{Arc}
 use Rattle.arc.specs.declared.stepper.Tracer.{Tracer}
 use Rattle.arc.specs.declared.stepper.Traced.{Traced}
-use Rattle.arc.specs.Centre.{seenFrom, backFrom}
+use Rattle.arc.specs.Centre.{seen_from, back_from}
 
 -- 01, Ticks and runs: "X code + 4 × Y code", of a way ..
-unfoldable pub wayCode : Offset → ℕ
-wayCode o = bothCodes (record { x = changeOf (pos 0) o.x; y = changeOf (pos 0) o.y })
+unfoldable pub way_code : Offset → ℕ
+way_code o = both_codes (record { x = change_of (pos 0) o.x; y = change_of (pos 0) o.y })
 
-abbrev pub upCode : Turn → ℕ
-upCode t = wayCode (seen t (offset (pos 0) (pos 1)))
+abbrev pub up_code : Turn → ℕ
+up_code t = way_code (seen t (offset (pos 0) (pos 1)))
 
-abbrev pub downCode : Turn → ℕ
-downCode t = wayCode (seen t (offset (pos 0) (negsuc 0)))
+abbrev pub down_code : Turn → ℕ
+down_code t = way_code (seen t (offset (pos 0) (negsuc 0)))
 
 -- .. and of a move in a quadrant
-unfoldable pub moveCode : Turn → (quadrant : ℕ) → Move → ℕ
-moveCode t k m = wayCode (seen t (turned k (quadrantPulse m)))
+unfoldable pub move_code : Turn → (quadrant : ℕ) → Move → ℕ
+move_code t k m = way_code (seen t (turned k (quadrant_pulse m)))
 
 -- a slant is a rise and a fall
 abbrev pub pick_code : (rise fall : ℕ) → Move → ℕ
@@ -36,23 +36,23 @@ pick_code rise fall Rise = rise
 pick_code rise fall Slant = rise + fall
 pick_code rise fall Fall = fall
 
-abbrev pub tracerOf : Stepper → Tracer
-tracerOf s =
-    record { circle = s; rise = moveCode s.turn s.quadrant Rise; fall = moveCode s.turn s.quadrant Fall; next = move_of s }
+abbrev pub tracer_of : Stepper → Tracer
+tracer_of s =
+    record { circle = s; rise = move_code s.turn s.quadrant Rise; fall = move_code s.turn s.quadrant Fall; next = move_of s }
 
 -- the stepper of an arc at a point
-unfoldable pub arcTracer : Arc → (at : Point) → Tracer
-arcTracer a at = tracerOf (enterOf a.square a.turn (seenFrom a.centre at))
+unfoldable pub arc_tracer : Arc → (at : Point) → Tracer
+arc_tracer a at = tracer_of (enter_of a.square a.turn (seen_from a.centre at))
 
 -- one cycle
-unfoldable pub tracedOf : Tracer → Traced
-tracedOf t = record { tracer = tracerOf (advancedBy t.circle); code = wayCode (stepPulse t.circle) }
+unfoldable pub traced_of : Tracer → Traced
+traced_of t = record { tracer = tracer_of (advanced_by t.circle); code = way_code (step_pulse t.circle) }
 
 -- the point that it has reached
-unfoldable pub tracerAt : (centre : Point) → Tracer → Point
-tracerAt centre t = backFrom centre (leaveOf t.circle)
+unfoldable pub tracer_at : (centre : Point) → Tracer → Point
+tracer_at centre t = back_from centre (leave_of t.circle)
 
 -- what the code asks: a stepper on the circle, with its own codes
 pub record Tracing (t : Tracer) : Type 0 where
   pub entered : Entered t.circle
-  pub is : t ≡ tracerOf t.circle
+  pub is : t ≡ tracer_of t.circle

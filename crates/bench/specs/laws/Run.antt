@@ -1,15 +1,15 @@
 -- A run by what the record is: refused, idle, held, or at work.
 use Rattle.std.specs.Prelude.{◌≡◌, refl, Bool, true, false, cond, List, ℕ, min, leb, length}
-use Rattle.work.specs.Work.{isNothing}
+use Rattle.work.specs.Work.{is_nothing}
 use Rattle.run.specs.declared.Ran.{Ran as Work}
-use Rattle.run.specs.computed.Run.{Strip, stripOf, ranOf, written}
+use Rattle.run.specs.computed.Run.{Strip, strip_of, ran_of, written}
 use Rattle.bench.specs.declared.Bench.{Bench}
 use Rattle.bench.specs.declared.Report.{Report}
 use Rattle.bench.specs.declared.Ran.{Ran}
-use Rattle.settings.specs.Settings.{capacityOf}
-use Rattle.bench.specs.computed.Bench.{soundOf}
-use Rattle.bench.specs.Bench.{movedOf}
-use Rattle.bench.specs.computed.Run.{Run, reportOf, ranOver, noTick, run_of}
+use Rattle.settings.specs.Settings.{capacity_of}
+use Rattle.bench.specs.computed.Bench.{sound_of}
+use Rattle.bench.specs.Bench.{moved_of}
+use Rattle.bench.specs.computed.Run.{Run, report_of, ran_over, no_tick, run_of}
 
 module _ (m : Bench) (budget : ℕ) (out : List ℕ) where
   -- what a run promises of its answer and of its buffer
@@ -17,47 +17,47 @@ module _ (m : Bench) (budget : ℕ) (out : List ℕ) where
   Done r buffer = (r ≡ (run_of m budget (length out)).ran) × (buffer ≡ written (run_of m budget (length out)).bytes out)
 
   -- without a tick
-  untouched : (r : Report) → run_of m budget (length out) ≡ noTick m r → Done (noTick m r).ran out
+  untouched : (r : Report) → run_of m budget (length out) ≡ no_tick m r → Done (no_tick m r).ran out
   unfolding written
   untouched r e = rw e (refl, refl)
 
-  pub run-refused : soundOf m ≡ false → Done (noTick m (Report.Refused 9)).ran out
+  pub run_refused : sound_of m ≡ false → Done (no_tick m (Report.Refused 9)).ran out
   unfolding run_of
-  run-refused unsound = untouched (Report.Refused 9) (rw unsound)
+  run_refused unsound = untouched (Report.Refused 9) (rw unsound)
 
-  pub run-idle : soundOf m ≡ true → isNothing m.work ≡ true → Done (noTick m Report.Idle).ran out
+  pub run_idle : sound_of m ≡ true → is_nothing m.work ≡ true → Done (no_tick m Report.Idle).ran out
   unfolding run_of
-  run-idle sound idle = untouched Report.Idle (rw (sound, idle))
+  run_idle sound idle = untouched Report.Idle (rw (sound, idle))
 
-  pub run-held : soundOf m ≡ true → isNothing m.work ≡ false → m.held ≡ true → Done (noTick m Report.Held).ran out
+  pub run_held : sound_of m ≡ true → is_nothing m.work ≡ false → m.held ≡ true → Done (no_tick m Report.Held).ran out
   unfolding run_of
-  run-held sound busy held = untouched Report.Held (rw (sound, busy, held))
+  run_held sound busy held = untouched Report.Held (rw (sound, busy, held))
 
   -- at work
   abbrev pub ticking : Strip
-  ticking = stripOf (capacityOf m.settings) (min budget (length out)) m.at m.remainder m.work
+  ticking = strip_of (capacity_of m.settings) (min budget (length out)) m.at m.remainder m.work
 
-  pub run-works : soundOf m ≡ true → isNothing m.work ≡ false → m.held ≡ false → {r : Work} {after : List ℕ} → r ≡ ranOf ticking
+  pub run_works : sound_of m ≡ true → is_nothing m.work ≡ false → m.held ≡ false → {r : Work} {after : List ℕ} → r ≡ ran_of ticking
       → after ≡ written ticking.bytes out
       → Done
       (record {
-        report = reportOf r.ended (leb budget r.ticks);
+        report = report_of r.ended (leb budget r.ticks);
         ticks = r.ticks;
         cycles = r.cycles;
-        bench = movedOf m r.at r.remainder r.work;
+        bench = moved_of m r.at r.remainder r.work;
       })
       after
   unfolding run_of
-  run-works sound busy free ran buffer = rw (sound, busy, free, buffer, ran) (refl, refl)
+  run_works sound busy free ran buffer = rw (sound, busy, free, buffer, ran) (refl, refl)
 
 -- as many ticks as bytes
-pub ticks-are : (m : Bench) (budget buffer : ℕ) → (run_of m budget buffer).ran.ticks ≡ length (run_of m budget buffer).bytes
+pub ticks_are : (m : Bench) (budget buffer : ℕ) → (run_of m budget buffer).ran.ticks ≡ length (run_of m budget buffer).bytes
 unfolding run_of
-ticks-are m budget buffer = by (soundOf m) (isNothing m.work) m.held (ranOver m budget
-    (stripOf (capacityOf m.settings) (min budget buffer) m.at m.remainder m.work)) refl
+ticks_are m budget buffer = by (sound_of m) (is_nothing m.work) m.held (ran_over m budget
+    (strip_of (capacity_of m.settings) (min budget buffer) m.at m.remainder m.work)) refl
   where
     by : (sound idle held : Bool) (run : Run) → run.ran.ticks ≡ length run.bytes
-        → (let r = cond sound (cond idle (noTick m Report.Idle) (cond held (noTick m Report.Held) run)) (noTick m (Report.Refused 9)) in
+        → (let r = cond sound (cond idle (no_tick m Report.Idle) (cond held (no_tick m Report.Held) run)) (no_tick m (Report.Refused 9)) in
         r.ran.ticks ≡ length r.bytes)
     by true true held run e = refl
     by true false true run e = refl

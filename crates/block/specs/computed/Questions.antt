@@ -2,17 +2,17 @@
 use Rattle.std.specs.Prelude.{◌≡◌, true}
 use Rattle.plane.specs.declared.point.Point.{Point}
 use Rattle.plane.specs.declared.travel.Travel.{Travel}
-use Rattle.plane.specs.Travel.{insideOf}
+use Rattle.plane.specs.Travel.{inside_of}
 use Rattle.plane.specs.Point.{Near}
 use Rattle.plane.specs.computed.Travel.{Wide}
-use Rattle.circle.specs.Circle.{onCircle}
+use Rattle.circle.specs.Circle.{on_circle}
 use Rattle.arc.specs.declared.arc.Arc.{Arc}
-use Rattle.arc.specs.Centre.{seenFrom}
+use Rattle.arc.specs.Centre.{seen_from}
 
 -- what the code asks of an arc that begins at a start in travel
 pub record Begins (t : Travel) (start : Point) (a : Arc) : Type 0 where
   pub wide : Wide t
-  pub start-in : insideOf t start ≡ true
-  pub end-in : insideOf t a.end ≡ true
+  pub start_in : inside_of t start ≡ true
+  pub end_in_lem : inside_of t a.end ≡ true
   pub centre : Near 2000000 a.centre
-  pub on : onCircle a.square (seenFrom a.centre start) ≡ true
+  pub on : on_circle a.square (seen_from a.centre start) ≡ true

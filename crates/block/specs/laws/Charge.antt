@@ -6,26 +6,26 @@ use Prim.Native.Nat.{ℕ, zero, suc, ◌+◌, ◌-◌, ◌*◌, ◌≤◌, ◌<�
 use native.Mathlib.Omega.{arith}
 use Rattle.plane.specs.declared.point.Point.{Point}
 use Rattle.plane.specs.declared.pulse.Pulses.{Pulses}
-use Rattle.plane.specs.Pulse.{pulsesBetween}
+use Rattle.plane.specs.Pulse.{pulses_between}
 use Rattle.circle.specs.declared.plane.Offset.{Offset}
 use Rattle.circle.specs.declared.plane.Turn.{Turn}
 use Rattle.circle.specs.computed.Step.{step_of, after_of}
-use Rattle.circle.specs.computed.Charge.{stepCharge}
-use Rattle.charges.specs.computed.Sum.{chargesIn}
+use Rattle.circle.specs.computed.Charge.{step_charge}
+use Rattle.charges.specs.computed.Sum.{charges_in}
 use Rattle.arc.specs.declared.arc.Arc.{Arc}
-use Rattle.arc.specs.Centre.{seenFrom, backFrom}
-use Rattle.arc.specs.computed.Arc.{arcAfter}
-use Rattle.arc.specs.computed.Charge.{arcCharge}
-use Rattle.arc.specs.laws.Step.{seen-after}
-use Rattle.arc.specs.laws.Charge.{charge-codes}
+use Rattle.arc.specs.Centre.{seen_from, back_from}
+use Rattle.arc.specs.computed.Arc.{arc_after}
+use Rattle.arc.specs.computed.Charge.{arc_charge}
+use Rattle.arc.specs.laws.Step.{seen_after}
+use Rattle.arc.specs.laws.Charge.{charge_codes}
 use Rattle.block.specs.declared.Block.{Block}
 use Rattle.block.specs.declared.Path.{Path}
-use Rattle.block.specs.Block.{arcOf, blockPoint}
-use Rattle.block.specs.Charge.{chargeBy, blockCharge, chargesTo}
+use Rattle.block.specs.Block.{arc_of, block_point}
+use Rattle.block.specs.Charge.{charge_by, block_charge, charges_to}
 
-by-range : (p : Path) (u : Pulses) → (1000 ≤ chargeBy p u) × (chargeBy p u ≤ 1414)
-by-range Path.Line u = omega arith
-by-range (Path.Arc turn centre) u = by (eqb u.x 0) (eqb u.y 0)
+by_range : (p : Path) (u : Pulses) → (1000 ≤ charge_by p u) × (charge_by p u ≤ 1414)
+by_range Path.Line u = omega arith
+by_range (Path.Arc turn centre) u = by (eqb u.x 0) (eqb u.y 0)
   where
     by : (a b : Bool) → (1000 ≤ cond a 1000 (cond b 1000 1414)) × (cond a 1000 (cond b 1000 1414) ≤ 1414)
     by true b = omega arith
@@ -33,60 +33,60 @@ by-range (Path.Arc turn centre) u = by (eqb u.x 0) (eqb u.y 0)
     by false false = omega arith
 
 module _ (start : Point) (b : Block) where
-  pub block-charge-range : (c : ℕ) → (1000 ≤ blockCharge start b c) × (blockCharge start b c ≤ 1414)
-  unfolding blockCharge
-  block-charge-range c = by-range b.path _
+  pub block_charge_range : (c : ℕ) → (1000 ≤ block_charge start b c) × (block_charge start b c ≤ 1414)
+  unfolding block_charge
+  block_charge_range c = by_range b.path _
 
-  pub charge-is : (c : ℕ) {at : Point} → at ≡ blockPoint start b c
-      → chargeBy b.path (pulsesBetween at (blockPoint start b (c + 1))) ≡ blockCharge start b c
-  unfolding blockCharge
-  charge-is c e = ap (λ (p : Point). chargeBy b.path (pulsesBetween p (blockPoint start b (c + 1)))) e
+  pub charge_is : (c : ℕ) {at : Point} → at ≡ block_point start b c
+      → charge_by b.path (pulses_between at (block_point start b (c + 1))) ≡ block_charge start b c
+  unfolding block_charge
+  charge_is c e = ap (λ (p : Point). charge_by b.path (pulses_between p (block_point start b (c + 1)))) e
 
-  pub charges-suc : (c : ℕ) → chargesTo start b c + blockCharge start b c ≡ chargesTo start b (c + 1)
-  unfolding chargesTo
-  charges-suc c = let z : c + 1 ≡ suc c = omega arith in rw z refl
+  pub charges_suc : (c : ℕ) → charges_to start b c + block_charge start b c ≡ charges_to start b (c + 1)
+  unfolding charges_to
+  charges_suc c = let z : c + 1 ≡ suc c = omega arith in rw z refl
 
   -- with the next one, no more than with later ones
-  pub charges-next : (c k : ℕ) → c < k → chargesTo start b c + blockCharge start b c ≤ chargesTo start b k
-  unfolding chargesTo
-  charges-next c k h = let z : suc c + (k - suc c) ≡ k = omega arith in rw z at (by (k - suc c))
+  pub charges_next : (c k : ℕ) → c < k → charges_to start b c + block_charge start b c ≤ charges_to start b k
+  unfolding charges_to
+  charges_next c k h = let z : suc c + (k - suc c) ≡ k = omega arith in rw z at (by (k - suc c))
     where
-      by : (n : ℕ) → chargesTo start b c + blockCharge start b c ≤ chargesTo start b (suc c + n)
+      by : (n : ℕ) → charges_to start b c + block_charge start b c ≤ charges_to start b (suc c + n)
       by zero = let z : suc c + 0 ≡ suc c = omega arith in rw z (omega arith)
       by (suc n) = let z : suc c + suc n ≡ suc (suc c + n) = omega arith in rw z (omega (arith, by n))
 
   -- ---- by the path: a line's are its cycles, an arc's those of the circle
 
-  charge-line : (c : ℕ) → b.path ≡ Path.Line → blockCharge start b c ≡ 1000
-  unfolding blockCharge
-  charge-line c e = rw e refl
+  charge_line : (c : ℕ) → b.path ≡ Path.Line → block_charge start b c ≡ 1000
+  unfolding block_charge
+  charge_line c e = rw e refl
 
-  pub charges-line : (c : ℕ) → b.path ≡ Path.Line → chargesTo start b c ≡ 1000 * c
-  unfolding chargesTo
-  charges-line zero e = refl
-  charges-line (suc c) e = omega (arith, charges-line c e, charge-line c e)
+  pub charges_line : (c : ℕ) → b.path ≡ Path.Line → charges_to start b c ≡ 1000 * c
+  unfolding charges_to
+  charges_line zero e = refl
+  charges_line (suc c) e = omega (arith, charges_line c e, charge_line c e)
 
   module _ (turn : Turn) (centre : Offset) where
     abbrev arc : Arc
-    arc = arcOf start b turn centre
+    arc = arc_of start b turn centre
 
-    after_one : (c : ℕ) → arcAfter arc (arcAfter arc start c) 1 ≡ arcAfter arc start (c + 1)
-    unfolding arcAfter after_of
+    after_one : (c : ℕ) → arc_after arc (arc_after arc start c) 1 ≡ arc_after arc start (c + 1)
+    unfolding arc_after after_of
     after_one c =
         let one : c + 1 ≡ suc c = omega arith in
-        rw one (ap (λ (o : Offset). backFrom arc.centre (step_of arc.square arc.turn o)) (seen-after arc start c))
+        rw one (ap (λ (o : Offset). back_from arc.centre (step_of arc.square arc.turn o)) (seen_after arc start c))
 
-    charge-arc : (c : ℕ) → b.path ≡ Path.Arc turn centre
-        → blockCharge start b c ≡ stepCharge arc.square arc.turn (after_of arc.square arc.turn (seenFrom arc.centre start) c)
-    unfolding blockCharge blockPoint arcCharge arcOf
-    charge-arc c e =
+    charge_arc : (c : ℕ) → b.path ≡ Path.Arc turn centre
+        → block_charge start b c ≡ step_charge arc.square arc.turn (after_of arc.square arc.turn (seen_from arc.centre start) c)
+    unfolding block_charge block_point arc_charge arc_of
+    charge_arc c e =
         rw e
-        (ap (λ (q : Point). chargeBy (Path.Arc turn centre) (pulsesBetween (arcAfter arc start c) q)) (sym (after_one c))
-        ∙ sym (charge-codes arc (arcAfter arc start c))
-        ∙ ap (stepCharge arc.square arc.turn) (seen-after arc start c))
+        (ap (λ (q : Point). charge_by (Path.Arc turn centre) (pulses_between (arc_after arc start c) q)) (sym (after_one c))
+        ∙ sym (charge_codes arc (arc_after arc start c))
+        ∙ ap (step_charge arc.square arc.turn) (seen_after arc start c))
 
-    pub charges-arc : (c : ℕ) → b.path ≡ Path.Arc turn centre
-        → chargesTo start b c ≡ chargesIn arc.square arc.turn (seenFrom arc.centre start) c
-    unfolding chargesTo chargesIn
-    charges-arc zero e = refl
-    charges-arc (suc c) e = ap₂ (λ (x y : ℕ). x + y) (charges-arc c e) (charge-arc c e)
+    pub charges_arc : (c : ℕ) → b.path ≡ Path.Arc turn centre
+        → charges_to start b c ≡ charges_in arc.square arc.turn (seen_from arc.centre start) c
+    unfolding charges_to charges_in
+    charges_arc zero e = refl
+    charges_arc (suc c) e = ap₂ (λ (x y : ℕ). x + y) (charges_arc c e) (charge_arc c e)

@@ -4,62 +4,62 @@ use Rattle.std.proofs.Math.Path.{refl}
 use Prim.Native.Nat.{ℕ, zero, suc, ◌+◌}
 use Rattle.plane.specs.declared.point.Point.{Point}
 use Rattle.plane.specs.declared.travel.Travel.{Travel}
-use Rattle.arc.specs.computed.Arc.{arcAfter, arcCycles}
-use Rattle.arc.specs.Arc.{arcWidth}
+use Rattle.arc.specs.computed.Arc.{arc_after, arc_cycles}
+use Rattle.arc.specs.Arc.{arc_width}
 use Rattle.block.specs.declared.Block.{Block}
 use Rattle.block.specs.declared.Path.{Path}
-use Rattle.block.specs.Block.{arcOf, cyclesAlong, pointAlong, widthAlong, blockCycles, blockPoint, blockWidth}
-use Rattle.block.specs.Charge.{blockCharge, chargesTo, blockCharges}
-use Rattle.block.specs.Feed.{atFeed}
-use Rattle.block.specs.Questions.{feedRight, pathNo, loadNo}
+use Rattle.block.specs.Block.{arc_of, cycles_along, point_along, width_along, block_cycles, block_point, block_width}
+use Rattle.block.specs.Charge.{block_charge, charges_to, block_charges}
+use Rattle.block.specs.Feed.{at_feed}
+use Rattle.block.specs.Questions.{feed_right, path_no, load_no}
 
 module _ (f : ℕ) (start : Point) (b : Block) where
-  cycles-along : (p : Path) → cyclesAlong start (atFeed f b) p ≡ cyclesAlong start b p
-  unfolding arcOf arcCycles
-  cycles-along Path.Line = refl
-  cycles-along (Path.Arc turn centre) = refl
+  cycles_along_lem : (p : Path) → cycles_along start (at_feed f b) p ≡ cycles_along start b p
+  unfolding arc_of arc_cycles
+  cycles_along_lem Path.Line = refl
+  cycles_along_lem (Path.Arc turn centre) = refl
 
-  pub cycles-at-feed : blockCycles start (atFeed f b) ≡ blockCycles start b
-  unfolding blockCycles
-  cycles-at-feed = cycles-along b.path
+  pub cycles_at_feed : block_cycles start (at_feed f b) ≡ block_cycles start b
+  unfolding block_cycles
+  cycles_at_feed = cycles_along_lem b.path
 
-  point-along : (c : ℕ) (p : Path) → pointAlong start (atFeed f b) p c ≡ pointAlong start b p c
-  unfolding arcOf arcAfter
-  point-along c Path.Line = refl
-  point-along c (Path.Arc turn centre) = refl
+  point_along_lem : (c : ℕ) (p : Path) → point_along start (at_feed f b) p c ≡ point_along start b p c
+  unfolding arc_of arc_after
+  point_along_lem c Path.Line = refl
+  point_along_lem c (Path.Arc turn centre) = refl
 
-  pub point-at-feed : (c : ℕ) → blockPoint start (atFeed f b) c ≡ blockPoint start b c
-  unfolding blockPoint
-  point-at-feed c = point-along c b.path
+  pub point_at_feed : (c : ℕ) → block_point start (at_feed f b) c ≡ block_point start b c
+  unfolding block_point
+  point_at_feed c = point_along_lem c b.path
 
-  width-along : (p : Path) → widthAlong start (atFeed f b) p ≡ widthAlong start b p
-  unfolding arcOf arcWidth
-  width-along Path.Line = refl
-  width-along (Path.Arc turn centre) = refl
+  width_along_lem : (p : Path) → width_along start (at_feed f b) p ≡ width_along start b p
+  unfolding arc_of arc_width
+  width_along_lem Path.Line = refl
+  width_along_lem (Path.Arc turn centre) = refl
 
-  pub width-at-feed : blockWidth start (atFeed f b) ≡ blockWidth start b
-  unfolding blockWidth
-  width-at-feed = width-along b.path
+  pub width_at_feed : block_width start (at_feed f b) ≡ block_width start b
+  unfolding block_width
+  width_at_feed = width_along_lem b.path
 
-  pub charge-at-feed : (c : ℕ) → blockCharge start (atFeed f b) c ≡ blockCharge start b c
-  unfolding blockCharge
-  charge-at-feed c = rw (point-at-feed c, point-at-feed (c + 1))
+  pub charge_at_feed : (c : ℕ) → block_charge start (at_feed f b) c ≡ block_charge start b c
+  unfolding block_charge
+  charge_at_feed c = rw (point_at_feed c, point_at_feed (c + 1))
 
-  charges-to : (c : ℕ) → chargesTo start (atFeed f b) c ≡ chargesTo start b c
-  unfolding chargesTo
-  charges-to zero = refl
-  charges-to (suc c) = rw (charges-to c, charge-at-feed c)
+  charges_to_lem : (c : ℕ) → charges_to start (at_feed f b) c ≡ charges_to start b c
+  unfolding charges_to
+  charges_to_lem zero = refl
+  charges_to_lem (suc c) = rw (charges_to_lem c, charge_at_feed c)
 
-  pub charges-at-feed : blockCharges start (atFeed f b) ≡ blockCharges start b
-  charges-at-feed = rw cycles-at-feed (charges-to (blockCycles start b))
+  pub charges_at_feed : block_charges start (at_feed f b) ≡ block_charges start b
+  charges_at_feed = rw cycles_at_feed (charges_to_lem (block_cycles start b))
 
-  path-no : (t : Travel) (p : Path) → pathNo t start (atFeed f b) p ≡ pathNo t start b p
-  unfolding arcOf arcAfter arcCycles
-  path-no t Path.Line = refl
-  path-no t (Path.Arc turn centre) = refl
+  path_no_lem : (t : Travel) (p : Path) → path_no t start (at_feed f b) p ≡ path_no t start b p
+  unfolding arc_of arc_after arc_cycles
+  path_no_lem t Path.Line = refl
+  path_no_lem t (Path.Arc turn centre) = refl
 
   -- where question 11 has the same answer, so has load
-  pub load-at-feed : (q g : ℕ) (t : Travel) (room : Bool) → feedRight q f ≡ feedRight g b.feed
-      → loadNo q t room start (atFeed f b) ≡ loadNo g t room start b
-  unfolding loadNo
-  load-at-feed q g t room same = rw (same, path-no t b.path)
+  pub load_at_feed : (q g : ℕ) (t : Travel) (room : Bool) → feed_right q f ≡ feed_right g b.feed
+      → load_no q t room start (at_feed f b) ≡ load_no g t room start b
+  unfolding load_no
+  load_at_feed q g t room same = rw (same, path_no_lem t b.path)

@@ -13,45 +13,45 @@ use Rattle.calls.specs.laws.Make.{lay_step, all_laid}
 use Rattle.calls.proofs.lay.Statement.{statement}
 use Rattle.calls.proofs.lay.Tie as tie
 
-abbrev invariant-loop : tie.invariant-loop
-invariant-loop words₀ front i₀ words i =
+abbrev invariant_loop : tie.invariant_loop
+invariant_loop words₀ front i₀ words i =
     (length words₀ ≡ 134) × (length front ≡ 19) × (i ≤ 19) × (words ≡ paste words₀ 0 front i)
 
-abbrev decreases-loop : tie.decreases-loop
-decreases-loop words₀ front i₀ words i = 19 - i
+abbrev decreases_loop : tie.decreases_loop
+decreases_loop words₀ front i₀ words i = 19 - i
 
-seen-requires : tie.Need-seen-requires invariant-loop decreases-loop
-seen-requires c κs = search rules
+seen_requires : tie.Need-seen-requires invariant_loop decreases_loop
+seen_requires c κs = search rules
 
-seen-requires-2 : tie.Need-seen-requires-2 invariant-loop decreases-loop
-seen-requires-2 c κs = search rules
+seen_requires_2 : tie.Need-seen-requires-2 invariant_loop decreases_loop
+seen_requires_2 c κs = search rules
 
-loop-holds : tie.Need-loop-init invariant-loop decreases-loop
-loop-holds c =
+loop_holds : tie.Need-loop-init invariant_loop decreases_loop
+loop_holds c =
     let w = c.before.before.before in
     let s = w.before.before.args in
     (w.seen-arg2.given.0, c.before.seen-arg3.given.0, omega arith, paste-zero s.words.now 0 s.front.now)
 
-mul-word : tie.Need-overflow-mul-word invariant-loop decreases-loop
-mul-word c = omega (arith, c.loop-test.true)
+mul_word : tie.Need-overflow-mul-word invariant_loop decreases_loop
+mul_word c = omega (arith, c.loop-test.true)
 
-element-copy-out-word : tie.Need-element-copy-out-word invariant-loop decreases-loop
-element-copy-out-word c = omega (arith, c.loop-test.true)
+element_copy_out_word : tie.Need-element-copy-out-word invariant_loop decreases_loop
+element_copy_out_word c = omega (arith, c.loop-test.true)
 
-mul-word-2 : tie.Need-overflow-mul-word-2 invariant-loop decreases-loop
-mul-word-2 c = omega (arith, c.before.loop-test.true)
+mul_word_2 : tie.Need-overflow-mul-word-2 invariant_loop decreases_loop
+mul_word_2 c = omega (arith, c.before.loop-test.true)
 
-element-set-from-word : tie.Need-element-set-from-word invariant-loop decreases-loop
-element-set-from-word c = omega (arith, c.before.loop-test.true)
+element_set_from_word : tie.Need-element-set-from-word invariant_loop decreases_loop
+element_set_from_word c = omega (arith, c.before.loop-test.true)
 
-add-i : tie.Need-overflow-add-i invariant-loop decreases-loop
-add-i c = omega (arith, c.before.loop-test.true)
+add_i : tie.Need-overflow-add-i invariant_loop decreases_loop
+add_i c = omega (arith, c.before.loop-test.true)
 
-loop-less : tie.Need-loop-smaller invariant-loop decreases-loop
-loop-less c = omega (arith, c.before.loop-test.true)
+loop_less : tie.Need-loop-smaller invariant_loop decreases_loop
+loop_less c = omega (arith, c.before.loop-test.true)
 
-loop-again : tie.Need-loop-preserved invariant-loop decreases-loop
-loop-again c =
+loop_again : tie.Need-loop-preserved invariant_loop decreases_loop
+loop_again c =
     let l = c.before.before.loop in
     let v = l.invariant in
     let s = c.before.before.before.before.before.before.before.before.args in
@@ -64,7 +64,7 @@ loop-again c =
           (omega (arith, v.1, c.before.loop-test.true)) v.3),
     )
 
-returns : tie.Need-returns invariant-loop decreases-loop
+returns : tie.Need-returns invariant_loop decreases_loop
 returns c =
     let l = c.before.loop in
     let v = l.invariant in
@@ -72,8 +72,8 @@ returns c =
     let all : l.i ≡ 19 = omega (arith, v.2, c.loop-test.false) in
     all_laid s.words.now s.front.now v.1 all v.3
 
-pub lay-spec : {M : Type 1} → statement M
-lay-spec =
+pub lay_spec : {M : Type 1} → statement M
+lay_spec =
     tie.close
-    (tie.spec invariant-loop decreases-loop seen-requires seen-requires-2 loop-holds mul-word element-copy-out-word mul-word-2 element-set-from-word add-i
-    loop-less loop-again returns)
+    (tie.spec invariant_loop decreases_loop seen_requires seen_requires_2 loop_holds mul_word element_copy_out_word mul_word_2 element_set_from_word add_i
+    loop_less loop_again returns)

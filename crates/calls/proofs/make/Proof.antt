@@ -3,37 +3,37 @@ use borrow.Author.Rules.{rules}
 use mir.Syntax.{w64}
 use mir.Val.{SFits}
 use mir.Facts.{to_z-of_z}
-use Rattle.encoding.specs.Words.{settingsOf}
-use Rattle.calls.specs.laws.Make.{make-told}
+use Rattle.encoding.specs.Words.{settings_of}
+use Rattle.calls.specs.laws.Make.{make_told}
 use Rattle.calls.proofs.make.Statement.{statement}
 use Rattle.calls.proofs.make.Tie as tie
 
-seen-requires : tie.Need-seen-requires
-seen-requires c κs = search rules
+seen_requires : tie.Need-seen-requires
+seen_requires c κs = search rules
 
-settings-requires : tie.Need-settings-requires
-settings-requires c κs = search rules
+settings_requires : tie.Need-settings-requires
+settings_requires c κs = search rules
 
-make-requires : tie.Need-make-requires
-make-requires c κs = search rules
+make_requires : tie.Need-make-requires
+make_requires c κs = search rules
 
-encode-requires : tie.Need-encode-requires
-encode-requires c κs = search rules
+encode_requires : tie.Need-encode-requires
+encode_requires c κs = search rules
 
-lay-requires : tie.Need-lay-requires
-lay-requires c κs = search rules
+lay_requires : tie.Need-lay-requires
+lay_requires c κs = search rules
 
-element-set-of-words : tie.Need-element-set-of-words
-element-set-of-words c = search rules
+element_set_of_words : tie.Need-element-set-of-words
+element_set_of_words c = search rules
 
-element-set-of-words-2 : tie.Need-element-set-of-words-2
-element-set-of-words-2 c = search rules
+element_set_of_words_2 : tie.Need-element-set-of-words-2
+element_set_of_words_2 c = search rules
 
-element-set-of-words-3 : tie.Need-element-set-of-words-3
-element-set-of-words-3 c = search rules
+element_set_of_words_3 : tie.Need-element-set-of-words-3
+element_set_of_words_3 c = search rules
 
-answer-number-requires : tie.Need-answer-number-requires
-answer-number-requires c κs = search rules
+answer_number_requires : tie.Need-answer-number-requires
+answer_number_requires c κs = search rules
 
 returns : tie.Need-returns
 returns c =
@@ -53,19 +53,19 @@ returns c =
     let made = simp given at a.make.ensures in
     simp to_z-of_z
     (simp (c.answer-number.ensures, c.before.lay.ensures, f.encode.ensures)
-    (make-told g.words.now l.before.seen-arg2.given.0 (settingsOf g.p g.w g.xlo g.xhi g.ylo g.yhi) made))
+    (make_told g.words.now l.before.seen-arg2.given.0 (settings_of g.p g.w g.xlo g.xhi g.ylo g.yhi) made))
 
 pub make_spec : {M : Type 1} → statement M
 make_spec =
     tie.close
     (tie.spec
-    seen-requires
-    settings-requires
-    make-requires
-    encode-requires
-    lay-requires
-    element-set-of-words
-    element-set-of-words-2
-    element-set-of-words-3
-    answer-number-requires
+    seen_requires
+    settings_requires
+    make_requires
+    encode_requires
+    lay_requires
+    element_set_of_words
+    element_set_of_words_2
+    element_set_of_words_3
+    answer_number_requires
     returns)

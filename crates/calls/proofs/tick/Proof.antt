@@ -6,86 +6,86 @@ use mathlib.Core.Bool.{true}
 use mir.Syntax.{w64}
 use mir.Val.{SFits}
 use mir.Facts.{to_z-of_z}
-use Rattle.bench.specs.computed.Calls.{tickOf}
-use Rattle.record.specs.computed.Words.{benchIn, soundWords}
-use Rattle.calls.specs.laws.Told.{told-refused, bench-sound, tick-enough, tick-stores, tick-told}
-use Rattle.calls.specs.laws.Rest.{held-told, idle-told}
+use Rattle.bench.specs.computed.Calls.{tick_of}
+use Rattle.record.specs.computed.Words.{bench_in, sound_words}
+use Rattle.calls.specs.laws.Told.{told_refused, bench_sound, tick_enough, tick_stores, tick_told}
+use Rattle.calls.specs.laws.Rest.{held_told, idle_told}
 use Rattle.calls.proofs.tick.Statement.{statement}
 use Rattle.calls.proofs.tick.Tie as tie
 
 -- what the test has shown
-sound : (c : tie.Else1) → soundWords c.before.before.before.args.words.now ≡ true
+sound : (c : tie.Else1) → sound_words c.before.before.before.args.words.now ≡ true
 sound c = sym c.before.is-sound.ensures ∙ not-false _ c.if1.false
 
 -- the bench's tick
 ticked : (c : tie.After-tick-sound)
-    → c.tick-sound.result ≡ tickOf (benchIn
+    → c.tick-sound.result ≡ tick_of (bench_in
     c.before.before.before.before.before.before.before.before.before.args.words.now)
-ticked c = c.tick-sound.ensures ∙ ap tickOf c.before.before.before.before.bench-in.ensures
+ticked c = c.tick-sound.ensures ∙ ap tick_of c.before.before.before.before.bench-in.ensures
 
-is-sound-requires : tie.Need-is-sound-requires
-is-sound-requires c κs = search rules
+is_sound_requires : tie.Need-is-sound-requires
+is_sound_requires c κs = search rules
 
 returns : tie.Need-returns
-returns c = told-refused _ (sym c.before.is-sound.ensures ∙ not-true _ c.if1.true) _
+returns c = told_refused _ (sym c.before.is-sound.ensures ∙ not-true _ c.if1.true) _
 
-bench-in-requires : tie.Need-bench-in-requires
-bench-in-requires c κs = search rules
+bench_in_requires : tie.Need-bench-in-requires
+bench_in_requires c κs = search rules
 
 -- held, and with nothing in work
-returns-2 : tie.Need-returns-2
-returns-2 c = let b = c.before in held-told _ (sound b.before.before) b.bench-in.ensures c.if2.true
+returns_2 : tie.Need-returns-2
+returns_2 c = let b = c.before in held_told _ (sound b.before.before) b.bench-in.ensures c.if2.true
 
-is-nothing-requires : tie.Need-is-nothing-requires
-is-nothing-requires c κs = search rules
+is_nothing_requires : tie.Need-is-nothing-requires
+is_nothing_requires c κs = search rules
 
-returns-3 : tie.Need-returns-3
-returns-3 c =
+returns_3 : tie.Need-returns-3
+returns_3 c =
     let b = c.before.before.before in
-    idle-told _ (sound b.before.before) b.bench-in.ensures (sym c.before.is-nothing.ensures ∙ c.if3.true)
+    idle_told _ (sound b.before.before) b.bench-in.ensures (sym c.before.is-nothing.ensures ∙ c.if3.true)
 
-tick-sound-requires : tie.Need-tick-sound-requires
-tick-sound-requires c κs = let b = c.before.before.before in bench-sound _ (sound b.before.before) b.bench-in.ensures
+tick_sound_requires : tie.Need-tick-sound-requires
+tick_sound_requires c κs = let b = c.before.before.before in bench_sound _ (sound b.before.before) b.bench-in.ensures
 
-left-in-requires : tie.Need-left-in-requires
-left-in-requires c κs = search rules
+left_in_requires : tie.Need-left-in-requires
+left_in_requires c κs = search rules
 
-left-after-requires : tie.Need-left-after-requires
-left-after-requires c κs =
+left_after_requires : tie.Need-left-after-requires
+left_after_requires c κs =
     let k = c.before.before in
-    tick-enough _ (sound k.before.before.before.before.before.before) (ticked k) c.left_in.ensures
+    tick_enough _ (sound k.before.before.before.before.before.before) (ticked k) c.left_in.ensures
 
-store-ticks-requires : tie.Need-store-ticks-requires
-store-ticks-requires c κs =
+store_ticks_requires : tie.Need-store-ticks-requires
+store_ticks_requires c κs =
     let l = c.before.before in
     let k = l.before.before in
-    tick-stores _ (sound k.before.before.before.before.before.before) (ticked k) l.left_in.ensures
+    tick_stores _ (sound k.before.before.before.before.before.before) (ticked k) l.left_in.ensures
     c.before.left_After.ensures
 
-tick-number-requires : tie.Need-tick-number-requires
-tick-number-requires c κs = search rules
+tick_number_requires : tie.Need-tick-number-requires
+tick_number_requires c κs = search rules
 
-returns-4 : tie.Need-returns-4
-returns-4 c =
+returns_4 : tie.Need-returns-4
+returns_4 c =
     let n : SFits w64 c.tick-number.result = search rules in
     let k = c.before.before.before.before.before.before in
     simp to_z-of_z
     (simp (c.tick-number.ensures, c.before.store-ticks.ensures)
-    (tick-told _ (sound k.before.before.before.before.before.before) (ticked k)))
+    (tick_told _ (sound k.before.before.before.before.before.before) (ticked k)))
 
-pub tick-spec : {M : Type 1} → statement M
-tick-spec =
+pub tick_spec : {M : Type 1} → statement M
+tick_spec =
     tie.close
     (tie.spec
-    is-sound-requires
+    is_sound_requires
     returns
-    bench-in-requires
-    returns-2
-    is-nothing-requires
-    returns-3
-    tick-sound-requires
-    left-in-requires
-    left-after-requires
-    store-ticks-requires
-    tick-number-requires
-    returns-4)
+    bench_in_requires
+    returns_2
+    is_nothing_requires
+    returns_3
+    tick_sound_requires
+    left_in_requires
+    left_after_requires
+    store_ticks_requires
+    tick_number_requires
+    returns_4)

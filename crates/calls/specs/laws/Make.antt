@@ -2,26 +2,26 @@
 use Rattle.std.specs.Prelude.{◌≡◌, refl, List, [], ◌∷◌, ◌++◌, ℕ, zero, suc, ◌+◌, ◌≤◌, ◌<◌, ℤ, pos, length, drop, set, get_or}
 use Rattle.std.proofs.Common.{sym, ap, subst, ◌∙◌, add-one, arith, length-drop, drop-drop}
 use Rattle.std.proofs.Math.Seq.{paste, paste-suc, take-length}
-use Rattle.block.specs.Chain.{chainCycles}
-use Rattle.queue.specs.Queue.{emptyQueue}
+use Rattle.block.specs.Chain.{chain_cycles}
+use Rattle.queue.specs.Queue.{empty_queue}
 use Rattle.settings.specs.declared.Settings.{Settings}
-use Rattle.settings.specs.computed.Settings.{settingsNo}
-use Rattle.settings.specs.Settings.{standardSettings}
+use Rattle.settings.specs.computed.Settings.{settings_no}
+use Rattle.settings.specs.Settings.{standard_settings}
 use Rattle.bench.specs.declared.Bench.{Bench}
 use Rattle.bench.specs.declared.Answered.{Answered}
-use Rattle.bench.specs.Bench.{fresh_of as freshBench}
-use Rattle.bench.specs.computed.Calls.{makeWith as benchWith, makeOf as benchMake}
-use Rattle.machine.specs.Machine.{toDo, machine_of, fresh_of}
-use Rattle.machine.specs.computed.Calls.{makeWith, makeOf}
-use Rattle.encoding.specs.Words.{abi, word_of, refusalOf, head_of, workWordsOf, words_of}
-use Rattle.encoding.specs.Words.{encodeOf as benchWords}
-use Rattle.record.specs.Words.{figuresOf, frontOf, queueWords, encodeOf, over}
-use Rattle.calls.specs.Calls.{answerNumber}
-use Rattle.calls.specs.computed.Calls.{tells, toldAnswer, made_of}
+use Rattle.bench.specs.Bench.{fresh_of as fresh_bench}
+use Rattle.bench.specs.computed.Calls.{make_with as bench_with, make_of as bench_make}
+use Rattle.machine.specs.Machine.{to_do, machine_of, fresh_of}
+use Rattle.machine.specs.computed.Calls.{make_with, make_of}
+use Rattle.encoding.specs.Words.{abi, word_of, refusal_of, head_of, work_words_of, words_of}
+use Rattle.encoding.specs.Words.{encode_of as bench_words}
+use Rattle.record.specs.Words.{figures_of, front_of, queue_words, encode_of, over}
+use Rattle.calls.specs.Calls.{answer_number}
+use Rattle.calls.specs.computed.Calls.{tells, told_answer, made_of}
 
 -- a record of which no block is left to do
-abbrev freshWords : Bench → List ℤ
-freshWords k = frontOf abi (head_of k) (workWordsOf k.work) (figuresOf 0 0 0) []
+abbrev fresh_words : Bench → List ℤ
+fresh_words k = front_of abi (head_of k) (work_words_of k.work) (figures_of 0 0 0) []
 
 none_more : (i : ℕ) → 0 + i ≡ i
 none_more i = omega arith
@@ -48,22 +48,22 @@ three (x ∷ y ∷ []) h = absurd (omega arith)
 three (x ∷ y ∷ z ∷ l) h = refl
 
 -- a bench's words, and three words of 0 behind them
-figures-laid : (ws : List ℤ) → length ws ≡ 134 → (k : Bench)
-    → set (set (set (over (benchWords k) ws) 19 (pos 0)) 20 (pos 0)) 21 (pos 0) ≡ over (freshWords k) ws
-unfolding benchWords word_of
-figures-laid ws long k =
-    ap (λ (l : List ℤ). words_of (head_of k) (workWordsOf k.work) ++ l)
+figures_laid : (ws : List ℤ) → length ws ≡ 134 → (k : Bench)
+    → set (set (set (over (bench_words k) ws) 19 (pos 0)) 20 (pos 0)) 21 (pos 0) ≡ over (fresh_words k) ws
+unfolding bench_words word_of
+figures_laid ws long k =
+    ap (λ (l : List ℤ). words_of (head_of k) (work_words_of k.work) ++ l)
     (three (drop 19 ws) (omega (arith, length-drop 19 ws, long)) ∙ ap (λ (l : List ℤ). pos 0 ∷ pos 0 ∷ pos 0 ∷ l) (drop-drop 3 19 ws))
 
-fresh-laid : (s : Settings) → freshWords (freshBench s) ≡ encodeOf (fresh_of s)
-unfolding encodeOf machine_of freshBench emptyQueue toDo chainCycles queueWords word_of
-fresh-laid s = refl
+fresh_laid : (s : Settings) → fresh_words (fresh_bench s) ≡ encode_of (fresh_of s)
+unfolding encode_of machine_of fresh_bench empty_queue to_do chain_cycles queue_words word_of
+fresh_laid s = refl
 
-pub make-told : (ws : List ℤ) → length ws ≡ 134 → (s : Settings) {a : Answered} → a ≡ benchMake s
-    → tells (answerNumber a.answer) (set (set (set (over (benchWords a.bench) ws) 19 (pos 0)) 20 (pos 0)) 21 (pos 0)) ≡ made_of ws s
-unfolding made_of makeOf benchMake
-make-told ws long s {a} is = ap (tells (answerNumber a.answer)) (figures-laid ws long a.bench) ∙ rw is (by (settingsNo s))
+pub make_told : (ws : List ℤ) → length ws ≡ 134 → (s : Settings) {a : Answered} → a ≡ bench_make s
+    → tells (answer_number a.answer) (set (set (set (over (bench_words a.bench) ws) 19 (pos 0)) 20 (pos 0)) 21 (pos 0)) ≡ made_of ws s
+unfolding made_of make_of bench_make
+make_told ws long s {a} is = ap (tells (answer_number a.answer)) (figures_laid ws long a.bench) ∙ rw is (by (settings_no s))
   where
-    by : (n : ℕ) → tells (answerNumber (benchWith s n).answer) (over (freshWords (benchWith s n).bench) ws) ≡ toldAnswer ws (makeWith s n)
-    by zero = ap (λ (l : List ℤ). tells (pos 0) (over l ws)) (fresh-laid s)
-    by (suc n) = ap (λ (l : List ℤ). tells (refusalOf (suc n)) (over l ws)) (fresh-laid standardSettings)
+    by : (n : ℕ) → tells (answer_number (bench_with s n).answer) (over (fresh_words (bench_with s n).bench) ws) ≡ told_answer ws (make_with s n)
+    by zero = ap (λ (l : List ℤ). tells (pos 0) (over l ws)) (fresh_laid s)
+    by (suc n) = ap (λ (l : List ℤ). tells (refusal_of (suc n)) (over l ws)) (fresh_laid standard_settings)

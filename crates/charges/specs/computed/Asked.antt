@@ -1,11 +1,11 @@
 -- What inner functions ask of their callers: small numbers, and that no more is taken off than there is.
 use Rattle.std.specs.Prelude.{◌≡◌, true, ℕ, ◌-◌, ◌*◌, ◌≤◌, ◌<◌}
 use Rattle.circle.specs.declared.quadrant.Place.{Place}
-use Rattle.circle.specs.Circle.{onCircle}
+use Rattle.circle.specs.Circle.{on_circle}
 use Rattle.circle.specs.computed.Count.{rank_of}
 use Rattle.circle.specs.computed.Asked.{Ranked}
 use Rattle.charges.specs.declared.jump.Start.{Start}
-use Rattle.charges.specs.computed.Jump.{jumpStart}
+use Rattle.charges.specs.computed.Jump.{jump_start}
 
 -- a toll
 pub record Tolled (Q R : ℕ) (q : Place) : Type 0 where
@@ -24,5 +24,5 @@ pub record Placed (n Q i : ℕ) : Type 0 where
 
 -- a start on a circle point
 pub record Started (s : Start) : Type 0 where
-  pub on : onCircle s.n s.at ≡ true
-  pub is : s ≡ jumpStart s.n s.turn s.at
+  pub on : on_circle s.n s.at ≡ true
+  pub is : s ≡ jump_start s.n s.turn s.at

@@ -4,11 +4,11 @@ use Rattle.circle.specs.declared.plane.Offset.{Offset}
 use Rattle.circle.specs.declared.plane.Turn.{Turn}
 use Rattle.circle.specs.computed.Step.{after_of}
 use Rattle.charges.specs.declared.Paid.{Paid}
-use Rattle.charges.specs.Paid.{mostPaid}
-use Rattle.charges.specs.computed.Sum.{chargesIn}
+use Rattle.charges.specs.Paid.{most_paid}
+use Rattle.charges.specs.computed.Sum.{charges_in}
 
 -- what a sum pays for from p on: so many cycles, their charges, and the point after them
-unfoldable pub paidOf : ℕ → Turn → Offset → (most sum : ℕ) → Paid
-paidOf N turn p most sum =
-    let c = mostPaid (chargesIn N turn p) sum most in
-    record { cycles = c; charges = chargesIn N turn p c; at = after_of N turn p c }
+unfoldable pub paid_of : ℕ → Turn → Offset → (most sum : ℕ) → Paid
+paid_of N turn p most sum =
+    let c = most_paid (charges_in N turn p) sum most in
+    record { cycles = c; charges = charges_in N turn p c; at = after_of N turn p c }

@@ -10,30 +10,30 @@ use Rattle.std.proofs.Math.Nat.{mod-lt}
 use Rattle.std.proofs.Math.Decide.{dec_le}
 use Rattle.std.proofs.Math.Dec.{leb}
 use borrow.Author.Tests.{leb-true, leb-false}
-use Rattle.whole.specs.Root.{nearestRoot}
+use Rattle.whole.specs.Root.{nearest_root}
 use Rattle.whole.specs.laws.Quotient.{quotient}
 use Rattle.circle.specs.declared.plane.Offset.{Offset}
 use Rattle.circle.specs.declared.plane.Turn.{Turn}
 use Rattle.circle.specs.declared.quadrant.Place.{Place}
-use Rattle.circle.specs.Circle.{Circle, largestN, onCircle}
-use Rattle.circle.specs.computed.Step.{place, seen, pointAt, seenPlace, step_of, after_of}
-use Rattle.circle.specs.computed.Count.{rank_of, onward, placesTo, circleCycles}
-use Rattle.circle.specs.Circle.{quarterOf}
-use Rattle.circle.specs.laws.Octant.{Octant, Axis, apart, apart-le, self-square, some, within-axis, nearest-axis}
-use Rattle.circle.specs.laws.Circle.{OnCircle, on-circle-to, radius-bound, seen-seen}
-use Rattle.circle.specs.laws.Code.{turned-small}
-use Rattle.circle.specs.laws.Next.{On, seen-form}
-use Rattle.circle.specs.laws.Rank.{After, more, wrap, rank-low, rank-above, place-lt, place-injective, move, rank-move}
-use Rattle.circle.specs.laws.Rank.{onward-lt, onward-ge}
-use Rattle.circle.specs.laws.Walk.{after-circle, quarter-axis, seen_step}
-use Rattle.circle.specs.laws.Count.{rank-bound}
+use Rattle.circle.specs.Circle.{Circle, largest_n, on_circle}
+use Rattle.circle.specs.computed.Step.{place, seen, point_at, seen_place, step_of, after_of}
+use Rattle.circle.specs.computed.Count.{rank_of, onward, places_to, circle_cycles}
+use Rattle.circle.specs.Circle.{quarter_of}
+use Rattle.circle.specs.laws.Octant.{Octant, Axis, apart, apart_le, self_square, some, within_axis, nearest_axis}
+use Rattle.circle.specs.laws.Circle.{OnCircle, on_circle_to, radius_bound, seen_seen}
+use Rattle.circle.specs.laws.Code.{turned_small}
+use Rattle.circle.specs.laws.Next.{On, seen_form}
+use Rattle.circle.specs.laws.Rank.{After, more, wrap, rank_low, rank_above, place_lt, place_injective, move, rank_move}
+use Rattle.circle.specs.laws.Rank.{onward_lt, onward_ge}
+use Rattle.circle.specs.laws.Walk.{after_circle, quarter_axis, seen_step}
+use Rattle.circle.specs.laws.Count.{rank_bound}
 use Rattle.circle.specs.laws.Stepper.{after_on}
 use Rattle.charges.specs.declared.Span.{Span}
 use Rattle.charges.specs.declared.jump.Start.{Start}
-use Rattle.charges.specs.computed.Sum.{chargesIn, tollOf, roundChargesOf, chargesOf, spanTo}
+use Rattle.charges.specs.computed.Sum.{charges_in, toll_of, round_charges_of, charges_of, span_to}
 use Rattle.charges.specs.computed.Asked.{Placed, Tolled, Started}
-use Rattle.charges.specs.computed.Jump.{beside, place_in, placeAt, jumpStart, pointOn, chargesOn, arrivedOf}
-use Rattle.charges.specs.laws.Sum.{charges-closed, tolled, toll-bound, round-bound}
+use Rattle.charges.specs.computed.Jump.{beside, place_in, place_at, jump_start, point_on, charges_on, arrived_of}
+use Rattle.charges.specs.laws.Sum.{charges_closed, tolled, toll_bound, round_bound}
 
 -- ---- the place of a rank
 
@@ -44,31 +44,31 @@ pub record At (n Q r : ℕ) (q : Place) : Type 0 where
 module _ (n : ℕ) {Q : ℕ} (k : Axis (2 * n) Q) where
   -- to half a quarter the shorter coordinate leaves room for a longer one ..
   room : (y : ℕ) → 2 * y ≤ Q → 2 * (y * y) + 1 ≤ n + y
-  room y h = omega (arith, apart-le h)
+  room y h = omega (arith, apart_le h)
 
   -- .. and the nearest root is the one
-  pub beside-octant : (y : ℕ) → 2 * y ≤ Q → Octant n (beside n y) y
-  beside-octant y h = by (dec_le y (beside n y))
+  pub beside_octant : (y : ℕ) → 2 * y ≤ Q → Octant n (beside n y) y
+  beside_octant y h = by (dec_le y (beside n y))
     where
       root : Axis (n - y * y) (beside n y)
-      root = nearest-axis (n - y * y) (omega (arith, room y h, self-square y))
+      root = nearest_axis (n - y * y) (omega (arith, room y h, self_square y))
 
       by : Dec (y ≤ beside n y) → Octant n (beside n y) y
-      by (yes g) = let r = root in omega (arith, room y h, self-square y)
-      by (no f) = let r = root in absurd (omega (arith, room y h, self-square y, apart (lt_of_not-le f)))
+      by (yes g) = let r = root in omega (arith, room y h, self_square y)
+      by (no f) = let r = root in absurd (omega (arith, room y h, self_square y, apart (lt_of_not-le f)))
 
-  pub place-in : (j i : ℕ) → j < 4 → i < Q → At n Q (j * Q + i) (place_in n Q j i)
+  pub place_in_lem : (j i : ℕ) → j < 4 → i < Q → At n Q (j * Q + i) (place_in n Q j i)
   unfolding place_in rank_of
-  place-in j i four h = by (leb (2 * i) Q) refl
+  place_in_lem j i four h = by (leb (2 * i) Q) refl
     where
       by : (t : Bool) → leb (2 * i) Q ≡ t → At n Q (j * Q + i) (cond t (place j (beside n i) i) (place j (Q - i) (beside n (Q - i))))
       by true e =
-          let o = beside-octant i (leb-true (2 * i) Q e) in
-          record { on = record { four = four; some = some o; on = inl o }; rank = omega (arith, rank-low Q (beside n i) i o.wide) }
+          let o = beside_octant i (leb-true (2 * i) Q e) in
+          record { on = record { four = four; some = some o; on = inl o }; rank = omega (arith, rank_low Q (beside n i) i o.wide) }
       by false e =
           let l = leb-false (2 * i) Q e in
-          let o = beside-octant (Q - i) (omega arith) in
-          let r = rank-above k (Q - i) (beside n (Q - i)) (inr o) o.wide in
+          let o = beside_octant (Q - i) (omega arith) in
+          let r = rank_above k (Q - i) (beside n (Q - i)) (inr o) o.wide in
           record { on = record { four = four; some = omega arith; on = inr o }; rank = omega (arith, r) }
 
   -- the quarters of a rank, round and round, and what is left of it
@@ -77,12 +77,12 @@ module _ (n : ℕ) {Q : ℕ} (k : Axis (2 * n) Q) where
       let up : k + 1 ≤ 4 = omega arith in
       sym (quotient r (4 * Q) b (k * Q + i) (omega (arith, ap (λ (t : ℕ). t * Q) f)) (omega (arith, mul-le-mul_right Q up))).1
 
-  pub place_at : (r : ℕ) → At n Q (r % (4 * Q)) (placeAt n Q r)
-  unfolding placeAt
-  place_at r =
+  pub place_at_lem : (r : ℕ) → At n Q (r % (4 * Q)) (place_at n Q r)
+  unfolding place_at
+  place_at_lem r =
       let four : r / Q % 4 < 4 = mod-lt (r / Q) (omega arith) in
       let rest = mod-lt r (some k) in
-      let p = place-in (r / Q % 4) (r % Q) four rest in
+      let p = place_in_lem (r / Q % 4) (r % Q) four rest in
       let round = rounds r (r / Q) (r / Q / 4) (r / Q % 4) (r % Q) (div-add-mod' r Q) (div-add-mod' (r / Q) 4) four rest in
       record { on = p.on; rank = p.rank ∙ round }
 
@@ -91,98 +91,98 @@ module _ (n : ℕ) {Q : ℕ} (k : Axis (2 * n) Q) where
 -- c on from r in a round of T, after some whole rounds
 pub record Onward (T r c s : ℕ) : Type 0 where
   pub rounds : ℕ
-  pub adds-up : s + rounds * T ≡ r + c
+  pub adds_up : s + rounds * T ≡ r + c
   pub below : s < T
 
-onward-next : {T r c s s' : ℕ} → Onward T r c s → After T s s' → s' < T → Onward T r (suc c) s'
-onward-next o (more e) h = record { rounds = o.rounds; adds-up = omega (arith, o.adds-up); below = h }
-onward-next o (wrap e f) h = record { rounds = o.rounds + 1; adds-up = omega (arith, o.adds-up); below = h }
+onward_next : {T r c s s' : ℕ} → Onward T r c s → After T s s' → s' < T → Onward T r (suc c) s'
+onward_next o (more e) h = record { rounds = o.rounds; adds_up = omega (arith, o.adds_up); below = h }
+onward_next o (wrap e f) h = record { rounds = o.rounds + 1; adds_up = omega (arith, o.adds_up); below = h }
 
-pub onward-is : {T r c s : ℕ} → Onward T r c s → s ≡ (r + c) % T
-onward-is {T} {r} {c} {s} o = sym (quotient (r + c) T o.rounds s (omega (arith, o.adds-up)) o.below).1
+pub onward_is : {T r c s : ℕ} → Onward T r c s → s ≡ (r + c) % T
+onward_is {T} {r} {c} {s} o = sym (quotient (r + c) T o.rounds s (omega (arith, o.adds_up)) o.below).1
 
 module _ {n : ℕ} (t : Turn) (p : Offset) (o : Circle n p) where
   abbrev pub Q : ℕ
-  Q = quarterOf n
+  Q = quarter_of n
 
   abbrev pub rank : Offset → ℕ
-  rank q = rank_of Q (seenPlace t q)
+  rank q = rank_of Q (seen_place t q)
 
-  on : (q : Offset) → Circle n q → On n (seenPlace t q)
-  on q c = (seen-form t q c).on
+  on : (q : Offset) → Circle n q → On n (seen_place t q)
+  on q c = (seen_form t q c).on
 
-  after-onward : (c : ℕ) → Onward (4 * Q) (rank p) c (rank (after_of n t p c))
+  after_onward : (c : ℕ) → Onward (4 * Q) (rank p) c (rank (after_of n t p c))
   unfolding after_of
-  after-onward zero = record { rounds = 0; adds-up = omega arith; below = place-lt (quarter-axis o) (on p o) }
-  after-onward (suc c) =
+  after_onward zero = record { rounds = 0; adds_up = omega arith; below = place_lt (quarter_axis o) (on p o) }
+  after_onward (suc c) =
       let q = after_of n t p c in
-      let d = after-circle t p c o in
+      let d = after_circle t p c o in
       rw (seen_step t q d)
-      (onward-next (after-onward c) (rank-move (quarter-axis o) (on q d) (move n (seenPlace t q) (on q d)))
-      (rw (seen_step t q d) at (place-lt (quarter-axis o) (on (step_of n t q) (after-circle t p (suc c) o)))))
+      (onward_next (after_onward c) (rank_move (quarter_axis o) (on q d) (move n (seen_place t q) (on q d)))
+      (rw (seen_step t q d) at (place_lt (quarter_axis o) (on (step_of n t q) (after_circle t p (suc c) o)))))
 
   -- after c cycles the walk is at the point whose rank is c more
-  pub after-rank : (c : ℕ) → rank (after_of n t p c) ≡ (rank p + c) % (4 * Q)
-  after-rank c = onward-is (after-onward c)
+  pub after_rank : (c : ℕ) → rank (after_of n t p c) ≡ (rank p + c) % (4 * Q)
+  after_rank c = onward_is (after_onward c)
 
   -- so it is at the place of that rank
-  pub after-place : (c : ℕ) → placeAt n Q (rank p + c) ≡ seenPlace t (after_of n t p c)
-  after-place c =
+  pub after_place : (c : ℕ) → place_at n Q (rank p + c) ≡ seen_place t (after_of n t p c)
+  after_place c =
       let q = after_of n t p c in
-      let a = place_at n (quarter-axis o) (rank p + c) in
-      place-injective (quarter-axis o) a.on (on q (after-circle t p c o)) (a.rank ∙ sym (after-rank c))
+      let a = place_at_lem n (quarter_axis o) (rank p + c) in
+      place_injective (quarter_axis o) a.on (on q (after_circle t p c o)) (a.rank ∙ sym (after_rank c))
 
   -- to a full turn, the cycles there are those that led there ..
-  pub cycles-after : (c : ℕ) → 1 ≤ c → c ≤ 4 * Q → circleCycles n t p (after_of n t p c) ≡ c
-  unfolding circleCycles placesTo
-  cycles-after c l h = by (rank (after_of n t p c)) (after-onward c) (place-lt (quarter-axis o) (on p o))
+  pub cycles_after : (c : ℕ) → 1 ≤ c → c ≤ 4 * Q → circle_cycles n t p (after_of n t p c) ≡ c
+  unfolding circle_cycles places_to
+  cycles_after c l h = by (rank (after_of n t p c)) (after_onward c) (place_lt (quarter_axis o) (on p o))
     where
       by : (s : ℕ) → Onward (4 * Q) (rank p) c s → rank p < 4 * Q → onward (4 * Q) (rank p) s ≡ c
-      by s w lt = at w.rounds w.adds-up
+      by s w lt = at w.rounds w.adds_up
         where
           at : (v : ℕ) → s + v * (4 * Q) ≡ rank p + c → onward (4 * Q) (rank p) s ≡ c
-          at zero e = omega (arith, onward-lt (4 * Q) (rank p) s (omega arith))
-          at (suc zero) e = omega (arith, onward-ge (4 * Q) (rank p) s (omega arith))
+          at zero e = omega (arith, onward_lt (4 * Q) (rank p) s (omega arith))
+          at (suc zero) e = omega (arith, onward_ge (4 * Q) (rank p) s (omega arith))
           at (suc (suc v)) e = absurd (omega arith)
 
   abbrev pub toll : Offset → ℕ
-  toll q = tollOf Q (nearestRoot n) (seenPlace t q)
+  toll q = toll_of Q (nearest_root n) (seen_place t q)
 
   -- .. and their charges are the tolls apart
-  pub charges-after : (c : ℕ) → 1 ≤ c → c ≤ 4 * Q
-      → chargesIn n t p c ≡ onward (roundChargesOf Q (nearestRoot n)) (toll p) (toll (after_of n t p c))
-  unfolding chargesOf
-  charges-after c l h =
+  pub charges_after : (c : ℕ) → 1 ≤ c → c ≤ 4 * Q
+      → charges_in n t p c ≡ onward (round_charges_of Q (nearest_root n)) (toll p) (toll (after_of n t p c))
+  unfolding charges_of
+  charges_after c l h =
       let e = after_of n t p c in
-      ap (chargesIn n t p) (sym (cycles-after c l h)) ∙ charges-closed n t p e o (after-circle t p c o)
+      ap (charges_in n t p) (sym (cycles_after c l h)) ∙ charges_closed n t p e o (after_circle t p c o)
 
 -- ---- what the code asks
 
-module _ (n : ℕ) (any : 1 ≤ n) (bound : n ≤ largestN) where
-  quarter : Axis (2 * n) (quarterOf n)
-  quarter = nearest-axis (2 * n) (omega arith)
+module _ (n : ℕ) (any : 1 ≤ n) (bound : n ≤ largest_n) where
+  quarter : Axis (2 * n) (quarter_of n)
+  quarter = nearest_axis (2 * n) (omega arith)
 
-  pub quarter-some : 1 ≤ quarterOf n
-  quarter-some = some quarter
+  pub quarter_some : 1 ≤ quarter_of n
+  quarter_some = some quarter
 
-  pub quarter-most : quarterOf n ≤ 2000000
-  quarter-most = within-axis quarter 2000000 (omega arith)
+  pub quarter_most : quarter_of n ≤ 2000000
+  quarter_most = within_axis quarter 2000000 (omega arith)
 
-  pub placed : (i : ℕ) → i < quarterOf n → Placed n (quarterOf n) i
+  pub placed : (i : ℕ) → i < quarter_of n → Placed n (quarter_of n) i
   placed i h = record {
-    quarter = quarter-most;
+    quarter = quarter_most;
     rank = h;
-    low = λ l. omega (arith, room n quarter i l, self-square i);
-    high = λ l. below (quarterOf n - i) (omega arith);
+    low = λ l. omega (arith, room n quarter i l, self_square i);
+    high = λ l. below (quarter_of n - i) (omega arith);
   }
     where
-      below : (y : ℕ) → 2 * y ≤ quarterOf n → y * y ≤ n
-      below y l = omega (arith, room n quarter y l, self-square y)
+      below : (y : ℕ) → 2 * y ≤ quarter_of n → y * y ≤ n
+      below y l = omega (arith, room n quarter y l, self_square y)
 
 -- ---- a start
 
-pub started : (n : ℕ) (t : Turn) (p : Offset) → onCircle n p ≡ true → Started (jumpStart n t p)
-unfolding jumpStart
+pub started : (n : ℕ) (t : Turn) (p : Offset) → on_circle n p ≡ true → Started (jump_start n t p)
+unfolding jump_start
 started n t p e = record { on = e; is = refl }
 
 pub record StartBounds (s : Start) : Type 0 where
@@ -190,85 +190,85 @@ pub record StartBounds (s : Start) : Type 0 where
   pub quarter : s.quarter ≤ 2000000
   pub radius : s.radius ≤ 1414214
   pub rank : s.from.cycles < 4 * s.quarter
-  pub toll : s.from.charges < roundChargesOf s.quarter s.radius
-  pub round : roundChargesOf s.quarter s.radius ≤ 9400000000
+  pub toll : s.from.charges < round_charges_of s.quarter s.radius
+  pub round : round_charges_of s.quarter s.radius ≤ 9400000000
 
 module _ {s : Start} (h : Started s) where
-  pub start-on : OnCircle s.n s.at
-  start-on = on-circle-to s.n s.at h.on
+  pub start_on : OnCircle s.n s.at
+  start_on = on_circle_to s.n s.at h.on
 
-  pub quarter-is : s.quarter ≡ quarterOf s.n
-  unfolding jumpStart
-  quarter-is = ap (λ (x : Start). x.quarter) h.is
+  pub quarter_is : s.quarter ≡ quarter_of s.n
+  unfolding jump_start
+  quarter_is = ap (λ (x : Start). x.quarter) h.is
 
-  pub radius-is : s.radius ≡ nearestRoot s.n
-  unfolding jumpStart
-  radius-is = ap (λ (x : Start). x.radius) h.is
+  pub radius_is : s.radius ≡ nearest_root s.n
+  unfolding jump_start
+  radius_is = ap (λ (x : Start). x.radius) h.is
 
-  pub place_is : s.place ≡ seenPlace s.turn s.at
-  unfolding jumpStart
+  pub place_is : s.place ≡ seen_place s.turn s.at
+  unfolding jump_start
   place_is = ap (λ (x : Start). x.place) h.is
 
-  pub from_is : s.from ≡ spanTo (quarterOf s.n) (nearestRoot s.n) (seenPlace s.turn s.at)
-  unfolding jumpStart
+  pub from_is : s.from ≡ span_to (quarter_of s.n) (nearest_root s.n) (seen_place s.turn s.at)
+  unfolding jump_start
   from_is = ap (λ (x : Start). x.from) h.is
 
   -- its numbers are small
-  pub start-bounds : StartBounds s
-  start-bounds =
+  pub start_bounds : StartBounds s
+  start_bounds =
       let n = s.n in
-      let o = start-on in
-      let rank = rank-bound n s.turn s.at h.on in
-      let toll = toll-bound n s.turn s.at h.on in
-      let most = round-bound n s.at h.on in
+      let o = start_on in
+      let rank = rank_bound n s.turn s.at h.on in
+      let toll = toll_bound n s.turn s.at h.on in
+      let most = round_bound n s.at h.on in
       record {
-        some = rw quarter-is (quarter-some n o.some o.bound);
-        quarter = rw quarter-is (quarter-most n o.some o.bound);
-        radius = rw radius-is (radius-bound n o.some o.bound);
-        rank = rw (quarter-is, ap (λ (w : Span). w.cycles) from_is) rank;
-        toll = rw (quarter-is, radius-is, ap (λ (w : Span). w.charges) from_is) toll;
-        round = rw (quarter-is, radius-is) most;
+        some = rw quarter_is (quarter_some n o.some o.bound);
+        quarter = rw quarter_is (quarter_most n o.some o.bound);
+        radius = rw radius_is (radius_bound n o.some o.bound);
+        rank = rw (quarter_is, ap (λ (w : Span). w.cycles) from_is) rank;
+        toll = rw (quarter_is, radius_is, ap (λ (w : Span). w.charges) from_is) toll;
+        round = rw (quarter_is, radius_is) most;
       }
 
   -- the place so many cycles on
-  pub place_after : (c : ℕ) → placeAt s.n s.quarter (s.from.cycles + c) ≡ seenPlace s.turn (pointOn s c)
-  place_after c = rw (quarter-is, ap (λ (w : Span). w.cycles) from_is) (after-place s.turn s.at start-on.circle c)
+  pub place_after_lem : (c : ℕ) → place_at s.n s.quarter (s.from.cycles + c) ≡ seen_place s.turn (point_on s c)
+  place_after_lem c = rw (quarter_is, ap (λ (w : Span). w.cycles) from_is) (after_place s.turn s.at start_on.circle c)
 
-  pub tolled-after : (c : ℕ) → Tolled (quarterOf s.n) (nearestRoot s.n) (seenPlace s.turn (pointOn s c))
-  tolled-after c = tolled s.n s.turn (pointOn s c) (after_on s.n s.turn s.at c h.on)
+  pub tolled_after : (c : ℕ) → Tolled (quarter_of s.n) (nearest_root s.n) (seen_place s.turn (point_on s c))
+  tolled_after c = tolled s.n s.turn (point_on s c) (after_on s.n s.turn s.at c h.on)
 
-  pub toll-after : (c : ℕ) → tollOf s.quarter s.radius (seenPlace s.turn (pointOn s c)) < roundChargesOf s.quarter s.radius
-  toll-after c = rw (quarter-is, radius-is) (toll-bound s.n s.turn (pointOn s c) (after_on s.n s.turn s.at c h.on))
+  pub toll_after : (c : ℕ) → toll_of s.quarter s.radius (seen_place s.turn (point_on s c)) < round_charges_of s.quarter s.radius
+  toll_after c = rw (quarter_is, radius_is) (toll_bound s.n s.turn (point_on s c) (after_on s.n s.turn s.at c h.on))
 
   -- what the code answers is where the walk is
-  pub reached-is : (c w : ℕ) (q : Place) → 1 ≤ c → c ≤ 4 * s.quarter → q ≡ placeAt s.n s.quarter (s.from.cycles + c)
-      → w ≡ onward (roundChargesOf s.quarter s.radius) s.from.charges (tollOf s.quarter s.radius q)
-      → record { cycles = c; charges = w; place = q } ≡ arrivedOf s c
-  unfolding arrivedOf
-  reached-is c w q l m e f =
-      let there = e ∙ place_after c in
-      let most : c ≤ 4 * quarterOf s.n = omega (arith, quarter-is) in
+  pub reached_is : (c w : ℕ) (q : Place) → 1 ≤ c → c ≤ 4 * s.quarter → q ≡ place_at s.n s.quarter (s.from.cycles + c)
+      → w ≡ onward (round_charges_of s.quarter s.radius) s.from.charges (toll_of s.quarter s.radius q)
+      → record { cycles = c; charges = w; place = q } ≡ arrived_of s c
+  unfolding arrived_of
+  reached_is c w q l m e f =
+      let there = e ∙ place_after_lem c in
+      let most : c ≤ 4 * quarter_of s.n = omega (arith, quarter_is) in
       let toll = ap (λ (w : Span). w.charges) from_is in
-      let apart = charges-after s.turn s.at start-on.circle c l most in
-      let sum : w ≡ chargesOn s c = rw (f, quarter-is, radius-is, toll, there) (sym apart) in
+      let apart = charges_after s.turn s.at start_on.circle c l most in
+      let sum : w ≡ charges_on s c = rw (f, quarter_is, radius_is, toll, there) (sym apart) in
       λ i. record { cycles = c; charges = sum i; place = there i }
 
 -- back from quadrant form
-pub seen-point : {n : ℕ} (t : Turn) (p : Offset) → Circle n p → seen t (pointAt (seenPlace t p)) ≡ p
-seen-point t p o = ap (seen t) (seen-form t p o).is ∙ seen-seen t p
+pub seen_point : {n : ℕ} (t : Turn) (p : Offset) → Circle n p → seen t (point_at (seen_place t p)) ≡ p
+seen_point t p o = ap (seen t) (seen_form t p o).is ∙ seen_seen t p
 
 -- small coordinates
 pub record SmallPlace (q : Place) : Type 0 where
   pub four : q.quadrant < 4
   pub along : q.along ≤ 1414214
   pub across : q.across ≤ 1414214
-  pub height : nat_abs (pointAt q).y ≤ 1414214
+  pub height : nat_abs (point_at q).y ≤ 1414214
 
-pub reached-small : {s : Start} → Started s → (c : ℕ) → SmallPlace (arrivedOf s c).place
-unfolding arrivedOf
-reached-small {s} h c =
-    let m = tolled-after h c in
-    let q = seenPlace s.turn (pointOn s c) in
+pub reached_small : {s : Start} → Started s → (c : ℕ) → SmallPlace (arrived_of s c).place
+unfolding arrived_of
+reached_small {s} h c =
+    let m = tolled_after h c in
+    let q = seen_place s.turn (point_on s c) in
     let a : q.along ≤ 1414214 = omega (arith, m.reach, m.radius) in
     let b : q.across ≤ 1414214 = omega (arith, m.side, m.radius) in
-    record { four = m.ranked.four; along = a; across = b; height = (turned-small q.quadrant 1414214 _ a b).1 }
+    record { four = m.ranked.four; along = a; across = b; height = (turned_small q.quadrant 1414214 _ a b).1 }

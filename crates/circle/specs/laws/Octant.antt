@@ -1,11 +1,11 @@
--- The circle points of one octant, 0 ≤ y ≤ x, over the naturals. Products of orders (`apart`, `apart-le`) are all that `omega` has to
+-- The circle points of one octant, 0 ≤ y ≤ x, over the naturals. Products of orders (`apart`, `apart_le`) are all that `omega` has to
 -- be told.
 use Rattle.std.specs.Prelude.{◌≡◌, ◌⊎◌, ℕ, zero, suc, ◌+◌, ◌*◌, ◌≤◌, ◌<◌}
 use Rattle.std.proofs.Common.{sym, inl, inr, le_antisymm, le_refl, le_of_lt, mul-le-mul, mul-le-mul_left, mul-le-mul_right, mul-lt-mul_of_pos_right, lt_of_not-le, arith}
 use Rattle.std.proofs.Math.Nat.{le_of_mul-le-mul_left}
 use Rattle.std.proofs.Math.Decide.{dec_le}
-use Rattle.whole.specs.Root.{nearestRoot}
-use Rattle.whole.specs.laws.Root.{NearestRoot, nearest-root, nearest-root-is}
+use Rattle.whole.specs.Root.{nearest_root}
+use Rattle.whole.specs.laws.Root.{NearestRoot, nearest_root_lem, nearest_root_is}
 
 -- -m ≤ F < m where m is x
 pub record Octant (n x y : ℕ) : Type 0 where
@@ -33,25 +33,25 @@ unless f = omega arith
 pub apart : {x u : ℕ} → x < u → x * x + x + u ≤ u * u
 apart {x} {u} h = omega (arith, mul-le-mul_right (u + x) h)
 
-pub apart-le : {y x : ℕ} → y ≤ x → y * y + x ≤ x * x + y
-apart-le {y} {x} h = by (dec_le x y)
+pub apart_le : {y x : ℕ} → y ≤ x → y * y + x ≤ x * x + y
+apart_le {y} {x} h = by (dec_le x y)
   where
     by : Dec (x ≤ y) → y * y + x ≤ x * x + y
     by (yes k) = omega (arith, mul-le-mul h h)
     by (no f) = omega (arith, apart (lt_of_not-le f))
 
-pub self-square : (y : ℕ) → y ≤ y * y
-self-square zero = omega arith
-self-square (suc y) = omega arith
+pub self_square : (y : ℕ) → y ≤ y * y
+self_square zero = omega arith
+self_square (suc y) = omega arith
 
 -- ---- one octant
 
 module _ {n x y : ℕ} (h : Octant n x y) where
   pub some : 1 ≤ x
-  some = unless (λ g. omega (arith, mul-le-mul h.wide h.wide, apart-le h.wide))
+  some = unless (λ g. omega (arith, mul-le-mul h.wide h.wide, apart_le h.wide))
 
-  pub some-n : 1 ≤ n
-  some-n = omega (arith, apart-le h.wide, self-square y, self-square x)
+  pub some_n : 1 ≤ n
+  some_n = omega (arith, apart_le h.wide, self_square y, self_square x)
 
   -- on the diagonal the two octants are one
   pub diagonal : x ≤ y → Octant n y x
@@ -79,11 +79,11 @@ module _ {n x y u v : ℕ} (h : Octant n x y) (k : Octant n u v) where
 
 -- y is at most half a quarter turn
 pub minor : {n x y q : ℕ} → Octant n x y → Axis (2 * n) q → 2 * y ≤ q
-minor h k = unless (λ g. omega (arith, apart g, apart-le h.wide))
+minor h k = unless (λ g. omega (arith, apart g, apart_le h.wide))
 
 -- past the diagonal there is no point of the octant
 pub past : {n u v : ℕ} (y : ℕ) → n + (y + 1) ≤ 2 * ((y + 1) * (y + 1)) → Octant n u v → y + 1 ≤ v → ⊥
-past y e k l = omega (arith, apart-le k.wide, apart-le l)
+past y e k l = omega (arith, apart_le k.wide, apart_le l)
 
 -- ---- the first quadrant
 
@@ -116,25 +116,25 @@ above (inl h) l = diagonal h l
 above (inr h) l = h
 
 -- no coordinate passes that on the axis
-pub under-axis : {n a b r : ℕ} → Quadrant n a b → Axis n r → (a ≤ r) × (b ≤ r)
-under-axis (inl h) k = omega (arith, falls k h (omega arith))
-under-axis (inr h) k = omega (arith, falls k h (omega arith))
+pub under_axis : {n a b r : ℕ} → Quadrant n a b → Axis n r → (a ≤ r) × (b ≤ r)
+under_axis (inl h) k = omega (arith, falls k h (omega arith))
+under_axis (inr h) k = omega (arith, falls k h (omega arith))
 
 -- ---- the nearest root
 
-pub axis-of : {n r : ℕ} → NearestRoot n r → Axis n r
-axis-of h = omega arith
+pub axis_of : {n r : ℕ} → NearestRoot n r → Axis n r
+axis_of h = omega arith
 
-pub nearest-axis : (n : ℕ) → 1 ≤ n → Axis n (nearestRoot n)
-nearest-axis n some = axis-of (nearest-root n some)
+pub nearest_axis : (n : ℕ) → 1 ≤ n → Axis n (nearest_root n)
+nearest_axis n some = axis_of (nearest_root_lem n some)
 
-pub axis-is : {n r : ℕ} → Axis n r → r ≡ nearestRoot n
-axis-is h = nearest-root-is (record { below = omega arith; above = omega arith })
+pub axis_is : {n r : ℕ} → Axis n r → r ≡ nearest_root n
+axis_is h = nearest_root_is (record { below = omega arith; above = omega arith })
 
 -- the axis point is within E: one product, no root
 module _ {n r : ℕ} (h : Axis n r) (e : ℕ) where
-  pub axis-within : r ≤ e → n ≤ e * e + e
-  axis-within l = omega (arith, mul-le-mul l l)
+  pub axis_within : r ≤ e → n ≤ e * e + e
+  axis_within l = omega (arith, mul-le-mul l l)
 
-  pub within-axis : n ≤ e * e + e → r ≤ e
-  within-axis l = unless (λ g. omega (arith, apart g))
+  pub within_axis : n ≤ e * e + e → r ≤ e
+  within_axis l = unless (λ g. omega (arith, apart g))

@@ -2,7 +2,7 @@
 use Rattle.std.specs.Prelude.{◌≡◌, refl, Bool, true, false, cond, ℕ, zero, suc, ◌+◌, ◌-◌, ◌*◌, ◌≤◌, ◌<◌, leb, ltb}
 use Rattle.std.proofs.Common.{subst, inl, inr, mul-le-mul, mul-le-mul_left, arith, leb-true, leb-false, ltb-true, ltb-false}
 use Rattle.std.proofs.Math.Decide.{dec_le}
-use Rattle.circle.specs.computed.Step.{firstStep}
+use Rattle.circle.specs.computed.Step.{first_step}
 use Rattle.circle.specs.laws.Octant.{Quadrant, rises, past, below, above}
 
 -- The five cases of a step from (x, y) to s, so that no later proof sees a test or a subtraction:
@@ -14,9 +14,9 @@ pub data Step (n : ℕ) : (x y : ℕ) → ℕ × ℕ → Type 0 where
   fall : {x y : ℕ} → x < y → n ≤ x * x + y * y + y → Step n (suc x) y (x, y)
   climb : {x y : ℕ} → x < y → x * x + y * y + y < n → Step n (suc x) y (x, y + 1)
 
-step-suc : (n x y : ℕ) → Step n (suc x) y (firstStep n (suc x) y)
-unfolding firstStep
-step-suc n x y = let less : suc x - 1 ≡ x = omega arith in rw less (by (ltb y a) refl)
+step_suc : (n x y : ℕ) → Step n (suc x) y (first_step n (suc x) y)
+unfolding first_step
+step_suc n x y = let less : suc x - 1 ≡ x = omega arith in rw less (by (ltb y a) refl)
   where
     a : ℕ
     a = suc x
@@ -31,24 +31,24 @@ step-suc n x y = let less : suc x - 1 ≡ x = omega arith in rw less (by (ltb y 
     inward (yes g) l h = cut g (omega arith)
     inward (no f) l h = beside (omega arith) (omega arith)
 
-    in-low : (t : Bool) → y < a → ltb (S + 2 * y + 1) (n + a) ≡ t → Step n a y (cond t (a, y + 1) (x, y + 1))
-    in-low true l e = rise l (omega (arith, ltb-true (S + 2 * y + 1) (n + a) e))
-    in-low false l e = inward (dec_le (suc y) x) l (ltb-false (S + 2 * y + 1) (n + a) e)
+    in_low : (t : Bool) → y < a → ltb (S + 2 * y + 1) (n + a) ≡ t → Step n a y (cond t (a, y + 1) (x, y + 1))
+    in_low true l e = rise l (omega (arith, ltb-true (S + 2 * y + 1) (n + a) e))
+    in_low false l e = inward (dec_le (suc y) x) l (ltb-false (S + 2 * y + 1) (n + a) e)
 
-    in-high : (t : Bool) → a ≤ y → leb (n + 2 * a) (S + y + 1) ≡ t → Step n a y (cond t (x, y) (x, y + 1))
-    in-high true l e = fall l (omega (arith, leb-true (n + 2 * a) (S + y + 1) e))
-    in-high false l e = climb l (omega (arith, leb-false (n + 2 * a) (S + y + 1) e))
+    in_high : (t : Bool) → a ≤ y → leb (n + 2 * a) (S + y + 1) ≡ t → Step n a y (cond t (x, y) (x, y + 1))
+    in_high true l e = fall l (omega (arith, leb-true (n + 2 * a) (S + y + 1) e))
+    in_high false l e = climb l (omega (arith, leb-false (n + 2 * a) (S + y + 1) e))
 
     by : (t : Bool) → ltb y a ≡ t
         → Step n a y (cond t
         (cond (ltb (S + 2 * y + 1) (n + a)) (a, y + 1) (x, y + 1))
         (cond (leb (n + 2 * a) (S + y + 1)) (x, y) (x, y + 1)))
-    by true e = in-low (ltb (S + 2 * y + 1) (n + a)) (ltb-true y a e) refl
-    by false e = in-high (leb (n + 2 * a) (S + y + 1)) (ltb-false y a e) refl
+    by true e = in_low (ltb (S + 2 * y + 1) (n + a)) (ltb-true y a e) refl
+    by false e = in_high (leb (n + 2 * a) (S + y + 1)) (ltb-false y a e) refl
 
-pub step_is : {n : ℕ} (x y : ℕ) → 1 ≤ x → Step n x y (firstStep n x y)
+pub step_is : {n : ℕ} (x y : ℕ) → 1 ≤ x → Step n x y (first_step n x y)
 step_is zero y l = absurd (omega arith)
-step_is {n} (suc x) y l = step-suc n x y
+step_is {n} (suc x) y l = step_suc n x y
 
 -- on the circle again
 pub stays : {n x y : ℕ} {s : ℕ × ℕ} → Quadrant n x y → Step n x y s → Quadrant n s.0 s.1
@@ -61,11 +61,11 @@ stays c (climb l h) = let o = above c l in inr (omega arith)
 -- forward: by the cross product, and in each coordinate by 1 at most
 pub record Ahead (x y : ℕ) (s : ℕ × ℕ) : Type 0 where
   pub left : y * s.0 < x * s.1
-  pub in-x : s.0 ≤ x
-  pub near-x : x ≤ s.0 + 1
-  pub up-y : y ≤ s.1
-  pub near-y : s.1 ≤ y + 1
-  pub some-y : 1 ≤ s.1
+  pub in_x : s.0 ≤ x
+  pub near_x : x ≤ s.0 + 1
+  pub up_y : y ≤ s.1
+  pub near_y : s.1 ≤ y + 1
+  pub some_y : 1 ≤ s.1
 
 pub ahead : {n x y : ℕ} {s : ℕ × ℕ} → Step n x y s → Ahead x y s
 ahead (rise l h) = omega arith
@@ -91,4 +91,4 @@ between c (climb l h) (inr k) e f =
 
 -- nor one of the opposite quadrant
 pub opposite : {x y : ℕ} {s : ℕ × ℕ} (u v : ℕ) → Ahead x y s → x * v < y * u → u * s.1 < v * s.0 → ⊥
-opposite u v a e f = omega (arith, mul-le-mul_left v a.in-x, mul-le-mul_left u a.up-y)
+opposite u v a e f = omega (arith, mul-le-mul_left v a.in_x, mul-le-mul_left u a.up_y)

@@ -8,12 +8,12 @@ use borrow.Author.Rules.{rules}
 use mir.Syntax.{w64}
 use mir.Val.{SFits}
 use mir.Facts.{to_z-of_z}
-use Rattle.clearance.specs.computed.Travel.{belowTest}
+use Rattle.clearance.specs.computed.Travel.{below_test}
 use Rattle.clearance.proofs.below.Statement.{statement}
 use Rattle.clearance.proofs.below.Tie as tie
 
 returns : tie.Need-returns
-unfolding belowTest
+unfolding below_test
 returns c =
     let s = c.before.before.before.before.before.args in
     let f : SFits w64 s.p.x = search rules in
@@ -22,9 +22,9 @@ returns c =
     simp to_z-of_z at (not-true (le_z (to_z w64 (of_z w64 s.p.x)) (to_z w64 (of_z w64 s.corner.x))) c.if1.true) in
     rw e
 
-returns-2 : tie.Need-returns-2
-unfolding belowTest
-returns-2 c =
+returns_2 : tie.Need-returns-2
+unfolding below_test
+returns_2 c =
     let x = c.before.before.before.before in
     let s = x.before.before.before.before.before.args in
     let f : SFits w64 s.p.x = search rules in
@@ -35,5 +35,5 @@ returns-2 c =
     simp to_z-of_z at (not-false (le_z (to_z w64 (of_z w64 s.p.x)) (to_z w64 (of_z w64 s.corner.x))) x.if1.false) in
     simp (to_z-of_z, e)
 
-pub below-spec : {M : Type 1} → statement M
-below-spec = tie.close (tie.spec returns returns-2)
+pub below_spec : {M : Type 1} → statement M
+below_spec = tie.close (tie.spec returns returns_2)

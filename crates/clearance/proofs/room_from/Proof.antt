@@ -9,8 +9,8 @@ use Rattle.clearance.proofs.room_from.Tie as tie
 enum_told : tie.Need-enum-told
 enum_told c = search rules
 
-enum-told-2 : tie.Need-enum-told-2
-enum-told-2 c = search rules
+enum_told_2 : tie.Need-enum-told-2
+enum_told_2 c = search rules
 
 returns : tie.Need-returns
 returns c =
@@ -21,8 +21,8 @@ returns c =
     let k : SFits w64 room.down = search rules in
     simp (to_z-of_z, c.before.enum_told.given.1)
 
-returns-2 : tie.Need-returns-2
-returns-2 c = search rules
+returns_2 : tie.Need-returns-2
+returns_2 c = search rules
 
-pub room-from-spec : {M : Type 1} → statement M
-room-from-spec = tie.close (tie.spec enum_told enum-told-2 returns returns-2)
+pub room_from_spec : {M : Type 1} → statement M
+room_from_spec = tie.close (tie.spec enum_told enum_told_2 returns returns_2)

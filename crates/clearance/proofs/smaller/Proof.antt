@@ -13,12 +13,12 @@ returns c =
     let e : le_z c.before.args.a c.before.args.b ≡ true = simp to_z-of_z at c.if1.true in
     simp (to_z-of_z, e)
 
-returns-2 : tie.Need-returns-2
-returns-2 c =
+returns_2 : tie.Need-returns-2
+returns_2 c =
     let f = c.before.ranges.a in
     let g = c.before.ranges.b in
     let e : le_z c.before.args.a c.before.args.b ≡ false = simp to_z-of_z at c.if1.false in
     simp (to_z-of_z, e)
 
-pub smaller-spec : {M : Type 1} → statement M
-smaller-spec = tie.close (tie.spec returns returns-2)
+pub smaller_spec : {M : Type 1} → statement M
+smaller_spec = tie.close (tie.spec returns returns_2)

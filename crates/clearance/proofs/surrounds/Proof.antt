@@ -5,55 +5,55 @@ use mir.Syntax.{w64}
 use mir.Val.{SFits}
 use mir.Facts.{to_z-of_z}
 use Rattle.clearance.specs.declared.Room.{Room}
-use Rattle.clearance.specs.computed.Travel.{reaches, smallerOf}
-use Rattle.clearance.specs.laws.Inside.{leastSide, surrounding}
+use Rattle.clearance.specs.computed.Travel.{reaches, smaller_of}
+use Rattle.clearance.specs.laws.Inside.{least_side, surrounding}
 use Rattle.clearance.proofs.surrounds.Statement.{statement}
 use Rattle.clearance.proofs.surrounds.Tie as tie
 
 abbrev room : tie.After-smaller → Room
 room c = c.before.before.before.args.room
 
-x-is : (c : tie.After-smaller) → c.smaller.result ≡ smallerOf (room c).right (room c).left
-x-is c =
+x_is : (c : tie.After-smaller) → c.smaller.result ≡ smaller_of (room c).right (room c).left
+x_is c =
     let f : SFits w64 (room c).right = search rules in
     let g : SFits w64 (room c).left = search rules in
     simp to_z-of_z at c.smaller.ensures
 
-y-is : (c : tie.After-smaller2) → let r = room c.before.before.before in c.smaller2.result ≡ smallerOf r.up r.down
-y-is c =
+y_is : (c : tie.After-smaller2) → let r = room c.before.before.before in c.smaller2.result ≡ smaller_of r.up r.down
+y_is c =
     let r = room c.before.before.before in
     let f : SFits w64 r.up = search rules in
     let g : SFits w64 r.down = search rules in
     simp to_z-of_z at c.smaller2.ensures
 
-least-is : (c : tie.After-smaller3) → c.smaller3.result ≡ leastSide (room c.before.before.before.before)
-least-is c =
+least_is : (c : tie.After-smaller3) → c.smaller3.result ≡ least_side (room c.before.before.before.before)
+least_is c =
     let y = c.before in
     let x = y.before.before.before in
     let f : SFits w64 x.smaller.result = search rules in
     let g : SFits w64 y.smaller2.result = search rules in
-    (simp to_z-of_z at c.smaller3.ensures) ∙ ap₂ smallerOf (x-is x) (y-is y)
+    (simp to_z-of_z at c.smaller3.ensures) ∙ ap₂ smaller_of (x_is x) (y_is y)
 
-smaller-requires : tie.Need-smaller-requires
-smaller-requires c κs = search rules
+smaller_requires : tie.Need-smaller-requires
+smaller_requires c κs = search rules
 
-smaller-requires-2 : tie.Need-smaller-requires-2
-smaller-requires-2 c κs = search rules
+smaller_requires_2 : tie.Need-smaller-requires-2
+smaller_requires_2 c κs = search rules
 
-smaller-requires-3 : tie.Need-smaller-requires-3
-smaller-requires-3 c κs = search rules
+smaller_requires_3 : tie.Need-smaller-requires-3
+smaller_requires_3 c κs = search rules
 
-reaches-axis-requires : tie.Need-reaches-axis-requires
-reaches-axis-requires c κs = search rules
+reaches_axis_requires : tie.Need-reaches-axis-requires
+reaches_axis_requires c κs = search rules
 
 returns : tie.Need-returns
 returns c =
     let s = c.before.before.before.before.before.before.before.before.args in
     let f : SFits w64 c.before.smaller3.result = search rules in
-    let is = (simp to_z-of_z at c.reaches-axis.ensures) ∙ ap (reaches s.n) (least-is c.before) in
+    let is = (simp to_z-of_z at c.reaches-axis.ensures) ∙ ap (reaches s.n) (least_is c.before) in
     λ e. surrounding s.n s.room (sym is ∙ e)
 
-pub surrounds-spec : {M : Type 1} → statement M
-surrounds-spec =
+pub surrounds_spec : {M : Type 1} → statement M
+surrounds_spec =
     tie.close
-    (tie.spec smaller-requires smaller-requires-2 smaller-requires-3 reaches-axis-requires returns)
+    (tie.spec smaller_requires smaller_requires_2 smaller_requires_3 reaches_axis_requires returns)

@@ -6,7 +6,7 @@ use Rattle.circle.specs.declared.quadrant.Place.{Place}
 pub record Crossing (p e : Place) : Type 0 where
   pub from : p.quadrant < 4
   pub to : e.quadrant < 4
-  pub along-p : p.along ≤ 2000000
-  pub across-p : p.across ≤ 2000000
-  pub along-e : e.along ≤ 2000000
-  pub across-e : e.across ≤ 2000000
+  pub along_p : p.along ≤ 2000000
+  pub across_p : p.across ≤ 2000000
+  pub along_e : e.along ≤ 2000000
+  pub across_e : e.across ≤ 2000000

@@ -6,18 +6,18 @@ use mir.Val.{SFits}
 use mir.Facts.{to_z-of_z}
 use Rattle.block.specs.declared.Block.{Block}
 use Rattle.calls.specs.Calls.{WordCall}
-use Rattle.calls.specs.computed.Calls.{toldOf}
+use Rattle.calls.specs.computed.Calls.{told_of}
 use Rattle.cmachine.proofs.vz_load_cw.Statement.{statement}
 use Rattle.cmachine.proofs.vz_load_cw.Tie as tie
 
-arc-requires : tie.Need-arc-requires
-arc-requires c κs = search rules
+arc_requires : tie.Need-arc-requires
+arc_requires c κs = search rules
 
-block-requires : tie.Need-block-requires
-block-requires c κs = search rules
+block_requires : tie.Need-block-requires
+block_requires c κs = search rules
 
-load-requires : tie.Need-load-requires
-load-requires c κs = search rules
+load_requires : tie.Need-load-requires
+load_requires c κs = search rules
 
 returns : tie.Need-returns
 returns c =
@@ -28,8 +28,8 @@ returns c =
     let feed = s.ranges.feed in
     let i = s.ranges.i in
     let j = s.ranges.j in
-    simp to_z-of_z (c.load.ensures ∙ ap (λ (b : Block). toldOf s.args.words.now (WordCall.load b)) (simp
+    simp to_z-of_z (c.load.ensures ∙ ap (λ (b : Block). told_of s.args.words.now (WordCall.load b)) (simp
     (to_z-of_z, c.before.before.before.arc.ensures) at c.before.block.ensures))
 
-pub vz-load-cw-spec : {M : Type 1} → statement M
-vz-load-cw-spec = tie.close (tie.spec arc-requires block-requires load-requires returns)
+pub vz_load_cw_spec : {M : Type 1} → statement M
+vz_load_cw_spec = tie.close (tie.spec arc_requires block_requires load_requires returns)

@@ -6,15 +6,15 @@ use mir.Val.{SFits}
 use mir.Facts.{to_z-of_z}
 use Rattle.block.specs.declared.Block.{Block}
 use Rattle.calls.specs.Calls.{WordCall}
-use Rattle.calls.specs.computed.Calls.{toldOf}
+use Rattle.calls.specs.computed.Calls.{told_of}
 use Rattle.cmachine.proofs.vz_load_line.Statement.{statement}
 use Rattle.cmachine.proofs.vz_load_line.Tie as tie
 
-block-requires : tie.Need-block-requires
-block-requires c κs = search rules
+block_requires : tie.Need-block-requires
+block_requires c κs = search rules
 
-load-requires : tie.Need-load-requires
-load-requires c κs = search rules
+load_requires : tie.Need-load-requires
+load_requires c κs = search rules
 
 returns : tie.Need-returns
 returns c =
@@ -23,8 +23,8 @@ returns c =
     let x = s.ranges.x in
     let y = s.ranges.y in
     let feed = s.ranges.feed in
-    simp to_z-of_z (c.load.ensures ∙ ap (λ (b : Block). toldOf s.args.words.now (WordCall.load b)) (simp to_z-of_z at
+    simp to_z-of_z (c.load.ensures ∙ ap (λ (b : Block). told_of s.args.words.now (WordCall.load b)) (simp to_z-of_z at
     c.before.block.ensures))
 
-pub vz-load-line-spec : {M : Type 1} → statement M
-vz-load-line-spec = tie.close (tie.spec block-requires load-requires returns)
+pub vz_load_line_spec : {M : Type 1} → statement M
+vz_load_line_spec = tie.close (tie.spec block_requires load_requires returns)

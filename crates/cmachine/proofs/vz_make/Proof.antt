@@ -6,8 +6,8 @@ use mir.Facts.{to_z-of_z}
 use Rattle.cmachine.proofs.vz_make.Statement.{statement}
 use Rattle.cmachine.proofs.vz_make.Tie as tie
 
-make-requires : tie.Need-make-requires
-make-requires c κs = search rules
+make_requires : tie.Need-make-requires
+make_requires c κs = search rules
 
 returns : tie.Need-returns
 returns c =
@@ -21,5 +21,5 @@ returns c =
     let yhi = f.yhi in
     simp to_z-of_z (simp to_z-of_z at c.make.ensures)
 
-pub vz-make-spec : {M : Type 1} → statement M
-vz-make-spec = tie.close (tie.spec make-requires returns)
+pub vz_make_spec : {M : Type 1} → statement M
+vz_make_spec = tie.close (tie.spec make_requires returns)

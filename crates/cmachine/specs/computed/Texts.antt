@@ -5,13 +5,13 @@ use Rattle.machine.specs.declared.Machine.{Machine}
 use Rattle.reader.specs.declared.Reader.{Reader}
 use Rattle.reader.specs.declared.asked.ToLoad.{ToLoad}
 use Rattle.textline.specs.declared.ReadLine.{ReadLine}
-use Rattle.textline.specs.computed.TextLine.{takes, readLineOf}
-use Rattle.record.specs.Words.{encodeOf, over}
-use Rattle.record.specs.computed.Words.{machineIn, soundWords}
-use Rattle.progress.specs.Known.{encodeKnown}
-use Rattle.progress.specs.computed.Known.{decodeKnown}
+use Rattle.textline.specs.computed.TextLine.{takes, read_line_of}
+use Rattle.record.specs.Words.{encode_of, over}
+use Rattle.record.specs.computed.Words.{machine_in, sound_words}
+use Rattle.progress.specs.Known.{encode_known}
+use Rattle.progress.specs.computed.Known.{decode_known}
 use Rattle.cmachine.specs.declared.text.Heard.{Heard}
-use Rattle.cmachine.specs.Texts.{readNumber}
+use Rattle.cmachine.specs.Texts.{read_number}
 
 -- the answer, the words of the record and of what is known after it
 pub record ToldLine : Type 0 where
@@ -19,25 +19,25 @@ pub record ToldLine : Type 0 where
   pub words : List ℤ
   pub known : List ℤ
 
-abbrev pub tellsLine : (answer : ℤ) (words known : List ℤ) → ToldLine
-tellsLine n ws ks = record { answer = n; words = ws; known = ks }
+abbrev pub tells_line : (answer : ℤ) (words known : List ℤ) → ToldLine
+tells_line n ws ks = record { answer = n; words = ws; known = ks }
 
 -- the record's words go to the front of the caller's; those behind them stay
-abbrev pub lineTold : (before : List ℤ) → ReadLine → ToldLine
-lineTold ws r = tellsLine (readNumber r.answer) (over (encodeOf r.machine) ws) (encodeKnown r.reader)
+abbrev pub line_told : (before : List ℤ) → ReadLine → ToldLine
+line_told ws r = tells_line (read_number r.answer) (over (encode_of r.machine) ws) (encode_known r.reader)
 
 -- Words of no sound record, and words that tell nothing known, get 9 and stay as they are.
-unfoldable pub toldLineOf : (ws ks : List ℤ) (line : List ℕ) → ToldLine
-toldLineOf ws ks line =
-    cond (soundWords ws && (decodeKnown ks).ok)
-    (lineTold ws (readLineOf (decodeKnown ks).reader (machineIn ws) line))
-    (tellsLine (negsuc 8) ws ks)
+unfoldable pub told_line_of : (ws ks : List ℤ) (line : List ℕ) → ToldLine
+told_line_of ws ks line =
+    cond (sound_words ws && (decode_known ks).ok)
+    (line_told ws (read_line_of (decode_known ks).reader (machine_in ws) line))
+    (tells_line (negsuc 8) ws ks)
 
 -- ---- inner functions' answers
 
-abbrev pub heardOf : ReadLine → Heard
-heardOf r = record { read = r.answer; reader = r.reader }
+abbrev pub heard_of : ReadLine → Heard
+heard_of r = record { read = r.answer; reader = r.reader }
 
 -- of a line that asks for a block
-abbrev pub loadsOf : (before after : Reader) → Machine → Block → ReadLine
-loadsOf k k' m b = takes k k' m (ToLoad.Block b)
+abbrev pub loads_of : (before after : Reader) → Machine → Block → ReadLine
+loads_of k k' m b = takes k k' m (ToLoad.Block b)

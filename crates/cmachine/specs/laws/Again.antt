@@ -3,79 +3,79 @@ use Rattle.std.specs.Prelude.{◌≡◌, Bool, ℕ, zero, suc, ltb}
 use Rattle.std.proofs.Math.Path.{refl}
 use Rattle.std.proofs.Math.Bool.{true, false}
 use Rattle.block.specs.declared.Block.{Block}
-use Rattle.block.specs.Questions.{loadNo}
-use Rattle.queue.specs.Queue.{emptyQueue}
-use Rattle.work.specs.Work.{isNothing, begunOf}
-use Rattle.settings.specs.Settings.{capacityOf}
-use Rattle.bench.specs.computed.Calls.{tickOf as benchTick}
+use Rattle.block.specs.Questions.{load_no}
+use Rattle.queue.specs.Queue.{empty_queue}
+use Rattle.work.specs.Work.{is_nothing, begun_of}
+use Rattle.settings.specs.Settings.{capacity_of}
+use Rattle.bench.specs.computed.Calls.{tick_of as bench_tick}
 use Rattle.machine.specs.declared.Machine.{Machine}
-use Rattle.machine.specs.computed.Machine.{soundOf}
+use Rattle.machine.specs.computed.Machine.{sound_of}
 use Rattle.machine.specs.Machine.{machine_of, start_of}
-use Rattle.machine.specs.computed.Calls.{takes, loadWith, load_of, tickOf, holdOf, releaseOf, stopOf}
+use Rattle.machine.specs.computed.Calls.{takes, load_with, load_of, tick_of, hold_of, release_of, stop_of}
 use Rattle.machine.specs.laws.Right.{Sound, sound}
-use Rattle.machine.specs.laws.Load.{room-left}
-use Rattle.machine.specs.laws.Keeps.{load-keeps, tick-keeps, hold-keeps, release-keeps, stop-keeps}
-use Rattle.record.specs.laws.Again.{Blanks, next-blanks, push-blanks}
+use Rattle.machine.specs.laws.Load.{room_left}
+use Rattle.machine.specs.laws.Keeps.{load_keeps, tick_keeps, hold_keeps, release_keeps, stop_keeps}
+use Rattle.record.specs.laws.Again.{Blanks, next_blanks, push_blanks}
 use Rattle.calls.specs.Calls.{WordCall}
 
 -- the machine after a call
-abbrev pub machineAfter : Machine → WordCall → Machine
-machineAfter m (WordCall.load b) = (load_of m b).machine
-machineAfter m WordCall.tick = (tickOf m).machine
-machineAfter m WordCall.hold = (holdOf m).machine
-machineAfter m WordCall.release = (releaseOf m).machine
-machineAfter m WordCall.stop = (stopOf m).machine
+abbrev pub machine_after : Machine → WordCall → Machine
+machine_after m (WordCall.load b) = (load_of m b).machine
+machine_after m WordCall.tick = (tick_of m).machine
+machine_after m WordCall.hold = (hold_of m).machine
+machine_after m WordCall.release = (release_of m).machine
+machine_after m WordCall.stop = (stop_of m).machine
 
-pub keeps : (m : Machine) (call : WordCall) → soundOf m ≡ true → soundOf (machineAfter m call) ≡ true
-keeps m (WordCall.load b) e = load-keeps m e b
-keeps m WordCall.tick e = tick-keeps m e
-keeps m WordCall.hold e = hold-keeps m e
-keeps m WordCall.release e = release-keeps m e
-keeps m WordCall.stop e = stop-keeps m e
+pub keeps : (m : Machine) (call : WordCall) → sound_of m ≡ true → sound_of (machine_after m call) ≡ true
+keeps m (WordCall.load b) e = load_keeps m e b
+keeps m WordCall.tick e = tick_keeps m e
+keeps m WordCall.hold e = hold_keeps m e
+keeps m WordCall.release e = release_keeps m e
+keeps m WordCall.stop e = stop_keeps m e
 
 -- ---- places that none waits in stay blank
 
-module _ (m : Machine) (e : soundOf m ≡ true) (rest : Blanks m.queue) where
+module _ (m : Machine) (e : sound_of m ≡ true) (rest : Blanks m.queue) where
   parts : Sound m
   parts = sound m e
 
   abbrev asked : Block → ℕ
   asked b =
-      let s = m.bench.settings in loadNo (capacityOf s) s.travel (ltb m.queue.len 16) (start_of m.bench m.queue) b
+      let s = m.bench.settings in load_no (capacity_of s) s.travel (ltb m.queue.len 16) (start_of m.bench m.queue) b
 
-  load-blanks : (b : Block) → Blanks (load_of m b).machine.queue
+  load_blanks : (b : Block) → Blanks (load_of m b).machine.queue
   unfolding load_of machine_of
-  load-blanks b = rw e (by (asked b) refl)
+  load_blanks b = rw e (by (asked b) refl)
     where
-      taken : asked b ≡ 0 → (idle : Bool) → Blanks (takes m b idle (begunOf (start_of m.bench m.queue) b)).queue
+      taken : asked b ≡ 0 → (idle : Bool) → Blanks (takes m b idle (begun_of (start_of m.bench m.queue) b)).queue
       taken none true = rest
       taken none false =
-          push-blanks m.queue _ (room-left {m = m} (record { sound = e; start_is = refl; asked = none })) rest
+          push_blanks m.queue _ (room_left {m = m} (record { sound = e; start_is = refl; asked = none })) rest
 
-      by : (n : ℕ) → asked b ≡ n → Blanks (loadWith m b n).machine.queue
-      by zero none = taken none (isNothing m.bench.work)
+      by : (n : ℕ) → asked b ≡ n → Blanks (load_with m b n).machine.queue
+      by zero none = taken none (is_nothing m.bench.work)
       by (suc n) some = rest
 
-  tick-blanks : Blanks (tickOf m).machine.queue
-  unfolding tickOf
-  tick-blanks =
-      let q = parts.right.queue in rw e (next-blanks (benchTick m.bench).bench m.queue q.sixteen q.most rest)
+  tick_blanks : Blanks (tick_of m).machine.queue
+  unfolding tick_of
+  tick_blanks =
+      let q = parts.right.queue in rw e (next_blanks (bench_tick m.bench).bench m.queue q.sixteen q.most rest)
 
-  hold-blanks : Blanks (holdOf m).machine.queue
-  unfolding holdOf machine_of
-  hold-blanks = rw e rest
+  hold_blanks : Blanks (hold_of m).machine.queue
+  unfolding hold_of machine_of
+  hold_blanks = rw e rest
 
-  release-blanks : Blanks (releaseOf m).machine.queue
-  unfolding releaseOf machine_of
-  release-blanks = rw e rest
+  release_blanks : Blanks (release_of m).machine.queue
+  unfolding release_of machine_of
+  release_blanks = rw e rest
 
-  stop-blanks : Blanks (stopOf m).machine.queue
-  unfolding stopOf machine_of emptyQueue
-  stop-blanks = rw e refl
+  stop_blanks : Blanks (stop_of m).machine.queue
+  unfolding stop_of machine_of empty_queue
+  stop_blanks = rw e refl
 
-  pub blanks-kept : (call : WordCall) → Blanks (machineAfter m call).queue
-  blanks-kept (WordCall.load b) = load-blanks b
-  blanks-kept WordCall.tick = tick-blanks
-  blanks-kept WordCall.hold = hold-blanks
-  blanks-kept WordCall.release = release-blanks
-  blanks-kept WordCall.stop = stop-blanks
+  pub blanks_kept : (call : WordCall) → Blanks (machine_after m call).queue
+  blanks_kept (WordCall.load b) = load_blanks b
+  blanks_kept WordCall.tick = tick_blanks
+  blanks_kept WordCall.hold = hold_blanks
+  blanks_kept WordCall.release = release_blanks
+  blanks_kept WordCall.stop = stop_blanks

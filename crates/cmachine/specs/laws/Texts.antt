@@ -4,44 +4,44 @@ use Rattle.std.proofs.Math.Path.{refl}
 use Rattle.std.proofs.Common.{sym, ap, ◌∙◌, arith}
 use Rattle.plane.specs.declared.point.Point.{Point}
 use Rattle.block.specs.declared.Block.{Block}
-use Rattle.block.specs.Questions.{loadNo}
-use Rattle.words.specs.computed.Meaning.{meaningOf}
-use Rattle.settings.specs.Settings.{capacityOf}
-use Rattle.settings.specs.laws.Right.{settings-right}
+use Rattle.block.specs.Questions.{load_no}
+use Rattle.words.specs.computed.Meaning.{meaning_of}
+use Rattle.settings.specs.Settings.{capacity_of}
+use Rattle.settings.specs.laws.Right.{settings_right}
 use Rattle.bench.specs.declared.Bench.{Bench}
 use Rattle.bench.specs.declared.Answer.{Answer}
 use Rattle.machine.specs.declared.Machine.{Machine}
-use Rattle.machine.specs.computed.Machine.{soundOf}
+use Rattle.machine.specs.computed.Machine.{sound_of}
 use Rattle.machine.specs.Machine.{start_of}
-use Rattle.machine.specs.computed.Calls.{loadWith, load_of}
+use Rattle.machine.specs.computed.Calls.{load_with, load_of}
 use Rattle.reader.specs.declared.Reader.{Reader}
 use Rattle.reader.specs.declared.asked.ToLoad.{ToLoad}
 use Rattle.reader.specs.declared.asked.Asked.{Asked}
 use Rattle.reader.specs.declared.text_line.Read.{Read}
 use Rattle.reader.specs.computed.Asked.{asked_of}
 use Rattle.textline.specs.declared.ReadLine.{ReadLine}
-use Rattle.textline.specs.computed.TextLine.{loaded, taken_of, readLineOf}
-use Rattle.record.specs.Words.{encodeOf, over}
-use Rattle.record.specs.computed.Words.{machineIn, soundWords}
-use Rattle.record.specs.laws.Write.{told-sound}
+use Rattle.textline.specs.computed.TextLine.{loaded, taken_of, read_line_of}
+use Rattle.record.specs.Words.{encode_of, over}
+use Rattle.record.specs.computed.Words.{machine_in, sound_words}
+use Rattle.record.specs.laws.Write.{told_sound}
 use Rattle.calls.specs.computed.Asked.{Asking}
-use Rattle.calls.specs.laws.Load.{own-words, settings-pass}
+use Rattle.calls.specs.laws.Load.{own_words, settings_pass}
 use Rattle.progress.specs.declared.known.DecodedKnown.{DecodedKnown}
-use Rattle.progress.specs.Known.{encodeKnown}
-use Rattle.progress.specs.computed.Known.{decodeKnown}
+use Rattle.progress.specs.Known.{encode_known}
+use Rattle.progress.specs.computed.Known.{decode_known}
 use Rattle.cmachine.specs.declared.text.Heard.{Heard}
-use Rattle.cmachine.specs.Texts.{readNumber}
-use Rattle.cmachine.specs.computed.Texts.{heardOf, loadsOf, tellsLine, toldLineOf}
+use Rattle.cmachine.specs.Texts.{read_number}
+use Rattle.cmachine.specs.computed.Texts.{heard_of, loads_of, tells_line, told_line_of}
 
 -- a refused load hands the record back as it was
 pub load_same : (m : Machine) (b : Block) {number : ℕ} → (load_of m b).answer ≡ Answer.Refused number → (load_of m b).machine ≡ m
 unfolding load_of
-load_same m b = by (soundOf m) (let s = m.bench.settings in
-    loadNo (capacityOf s) s.travel (ltb m.queue.len 16) (start_of m.bench m.queue) b)
+load_same m b = by (sound_of m) (let s = m.bench.settings in
+    load_no (capacity_of s) s.travel (ltb m.queue.len 16) (start_of m.bench m.queue) b)
   where
     by : (sound : Bool) (asked : ℕ) {number : ℕ}
-        → (cond sound (loadWith m b asked) (record { answer = Answer.Refused 9; machine = m })).answer ≡ Answer.Refused number
-        → (cond sound (loadWith m b asked) (record { answer = Answer.Refused 9; machine = m })).machine ≡ m
+        → (cond sound (load_with m b asked) (record { answer = Answer.Refused 9; machine = m })).answer ≡ Answer.Refused number
+        → (cond sound (load_with m b asked) (record { answer = Answer.Refused 9; machine = m })).machine ≡ m
     by true zero e = let none : ◌≡◌ {A = ℕ} 0 1 = cc in absurd (omega (arith, none))
     by true (suc n) e = refl
     by false asked e = refl
@@ -50,60 +50,60 @@ load_same m b = by (soundOf m) (let s = m.bench.settings in
 
 module _ (ws : List ℤ) (before : Reader) where
   abbrev m : Machine
-  m = machineIn ws
+  m = machine_in ws
 
   -- what a line was read as, and the words after it
   abbrev Hears : ReadLine → Heard → (after : List ℤ) → Type 0
-  Hears r h after = (h ≡ heardOf r) × (after ≡ over (encodeOf r.machine) ws)
+  Hears r h after = (h ≡ heard_of r) × (after ≡ over (encode_of r.machine) ws)
 
-  pub line-loads : (after : Reader) (b : Block) {answer : Answer} {now : List ℤ} → answer ≡ (load_of m b).answer
-      → now ≡ over (encodeOf (load_of m b).machine) ws → {a : Answer} → answer ≡ a
-      → Hears (loadsOf before after m b) (heardOf (loaded before after m m a)) now
-  line-loads after b {answer} {now} is stored {a} e = by a (sym is ∙ e)
+  pub line_loads : (after : Reader) (b : Block) {answer : Answer} {now : List ℤ} → answer ≡ (load_of m b).answer
+      → now ≡ over (encode_of (load_of m b).machine) ws → {a : Answer} → answer ≡ a
+      → Hears (loads_of before after m b) (heard_of (loaded before after m m a)) now
+  line_loads after b {answer} {now} is stored {a} e = by a (sym is ∙ e)
     where
-      by : (a : Answer) → (load_of m b).answer ≡ a → Hears (loadsOf before after m b) (heardOf (loaded before after m m a)) now
+      by : (a : Answer) → (load_of m b).answer ≡ a → Hears (loads_of before after m b) (heard_of (loaded before after m m a)) now
       by Answer.Done e = rw e (refl, stored)
       by (Answer.Width bits) e = rw e (refl, stored)
-      by (Answer.Refused number) e = rw e (refl, stored ∙ ap (λ (n : Machine). over (encodeOf n) ws) (load_same m b e))
+      by (Answer.Refused number) e = rw e (refl, stored ∙ ap (λ (n : Machine). over (encode_of n) ws) (load_same m b e))
 
   -- a line that asks for no block leaves them
-  module _ (t : soundWords ws ≡ true) (a : Asked) where
-    pub line-nothing : a.asks ≡ ToLoad.Nothing → Hears (taken_of before m a) (record { read = Read.Nothing; reader = a.reader }) ws
-    line-nothing e = rw e (refl, sym (own-words ws t))
+  module _ (t : sound_words ws ≡ true) (a : Asked) where
+    pub line_nothing : a.asks ≡ ToLoad.Nothing → Hears (taken_of before m a) (record { read = Read.Nothing; reader = a.reader }) ws
+    line_nothing e = rw e (refl, sym (own_words ws t))
 
     pub line_refused : {number : ℕ} → a.asks ≡ ToLoad.Refused number
         → Hears (taken_of before m a) (record { read = Read.Refused number; reader = before }) ws
-    line_refused e = rw e (refl, sym (own-words ws t))
+    line_refused e = rw e (refl, sym (own_words ws t))
 
 -- few enough for the reader
-pub scale-fits : {ws : List ℤ} {k : Bench} {start : Point} → Asking ws k start → k.settings.scale ≤ 1000
-scale-fits {k = k} g = (settings-right k.settings (settings-pass g)).scale-most
+pub scale_fits : {ws : List ℤ} {k : Bench} {start : Point} → Asking ws k start → k.settings.scale ≤ 1000
+scale_fits {k = k} g = (settings_right k.settings (settings_pass g)).scale_most
 
 -- ---- what is told
 
 module _ (ws ks : List ℤ) (line : List ℕ) where
-  pub line-no-record : soundWords ws ≡ false → tellsLine (negsuc 8) ws ks ≡ toldLineOf ws ks line
-  unfolding toldLineOf
-  line-no-record bad = rw bad
+  pub line_no_record : sound_words ws ≡ false → tells_line (negsuc 8) ws ks ≡ told_line_of ws ks line
+  unfolding told_line_of
+  line_no_record bad = rw bad
 
-  module _ {d : DecodedKnown} (f : d ≡ decodeKnown ks) (t : soundWords ws ≡ true) where
-    pub line-not-known : d.ok ≡ false → tellsLine (negsuc 8) ws ks ≡ toldLineOf ws ks line
-    unfolding toldLineOf
-    line-not-known bad = rw (← f, t, bad)
+  module _ {d : DecodedKnown} (f : d ≡ decode_known ks) (t : sound_words ws ≡ true) where
+    pub line_not_known : d.ok ≡ false → tells_line (negsuc 8) ws ks ≡ told_line_of ws ks line
+    unfolding told_line_of
+    line_not_known bad = rw (← f, t, bad)
 
     module _ {k : Bench} {start : Point} (g : Asking ws k start) where
       -- what the line asks there
       abbrev asks : (scale : ℕ) → Point → Asked
-      asks scale place = asked_of scale d.reader place (length line) (meaningOf line)
+      asks scale place = asked_of scale d.reader place (length line) (meaning_of line)
 
-      asks-own : asks k.settings.scale start
-          ≡ (let m = machineIn ws in asks m.bench.settings.scale (start_of m.bench m.queue))
-      unfolding machineIn
-      asks-own = rw (g.start_is, g.bench-is) refl
+      asks_own : asks k.settings.scale start
+          ≡ (let m = machine_in ws in asks m.bench.settings.scale (start_of m.bench m.queue))
+      unfolding machine_in
+      asks_own = rw (g.start_is, g.bench_is) refl
 
-      pub line-told : d.ok ≡ true → {a : Asked} → a ≡ asks k.settings.scale start → {h : Heard} {after : List ℤ}
-          → h ≡ heardOf (taken_of d.reader (machineIn ws) a)
-          → after ≡ over (encodeOf (taken_of d.reader (machineIn ws) a).machine) ws
-          → tellsLine (readNumber h.read) after (encodeKnown h.reader) ≡ toldLineOf ws ks line
-      unfolding toldLineOf readLineOf
-      line-told known a-is h-is after_is = rw (h-is, after_is, a-is ∙ asks-own, ← f, t, known, told-sound ws t) refl
+      pub line_told_lem : d.ok ≡ true → {a : Asked} → a ≡ asks k.settings.scale start → {h : Heard} {after : List ℤ}
+          → h ≡ heard_of (taken_of d.reader (machine_in ws) a)
+          → after ≡ over (encode_of (taken_of d.reader (machine_in ws) a).machine) ws
+          → tells_line (read_number h.read) after (encode_known h.reader) ≡ told_line_of ws ks line
+      unfolding told_line_of read_line_of
+      line_told_lem known a_is h_is after_is = rw (h_is, after_is, a_is ∙ asks_own, ← f, t, known, told_sound ws t) refl

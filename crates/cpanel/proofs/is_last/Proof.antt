@@ -2,12 +2,12 @@
 use mathlib.Core.Path.{ap}
 use mathlib.Core.Bool.{not}
 use mir.Facts.{sfits_lit}
-use Rattle.whole.specs.laws.Test.{equal-bits}
+use Rattle.whole.specs.laws.Test.{equal_bits}
 use Rattle.cpanel.proofs.is_last.Statement.{statement}
 use Rattle.cpanel.proofs.is_last.Tie as tie
 
 returns : tie.Need-returns
-returns c = ap not (equal-bits c.ranges.last (sfits_lit tt))
+returns c = ap not (equal_bits c.ranges.last (sfits_lit tt))
 
-pub is-last-spec : {M : Type 1} → statement M
-is-last-spec = tie.close (tie.spec returns)
+pub is_last_spec : {M : Type 1} → statement M
+is_last_spec = tie.close (tie.spec returns)

@@ -6,23 +6,23 @@ use mir.Facts.{to_z-of_z}
 use Rattle.cpanel.proofs.vz_panel_start.Statement.{statement}
 use Rattle.cpanel.proofs.vz_panel_start.Tie as tie
 
-settings-requires : tie.Need-settings-requires
-settings-requires c κs = search rules
+settings_requires : tie.Need-settings-requires
+settings_requires c κs = search rules
 
-make-requires : tie.Need-make-requires
-make-requires c κs = search rules
+make_requires : tie.Need-make-requires
+make_requires c κs = search rules
 
-encode-requires : tie.Need-encode-requires
-encode-requires c κs = search rules
+encode_requires : tie.Need-encode-requires
+encode_requires c κs = search rules
 
-start-requires : tie.Need-start-requires
-start-requires c κs = search rules
+start_requires : tie.Need-start-requires
+start_requires c κs = search rules
 
-encode-panel-requires : tie.Need-encode-panel-requires
-encode-panel-requires c κs = search rules
+encode_panel_requires : tie.Need-encode-panel-requires
+encode_panel_requires c κs = search rules
 
-answer-number-requires : tie.Need-answer-number-requires
-answer-number-requires c κs = search rules
+answer_number_requires : tie.Need-answer-number-requires
+answer_number_requires c κs = search rules
 
 returns : tie.Need-returns
 returns c =
@@ -40,14 +40,14 @@ returns c =
       simp (c.before.encode-panel.ensures, c.before.before.start.ensures, a.make.ensures, given),
     )
 
-pub vz-panel-start-spec : {M : Type 1} → statement M
-vz-panel-start-spec =
+pub vz_panel_start_spec : {M : Type 1} → statement M
+vz_panel_start_spec =
     tie.close
     (tie.spec
-    settings-requires
-    make-requires
-    encode-requires
-    start-requires
-    encode-panel-requires
-    answer-number-requires
+    settings_requires
+    make_requires
+    encode_requires
+    start_requires
+    encode_panel_requires
+    answer_number_requires
     returns)

@@ -6,5 +6,5 @@ use Rattle.demands.proofs.every_call.Tie as tie
 returns : tie.Need-returns
 returns c = every_call
 
-pub every-call-spec : {M : Type 1} → statement M
-every-call-spec = tie.close (tie.spec returns)
+pub every_call_spec : {M : Type 1} → statement M
+every_call_spec = tie.close (tie.spec returns)

@@ -1,10 +1,10 @@
 -- `every_tick_byte` is right because a block run to its end is its ticks, and pieces of a run are the run.
-use Rattle.demands.specs.laws.TickBytes.{every-tick-byte}
+use Rattle.demands.specs.laws.TickBytes.{every_tick_byte}
 use Rattle.demands.proofs.every_tick_byte.Statement.{statement}
 use Rattle.demands.proofs.every_tick_byte.Tie as tie
 
 returns : tie.Need-returns
-returns c = every-tick-byte
+returns c = every_tick_byte
 
-pub every-tick-byte-spec : {M : Type 1} → statement M
-every-tick-byte-spec = tie.close (tie.spec returns)
+pub every_tick_byte_spec : {M : Type 1} → statement M
+every_tick_byte_spec = tie.close (tie.spec returns)

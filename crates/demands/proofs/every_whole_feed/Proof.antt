@@ -1,10 +1,10 @@
 -- `every_whole_feed` is right because the unit does not show in the divider, and so neither in the book nor in a listing.
-use Rattle.demands.specs.laws.Before.{every-whole-feed}
+use Rattle.demands.specs.laws.Before.{every_whole_feed}
 use Rattle.demands.proofs.every_whole_feed.Statement.{statement}
 use Rattle.demands.proofs.every_whole_feed.Tie as tie
 
 returns : tie.Need-returns
-returns c = every-whole-feed
+returns c = every_whole_feed
 
-pub every-whole-feed-spec : {M : Type 1} → statement M
-every-whole-feed-spec = tie.close (tie.spec returns)
+pub every_whole_feed_spec : {M : Type 1} → statement M
+every_whole_feed_spec = tie.close (tie.spec returns)

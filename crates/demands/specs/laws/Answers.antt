@@ -8,206 +8,206 @@ use Rattle.std.specs.Borrow.{Bor}
 use contract.Lifetimes.{Lfts}
 use Rattle.block.specs.declared.Block.{Block}
 use Rattle.whole.specs.Ask.{ask}
-use Rattle.block.specs.Questions.{loadNo}
-use Rattle.queue.specs.Queue.{emptyQueue}
+use Rattle.block.specs.Questions.{load_no}
+use Rattle.queue.specs.Queue.{empty_queue}
 use Rattle.work.specs.declared.Work.{Work}
-use Rattle.work.specs.Work.{isNothing}
-use Rattle.work.specs.computed.Work.{advanceOf}
-use Rattle.run.specs.computed.Run.{Strip, stripOf, written}
+use Rattle.work.specs.Work.{is_nothing}
+use Rattle.work.specs.computed.Work.{advance_of}
+use Rattle.run.specs.computed.Run.{Strip, strip_of, written}
 use Rattle.settings.specs.declared.Settings.{Settings}
-use Rattle.settings.specs.Settings.{feedUnit, capacityOf, standardSettings}
-use Rattle.settings.specs.computed.Settings.{settingsNo}
+use Rattle.settings.specs.Settings.{feed_unit, capacity_of, standard_settings}
+use Rattle.settings.specs.computed.Settings.{settings_no}
 use Rattle.bench.specs.declared.Bench.{Bench}
 use Rattle.bench.specs.declared.Answer.{Answer}
 use Rattle.bench.specs.declared.Tick.{Tick}
 use Rattle.bench.specs.declared.Report.{Report}
-use Rattle.bench.specs.computed.Bench.{soundOf as benchSound}
-use Rattle.bench.specs.Bench.{movedOf}
-use Rattle.bench.specs.computed.Calls.{ticks as benchTicks, working, tickOf as benchTick}
-use Rattle.bench.specs.computed.Run.{reportOf, ranOver, noTick as benchNoTick, run_of as benchRun}
+use Rattle.bench.specs.computed.Bench.{sound_of as bench_sound}
+use Rattle.bench.specs.Bench.{moved_of}
+use Rattle.bench.specs.computed.Calls.{ticks as bench_ticks, working, tick_of as bench_tick}
+use Rattle.bench.specs.computed.Run.{report_of, ran_over, no_tick as bench_no_tick, run_of as bench_run}
 use Rattle.machine.specs.declared.Machine.{Machine}
 use Rattle.machine.specs.declared.Answered.{Answered}
 use Rattle.machine.specs.declared.Ticked.{Ticked}
 use Rattle.machine.specs.declared.Ran.{Ran}
-use Rattle.machine.specs.computed.Machine.{soundOf}
+use Rattle.machine.specs.computed.Machine.{sound_of}
 use Rattle.machine.specs.Machine.{machine_of, fresh_of}
 use Rattle.machine.specs.Calls.{answers, ticks, mark_of}
-use Rattle.machine.specs.computed.Calls.{makeWith, makeOf, loadWith, load_of, tickOf, holdOf, releaseOf, stopOf}
-use Rattle.machine.specs.computed.Run.{ranOn, noTick, run_of}
+use Rattle.machine.specs.computed.Calls.{make_with, make_of, load_with, load_of, tick_of, hold_of, release_of, stop_of}
+use Rattle.machine.specs.computed.Run.{ran_on, no_tick, run_of}
 use Rattle.machine.specs.laws.Right.{sound}
 use Rattle.book.specs.Book.{Reply}
 use Rattle.look.specs.declared.Ahead.{Ahead}
-use Rattle.look.specs.computed.Look.{tickingOf, looked, refusing, ahead_of}
-use Rattle.history.specs.Reply.{answerReply, tickReply, runReply}
-use Rattle.history.specs.Contracts.{Makes, Loads, Ticks, Runs, Holds, Releases, Stops, Looks}
+use Rattle.look.specs.computed.Look.{ticking_of, looked, refusing, ahead_of}
+use Rattle.history.specs.Reply.{answer_reply, tick_reply, run_reply}
+use Rattle.history.specs.CallContracts.{Makes, Loads, Ticks, Runs, Holds, Releases, Stops, Looks}
 use Rattle.demands.specs.Asked.{none, AsAsked}
-use Rattle.demands.specs.Bench.{settingsQuestions}
-use Rattle.demands.specs.Answers.{ranReply, Unlooked}
-use Rattle.demands.specs.Questions.{soundQuestion, lookQuestions, FewerWaiting, nextStart, loadQuestions}
-use Rattle.demands.specs.laws.Asked.{Verdict, asked, none-asked, is_refused, Says, judged}
-use Rattle.demands.specs.laws.Bench.{settings-verdict}
-use Rattle.demands.specs.laws.Block.{block-verdict}
-use Rattle.demands.specs.laws.Sound.{sound-is}
+use Rattle.demands.specs.Bench.{settings_questions}
+use Rattle.demands.specs.Answers.{ran_reply, Unlooked}
+use Rattle.demands.specs.Questions.{sound_question, look_questions, FewerWaiting, next_start, load_questions}
+use Rattle.demands.specs.laws.Asked.{Verdict, asked, none_asked, is_refused, Says, judged}
+use Rattle.demands.specs.laws.Bench.{settings_verdict}
+use Rattle.demands.specs.laws.Block.{block_verdict}
+use Rattle.demands.specs.laws.Sound.{sound_is}
 
 -- ---- make
 
-make-says : (s : Settings) (n : ℕ) → Says n (answerReply (makeWith s n).answer)
-make-says s zero = refl
-make-says s (suc n) = refl
+make_says : (s : Settings) (n : ℕ) → Says n (answer_reply (make_with s n).answer)
+make_says s zero = refl
+make_says s (suc n) = refl
 
-make-kept : (s : Settings) (n : ℕ) → (n ≡ 0 → ⊥) → (makeWith s n).machine ≡ fresh_of standardSettings
-make-kept s zero some = absurd (some refl)
-make-kept s (suc n) some = refl
+make_kept : (s : Settings) (n : ℕ) → (n ≡ 0 → ⊥) → (make_with s n).machine ≡ fresh_of standard_settings
+make_kept s zero some = absurd (some refl)
+make_kept s (suc n) some = refl
 
-pub make-answers : (s : Settings) (r : Answered) → Makes s r
-    → AsAsked (settingsQuestions s) (answerReply r.answer) (r.machine ≡ fresh_of standardSettings)
-unfolding makeOf
-make-answers s r e =
-    let n = settingsNo s in
-    rw e (judged n (settings-verdict s) (make-says s n) (make-kept s n))
+pub make_answers : (s : Settings) (r : Answered) → Makes s r
+    → AsAsked (settings_questions s) (answer_reply r.answer) (r.machine ≡ fresh_of standard_settings)
+unfolding make_of
+make_answers s r e =
+    let n = settings_no s in
+    rw e (judged n (settings_verdict s) (make_says s n) (make_kept s n))
 
 -- ---- load
 
-pub fewer-is : (m : Machine) → (ltb m.queue.len 16 ≡ true) ↔ FewerWaiting m
-fewer-is m = (ltb-true m.queue.len 16, lt-ltb m.queue.len 16)
+pub fewer_is : (m : Machine) → (ltb m.queue.len 16 ≡ true) ↔ FewerWaiting m
+fewer_is m = (ltb-true m.queue.len 16, lt-ltb m.queue.len 16)
 
 module _ (m : Machine) (b : Block) where
-  load-says : (n : ℕ) → Says n (answerReply (loadWith m b n).answer)
-  load-says zero = refl
-  load-says (suc n) = refl
+  load_says : (n : ℕ) → Says n (answer_reply (load_with m b n).answer)
+  load_says zero = refl
+  load_says (suc n) = refl
 
-  load_kept : (n : ℕ) → (n ≡ 0 → ⊥) → (loadWith m b n).machine ≡ m
+  load_kept : (n : ℕ) → (n ≡ 0 → ⊥) → (load_with m b n).machine ≡ m
   load_kept zero some = absurd (some refl)
   load_kept (suc n) some = refl
 
-  abbrev loadNumber : ℕ
-  loadNumber = loadNo (capacityOf m.bench.settings) m.bench.settings.travel (ltb m.queue.len 16) (nextStart m) b
+  abbrev load_number : ℕ
+  load_number = load_no (capacity_of m.bench.settings) m.bench.settings.travel (ltb m.queue.len 16) (next_start m) b
 
-  abbrev pub load-number : ℕ
-  load-number = ask (soundOf m) loadNumber 9
+  abbrev pub load_number_lem : ℕ
+  load_number_lem = ask (sound_of m) load_number 9
 
-  pub load-verdict : Verdict (loadQuestions m b) load-number
-  load-verdict =
-      asked (soundOf m) 8 (sound-is m)
-      (λ _. block-verdict m.bench.settings (nextStart m) b feedUnit (ltb m.queue.len 16) (fewer-is m))
+  pub load_verdict : Verdict (load_questions m b) load_number_lem
+  load_verdict =
+      asked (sound_of m) 8 (sound_is m)
+      (λ _. block_verdict m.bench.settings (next_start m) b feed_unit (ltb m.queue.len 16) (fewer_is m))
 
-  load-by : (sound : Bool) (n : ℕ) → cond sound (loadWith m b n) (answers (Answer.Refused 9) m) ≡ loadWith m b (ask sound n 9)
-  load-by true n = refl
-  load-by false n = refl
+  load_by : (sound : Bool) (n : ℕ) → cond sound (load_with m b n) (answers (Answer.Refused 9) m) ≡ load_with m b (ask sound n 9)
+  load_by true n = refl
+  load_by false n = refl
 
-  pub load_is : load_of m b ≡ loadWith m b load-number
+  pub load_is : load_of m b ≡ load_with m b load_number_lem
   unfolding load_of
-  load_is = load-by (soundOf m) loadNumber
+  load_is = load_by (sound_of m) load_number
 
-  pub load-answers : (r : Answered) → Loads m b r → AsAsked (loadQuestions m b) (answerReply r.answer) (r.machine ≡ m)
-  load-answers r e = rw (e ∙ load_is) (judged load-number load-verdict (load-says load-number) (load_kept load-number))
+  pub load_answers : (r : Answered) → Loads m b r → AsAsked (load_questions m b) (answer_reply r.answer) (r.machine ≡ m)
+  load_answers r e = rw (e ∙ load_is) (judged load_number_lem load_verdict (load_says load_number_lem) (load_kept load_number_lem))
 
 -- ---- the other calls on a record
 
 -- a tick and a run of a sound bench are not refused
-tick-given : (k : Bench) → benchSound k ≡ true → is_refused (tickReply (benchTick k).tick) ≡ false
-unfolding benchTick
-tick-given k e = rw e (by (k.held || isNothing k.work))
+tick_given : (k : Bench) → bench_sound k ≡ true → is_refused (tick_reply (bench_tick k).tick) ≡ false
+unfolding bench_tick
+tick_given k e = rw e (by (k.held || is_nothing k.work))
   where
     by : (still : Bool)
         → is_refused
-        (tickReply
-        (cond still (benchTicks (Tick.Byte 0) k)
-        (working k (advanceOf (capacityOf k.settings) k.at k.remainder k.work))).tick) ≡ false
+        (tick_reply
+        (cond still (bench_ticks (Tick.Byte 0) k)
+        (working k (advance_of (capacity_of k.settings) k.at k.remainder k.work))).tick) ≡ false
     by true = refl
     by false = refl
 
-run-given : (k : Bench) → benchSound k ≡ true → (budget buffer : ℕ) (told : ℕ → List ℕ → List ℕ)
-    → (let r = benchRun k budget buffer in is_refused (runReply r.ran.report r.ran.ticks (told r.ran.ticks r.bytes)) ≡ false)
-unfolding benchRun
-run-given k e budget buffer told = rw e (by (isNothing k.work) k.held)
+run_given : (k : Bench) → bench_sound k ≡ true → (budget buffer : ℕ) (told : ℕ → List ℕ → List ℕ)
+    → (let r = bench_run k budget buffer in is_refused (run_reply r.ran.report r.ran.ticks (told r.ran.ticks r.bytes)) ≡ false)
+unfolding bench_run
+run_given k e budget buffer told = rw e (by (is_nothing k.work) k.held)
   where
     strip : Strip
-    strip = stripOf (capacityOf k.settings) (min budget buffer) k.at k.remainder k.work
+    strip = strip_of (capacity_of k.settings) (min budget buffer) k.at k.remainder k.work
 
-    ran : (ended spent : Bool) (n : ℕ) (bytes : List ℕ) → is_refused (runReply (reportOf ended spent) n bytes) ≡ false
+    ran : (ended spent : Bool) (n : ℕ) (bytes : List ℕ) → is_refused (run_reply (report_of ended spent) n bytes) ≡ false
     ran true spent n bytes = refl
     ran false true n bytes = refl
     ran false false n bytes = refl
 
     by : (idle held : Bool)
-        → (let r = cond idle (benchNoTick k Report.Idle) (cond held (benchNoTick k Report.Held) (ranOver k budget strip)) in
-        is_refused (runReply r.ran.report r.ran.ticks (told r.ran.ticks r.bytes)) ≡ false)
+        → (let r = cond idle (bench_no_tick k Report.Idle) (cond held (bench_no_tick k Report.Held) (ran_over k budget strip)) in
+        is_refused (run_reply r.ran.report r.ran.ticks (told r.ran.ticks r.bytes)) ≡ false)
     by true held = refl
     by false true = refl
     by false false = ran strip.ended _ _ _
 
 module _ (m : Machine) where
-  sound-verdict : Verdict (soundQuestion m none) (ask (soundOf m) 0 9)
-  sound-verdict = asked (soundOf m) 8 (sound-is m) (λ _. none-asked)
+  sound_verdict : Verdict (sound_question m none) (ask (sound_of m) 0 9)
+  sound_verdict = asked (sound_of m) 8 (sound_is m) (λ _. none_asked)
 
   -- a call that answers 9 where the record is not sound, and else no refusal
-  by-sound : {A : Type 0} (reply : A → Reply) (Kept : A → Type 0) (accepted refused : A)
-      → (soundOf m ≡ true → is_refused (reply accepted) ≡ false)
+  by_sound : {A : Type 0} (reply : A → Reply) (Kept : A → Type 0) (accepted refused : A)
+      → (sound_of m ≡ true → is_refused (reply accepted) ≡ false)
       → reply refused ≡ Reply.refused 9 → Kept refused
-      → (r : A) → r ≡ cond (soundOf m) accepted refused → AsAsked (soundQuestion m none) (reply r) (Kept r)
-  by-sound reply Kept accepted refused yes-says no_says same r e = rw e (by (soundOf m) refl sound-verdict)
+      → (r : A) → r ≡ cond (sound_of m) accepted refused → AsAsked (sound_question m none) (reply r) (Kept r)
+  by_sound reply Kept accepted refused yes_says no_says same r e = rw e (by (sound_of m) refl sound_verdict)
     where
-      by : (sound : Bool) → soundOf m ≡ sound → Verdict (soundQuestion m none) (ask sound 0 9)
-          → (let r = cond sound accepted refused in AsAsked (soundQuestion m none) (reply r) (Kept r))
-      by true s v = judged 0 v (yes-says s) (λ some. absurd (some refl))
+      by : (sound : Bool) → sound_of m ≡ sound → Verdict (sound_question m none) (ask sound 0 9)
+          → (let r = cond sound accepted refused in AsAsked (sound_question m none) (reply r) (Kept r))
+      by true s v = judged 0 v (yes_says s) (λ some. absurd (some refl))
       by false s v = judged 9 v no_says (λ some. same)
 
   abbrev Same : Answered → Type 0
   Same r = r.machine ≡ m
 
   abbrev says : Answered → Reply
-  says r = answerReply r.answer
+  says r = answer_reply r.answer
 
-  pub hold-answers : (r : Answered) → Holds m r → AsAsked (soundQuestion m none) (answerReply r.answer) (r.machine ≡ m)
-  unfolding holdOf
-  hold-answers r e = by-sound says Same (answers Answer.Done (mark_of m true)) (answers (Answer.Refused 9) m) (λ s. refl) refl refl r e
+  pub hold_answers : (r : Answered) → Holds m r → AsAsked (sound_question m none) (answer_reply r.answer) (r.machine ≡ m)
+  unfolding hold_of
+  hold_answers r e = by_sound says Same (answers Answer.Done (mark_of m true)) (answers (Answer.Refused 9) m) (λ s. refl) refl refl r e
 
-  pub release-answers : (r : Answered) → Releases m r → AsAsked (soundQuestion m none) (answerReply r.answer) (r.machine ≡ m)
-  unfolding releaseOf
-  release-answers r e = by-sound says Same (answers Answer.Done (mark_of m false)) (answers (Answer.Refused 9) m) (λ s. refl) refl refl r e
+  pub release_answers : (r : Answered) → Releases m r → AsAsked (sound_question m none) (answer_reply r.answer) (r.machine ≡ m)
+  unfolding release_of
+  release_answers r e = by_sound says Same (answers Answer.Done (mark_of m false)) (answers (Answer.Refused 9) m) (λ s. refl) refl refl r e
 
-  pub stop-answers : (r : Answered) → Stops m r → AsAsked (soundQuestion m none) (answerReply r.answer) (r.machine ≡ m)
-  unfolding stopOf
-  stop-answers r e =
-      by-sound says Same (answers Answer.Done (machine_of (movedOf m.bench m.bench.at 0 Work.Nothing) emptyQueue))
+  pub stop_answers : (r : Answered) → Stops m r → AsAsked (sound_question m none) (answer_reply r.answer) (r.machine ≡ m)
+  unfolding stop_of
+  stop_answers r e =
+      by_sound says Same (answers Answer.Done (machine_of (moved_of m.bench m.bench.at 0 Work.Nothing) empty_queue))
       (answers (Answer.Refused 9) m) (λ s. refl) refl refl r e
 
   -- a sound machine's bench refuses nothing
-  pub tick-answers : (r : Ticked) → Ticks m r → AsAsked (soundQuestion m none) (tickReply r.tick) (r.machine ≡ m)
-  unfolding tickOf
-  tick-answers r e =
-      by-sound (λ r. tickReply r.tick) (λ r. r.machine ≡ m) _ (ticks (Tick.Refused 9) m)
-      (λ e. tick-given m.bench (sound m e).bench) refl refl r e
+  pub tick_answers : (r : Ticked) → Ticks m r → AsAsked (sound_question m none) (tick_reply r.tick) (r.machine ≡ m)
+  unfolding tick_of
+  tick_answers r e =
+      by_sound (λ r. tick_reply r.tick) (λ r. r.machine ≡ m) _ (ticks (Tick.Refused 9) m)
+      (λ e. tick_given m.bench (sound m e).bench) refl refl r e
 
-  pub run-answers : (κs : Lfts 1) (budget : ℕ) (out out' : Bor (List ℕ)) (r : Ran) → Runs κs m budget out out' r
-      → AsAsked (soundQuestion m none) (ranReply r out'.now) ((r.machine ≡ m) × (r.ticks ≡ 0) × (out'.now ≡ out.now))
+  pub run_answers : (κs : Lfts 1) (budget : ℕ) (out out' : Bor (List ℕ)) (r : Ran) → Runs κs m budget out out' r
+      → AsAsked (sound_question m none) (ran_reply r out'.now) ((r.machine ≡ m) × (r.ticks ≡ 0) × (out'.now ≡ out.now))
   unfolding run_of written
-  run-answers κs budget out out' r h =
+  run_answers κs budget out out' r h =
       rw (h.1, h.0)
-      (by-sound
-      (λ k. runReply k.ran.report k.ran.ticks (take k.ran.ticks (written k.bytes out.now)))
+      (by_sound
+      (λ k. run_reply k.ran.report k.ran.ticks (take k.ran.ticks (written k.bytes out.now)))
       (λ k. (k.ran.machine ≡ m) × (k.ran.ticks ≡ 0) × (written k.bytes out.now ≡ out.now))
-      (ranOn m (benchRun m.bench budget (length out.now)))
-      (noTick m (Report.Refused 9))
-      (λ e. run-given m.bench (sound m e).bench budget (length out.now) (λ n bytes. take n (written bytes out.now))) refl
+      (ran_on m (bench_run m.bench budget (length out.now)))
+      (no_tick m (Report.Refused 9))
+      (λ e. run_given m.bench (sound m e).bench budget (length out.now) (λ n bytes. take n (written bytes out.now))) refl
       (refl, refl, refl) (run_of m budget (length out.now)) refl)
 
 -- ---- a look-ahead
 
 module _ (m : Machine) (ticks : ℕ) where
-  look-verdict : Verdict (lookQuestions m ticks) (ask (soundOf m) (ask (leb ticks 1000000) 0 38) 9)
-  look-verdict =
-      asked (soundOf m) 8 (sound-is m) (λ _.
-      asked (leb ticks 1000000) 37 (leb-true ticks 1000000, le-leb ticks 1000000) (λ _. none-asked))
+  look_verdict : Verdict (look_questions m ticks) (ask (sound_of m) (ask (leb ticks 1000000) 0 38) 9)
+  look_verdict =
+      asked (sound_of m) 8 (sound_is m) (λ _.
+      asked (leb ticks 1000000) 37 (leb-true ticks 1000000, le-leb ticks 1000000) (λ _. none_asked))
 
-  pub look-answers : (r : Ahead) → Looks m ticks r → AsAsked (lookQuestions m ticks) (answerReply r.answer) (Unlooked m r)
+  pub look_answers : (r : Ahead) → Looks m ticks r → AsAsked (look_questions m ticks) (answer_reply r.answer) (Unlooked m r)
   unfolding ahead_of
-  look-answers r e = rw e (by (soundOf m) (leb ticks 1000000) look-verdict)
+  look_answers r e = rw e (by (sound_of m) (leb ticks 1000000) look_verdict)
     where
-      by : (sound most : Bool) → Verdict (lookQuestions m ticks) (ask sound (ask most 0 38) 9)
-          → (let a = cond sound (cond most (looked m (tickingOf ticks m)) (refusing m 38)) (refusing m 9) in
-          AsAsked (lookQuestions m ticks) (answerReply a.answer) (Unlooked m a))
+      by : (sound most : Bool) → Verdict (look_questions m ticks) (ask sound (ask most 0 38) 9)
+          → (let a = cond sound (cond most (looked m (ticking_of ticks m)) (refusing m 38)) (refusing m 9) in
+          AsAsked (look_questions m ticks) (answer_reply a.answer) (Unlooked m a))
       by true true v = judged 0 v refl (λ some. absurd (some refl))
       by true false v = judged 38 v refl (λ some. (refl, refl, refl))
       by false most v = judged 9 v refl (λ some. (refl, refl, refl))

@@ -24,8 +24,8 @@ pub asked : {holds : Type 0} {qs : Questions} {next : ℕ} (test : Bool) (number
 asked {holds} {qs} {next} true number is later = let y = is.0 refl in record { told = onward holds qs (suc number) next y (later y).told }
 asked false number is later = record { told = inl (refl, λ y. false≢true (is.1 y)) }
 
-pub none-asked : Verdict none 0
-none-asked = record { told = tt }
+pub none_asked : Verdict none 0
+none_asked = record { told = tt }
 
 -- ---- these questions, and then those
 
@@ -33,37 +33,37 @@ abbrev pub or_else : ℕ → ℕ → ℕ
 or_else zero k = k
 or_else (suc n) k = suc n
 
-after-all : (qs rs : Questions) (k : ℕ) → AllYes qs → Tells rs k → Tells (and_then qs rs) k
-after-all none rs k a v = v
-after-all (question number holds qs) rs k a v = onward holds (and_then qs rs) number k a.0 (after-all qs rs k a.1 v)
+after_all : (qs rs : Questions) (k : ℕ) → AllYes qs → Tells rs k → Tells (and_then qs rs) k
+after_all none rs k a v = v
+after_all (question number holds qs) rs k a v = onward holds (and_then qs rs) number k a.0 (after_all qs rs k a.1 v)
 
 at_first : (qs rs : Questions) (n : ℕ) → FirstNo qs n → FirstNo (and_then qs rs) n
 at_first none rs n f = absurd f
 at_first (question number holds qs) rs n (inl f) = inl f
 at_first (question number holds qs) rs n (inr f) = inr (f.0, at_first qs rs n f.1)
 
-pub then-asked : {qs rs : Questions} {n k : ℕ} → Verdict qs n → Verdict rs k → Verdict (and_then qs rs) (or_else n k)
-then-asked {qs} {rs} {n = zero} {k} v w = record { told = after-all qs rs k v.told w.told }
-then-asked {qs} {rs} {n = suc n} v w = record { told = at_first qs rs (suc n) v.told }
+pub then_asked : {qs rs : Questions} {n k : ℕ} → Verdict qs n → Verdict rs k → Verdict (and_then qs rs) (or_else n k)
+then_asked {qs} {rs} {n = zero} {k} v w = record { told = after_all qs rs k v.told w.told }
+then_asked {qs} {rs} {n = suc n} v w = record { told = at_first qs rs (suc n) v.told }
 
 -- ---- there is one verdict
 
-pub first-once : (qs : Questions) (n k : ℕ) → FirstNo qs n → FirstNo qs k → n ≡ k
-first-once none n k f g = absurd f
-first-once (question number holds qs) n k (inl f) (inl g) = f.0 ∙ sym g.0
-first-once (question number holds qs) n k (inl f) (inr g) = absurd (f.1 g.0)
-first-once (question number holds qs) n k (inr f) (inl g) = absurd (g.1 f.0)
-first-once (question number holds qs) n k (inr f) (inr g) = first-once qs n k f.1 g.1
+pub first_once : (qs : Questions) (n k : ℕ) → FirstNo qs n → FirstNo qs k → n ≡ k
+first_once none n k f g = absurd f
+first_once (question number holds qs) n k (inl f) (inl g) = f.0 ∙ sym g.0
+first_once (question number holds qs) n k (inl f) (inr g) = absurd (f.1 g.0)
+first_once (question number holds qs) n k (inr f) (inl g) = absurd (g.1 f.0)
+first_once (question number holds qs) n k (inr f) (inr g) = first_once qs n k f.1 g.1
 
-pub not-both : (qs : Questions) (n : ℕ) → AllYes qs → FirstNo qs n → ⊥
-not-both none n a f = f
-not-both (question number holds qs) n a (inl f) = f.1 a.0
-not-both (question number holds qs) n a (inr f) = not-both qs n a.1 f.1
+pub not_both : (qs : Questions) (n : ℕ) → AllYes qs → FirstNo qs n → ⊥
+not_both none n a f = f
+not_both (question number holds qs) n a (inl f) = f.1 a.0
+not_both (question number holds qs) n a (inr f) = not_both qs n a.1 f.1
 
 -- a number that is 0 exactly where every question has a yes
 pub passed : {qs : Questions} {n : ℕ} → Verdict qs n → (n ≡ 0) ↔ AllYes qs
 passed {qs} {n = zero} v = (λ e. v.told, λ a. refl)
-passed {qs} {n = suc n} v = (λ e. absurd (omega arith), λ a. absurd (not-both qs (suc n) a v.told))
+passed {qs} {n = suc n} v = (λ e. absurd (omega arith), λ a. absurd (not_both qs (suc n) a v.told))
 
 -- ---- the answer by the number
 
@@ -90,14 +90,14 @@ pub judged : {qs : Questions} {reply : Reply} {Kept : Type 0} (n : ℕ) → Verd
 judged {qs} {reply} zero v s stays =
     let never : (k : ℕ) → reply ≡ Reply.refused k → ⊥ = λ k e. false≢true (sym s ∙ ap is_refused e) in
     record {
-      cause = λ k. (λ e. absurd (never k e), λ f. absurd (not-both qs k v.told f));
+      cause = λ k. (λ e. absurd (never k e), λ f. absurd (not_both qs k v.told f));
       kept = λ k e. absurd (never k e);
       accepted = (λ f. v.told, λ a. never);
     }
 judged {qs} {reply} (suc n) v s stays =
     record {
       cause = λ k.
-          (λ e. subst (FirstNo qs) (ap number_of (sym s ∙ e)) v.told, λ f. s ∙ ap Reply.refused (first-once qs (suc n) k v.told f));
+          (λ e. subst (FirstNo qs) (ap number_of (sym s ∙ e)) v.told, λ f. s ∙ ap Reply.refused (first_once qs (suc n) k v.told f));
       kept = λ k e. stays (λ z. omega arith);
-      accepted = (λ f. absurd (f (suc n) s), λ a. absurd (not-both qs (suc n) a v.told));
+      accepted = (λ f. absurd (f (suc n) s), λ a. absurd (not_both qs (suc n) a v.told));
     }

@@ -13,63 +13,63 @@ use Rattle.block.specs.Feed.{finer}
 use Rattle.words.specs.declared.line.Line.{Line}
 use Rattle.words.specs.Meaning.{number, Means}
 use Rattle.words.specs.Whole.{NoPoint}
-use Rattle.words.specs.computed.Meaning.{meaningOf}
-use Rattle.words.specs.laws.Meaning.{meaning-means}
-use Rattle.words.specs.laws.Reading.{means-unique}
-use Rattle.words.specs.laws.Whole.{line-thousands}
+use Rattle.words.specs.computed.Meaning.{meaning_of}
+use Rattle.words.specs.laws.Meaning.{meaning_means}
+use Rattle.words.specs.laws.Reading.{means_unique}
+use Rattle.words.specs.laws.Whole.{line_thousands}
 use Rattle.settings.specs.declared.Settings.{Settings}
-use Rattle.settings.specs.Settings.{feedUnit, capacityAt, capacityOf}
-use Rattle.settings.specs.computed.Settings.{settingsNo}
+use Rattle.settings.specs.Settings.{feed_unit, capacity_at, capacity_of}
+use Rattle.settings.specs.computed.Settings.{settings_no}
 use Rattle.bench.specs.declared.Bench.{Bench}
 use Rattle.bench.specs.declared.Answer.{Answer}
 use Rattle.bench.specs.declared.Ran.{Ran}
-use Rattle.bench.specs.Bench.{fresh_of, movedOf}
+use Rattle.bench.specs.Bench.{fresh_of, moved_of}
 use Rattle.bench.specs.computed.Calls.{load_of}
 use Rattle.bench.specs.computed.Run.{run_of}
 use Rattle.finish.specs.declared.Finished.{Finished}
 use Rattle.finish.specs.laws.Record.{AtRest}
-use Rattle.finish.specs.laws.Loaded.{loaded-at-work}
+use Rattle.finish.specs.laws.Loaded.{loaded_at_work}
 use Rattle.machine.specs.declared.Machine.{Machine}
-use Rattle.machine.specs.Machine.{machine_of, fresh_of as freshMachine}
+use Rattle.machine.specs.Machine.{machine_of, fresh_of as fresh_machine}
 use Rattle.machine.specs.Calls.{answers}
-use Rattle.machine.specs.computed.Calls.{makeOf}
-use Rattle.machine.specs.laws.Alone.{alone, load-alone}
+use Rattle.machine.specs.computed.Calls.{make_of}
+use Rattle.machine.specs.laws.Alone.{alone, load_alone}
 use Rattle.reader.specs.declared.Reader.{Reader}
 use Rattle.reader.specs.declared.text_line.ReadLine.{ReadLine}
-use Rattle.reader.specs.computed.Reader.{longestText}
-use Rattle.reader.specs.Reader.{WholeKnown, unknown, readerAfter}
-use Rattle.reader.specs.laws.Feed.{feed-01, feed-fine, reader-whole, block-finer}
-use Rattle.book.specs.Book.{Book, Call, Reply, freshBook, replies, closing}
-use Rattle.book.specs.Sums.{tickBytes}
-use Rattle.book.specs.Unit.{finerCall, finerCalls}
-use Rattle.book.specs.Ledger.{blockTicks}
-use Rattle.book.specs.laws.Unit.{finerBook, history-finer, closing-fresh, ticks-finer, leaves-finer}
-use Rattle.history.specs.Reply.{answerReply}
+use Rattle.reader.specs.computed.Reader.{longest_text}
+use Rattle.reader.specs.Reader.{WholeKnown, unknown, reader_after}
+use Rattle.reader.specs.laws.Feed.{feed_01, feed_fine, reader_whole, block_finer}
+use Rattle.book.specs.Book.{Book, Call, Reply, fresh_book, replies, closing}
+use Rattle.book.specs.Sums.{tick_bytes}
+use Rattle.book.specs.Unit.{finer_call, finer_calls}
+use Rattle.book.specs.Ledger.{block_ticks}
+use Rattle.book.specs.laws.Unit.{finer_book, history_finer, closing_fresh, ticks_finer, leaves_finer}
+use Rattle.history.specs.Reply.{answer_reply}
 use Rattle.history.specs.Demand.{AsDemanded}
 use Rattle.history.specs.History.{History}
-use Rattle.history.specs.Look.{onlyTicks}
-use Rattle.history.specs.laws.Claim.{every-history}
+use Rattle.history.specs.Look.{only_ticks}
+use Rattle.history.specs.laws.Claim.{every_history}
 use Rattle.history.specs.laws.Look.{joined}
 use Rattle.job.specs.Text.{lines_of}
 use Rattle.job.specs.Job.{Made, End, Job}
-use Rattle.job.specs.Listing.{madeTicks, madeLeaves, jobListing}
-use Rattle.job.specs.Unit.{WholeText, finerMade, finerBlocks}
+use Rattle.job.specs.Listing.{made_ticks, made_leaves, job_listing}
+use Rattle.job.specs.Unit.{WholeText, finer_made, finer_blocks}
 use Rattle.job.specs.computed.Check.{enough, unless}
-use Rattle.job.specs.computed.Job.{Asks, read_on, jobFromAt, jobAt, jobFrom, job_of}
-use Rattle.job.specs.computed.Listing.{listingAt}
-use Rattle.job.specs.laws.Asks.{Read-as, line-asks}
-use Rattle.job.specs.laws.Ended.{Accepted, Low, ended_of, ended, ended-rests, ended-run, ended-ticks, ended-left, ended-low}
-use Rattle.job.specs.laws.Listing.{fresh-rests, fresh-low}
-use Rattle.job.specs.laws.Unit.{capacity-times, job-finer, listing-finer}
-use Rattle.stream.specs.computed.Stream.{runThen, is_refused, bytesFrom, tickBytesOf}
-use Rattle.stream.specs.laws.Pieces.{still-idle, nothing_left}
-use Rattle.demands.specs.Before.{jobCalls, bytesTold, bookBytes, AsBefore, EveryWholeFeed}
-use Rattle.demands.specs.Questions.{lineBlock}
+use Rattle.job.specs.computed.Job.{Asks, read_on, job_from_at, job_at, job_from, job_of}
+use Rattle.job.specs.computed.Listing.{listing_at}
+use Rattle.job.specs.laws.Asks.{Read-as, line_asks_lem}
+use Rattle.job.specs.laws.Ended.{Accepted, Low, ended_of, ended, ended_rests, ended_run, ended_ticks, ended_left, ended_low}
+use Rattle.job.specs.laws.Listing.{fresh_rests, fresh_low}
+use Rattle.job.specs.laws.Unit.{capacity_times, job_finer, listing_finer}
+use Rattle.stream.specs.computed.Stream.{run_then, is_refused, bytes_from, tick_bytes_of}
+use Rattle.stream.specs.laws.Pieces.{still_idle, nothing_left}
+use Rattle.demands.specs.Before.{job_calls, bytes_told, book_bytes, AsBefore, EveryWholeFeed}
+use Rattle.demands.specs.Questions.{line_block}
 use Rattle.demands.specs.Runs.{TicksTo}
 use Rattle.demands.specs.Texts.{TextMeans, FrontOf, TellsOver}
-use Rattle.demands.specs.laws.Bench.{settings-pass}
-use Rattle.demands.specs.laws.Texts.{every-text}
-use Rattle.demands.specs.laws.TickBytes.{run-to-end, stream-front}
+use Rattle.demands.specs.laws.Bench.{settings_pass}
+use Rattle.demands.specs.laws.Texts.{every_text}
+use Rattle.demands.specs.laws.TickBytes.{run_to_end, stream_front}
 
 -- ---- calls of a history, and the tick bytes that they answer
 
@@ -77,52 +77,52 @@ record Cut (m : Machine) (cs : List Call) (bytes : List ℕ) : Type 0 where
   replies : List Reply
   last : Machine
   history : History m cs replies last
-  told : bytesTold replies ≡ bytes
+  told : bytes_told replies ≡ bytes
 
 record OnlyTicked (m : Machine) (bytes : List ℕ) (m' : Machine) : Type 0 where
   replies : List Reply
-  history : History m (onlyTicks (length bytes)) replies m'
-  told : bytesTold replies ≡ bytes
+  history : History m (only_ticks (length bytes)) replies m'
+  told : bytes_told replies ≡ bytes
 
-told_more : (rs ss : List Reply) → bytesTold (rs ++ ss) ≡ bytesTold rs ++ bytesTold ss
-unfolding bytesTold
+told_more : (rs ss : List Reply) → bytes_told (rs ++ ss) ≡ bytes_told rs ++ bytes_told ss
+unfolding bytes_told
 told_more [] ss = refl
 told_more (r ∷ rs) ss =
-    ap (λ (bs : List ℕ). tickBytes r ++ bs) (told_more rs ss) ∙ sym (append_assoc (tickBytes r) (bytesTold rs) (bytesTold ss))
+    ap (λ (bs : List ℕ). tick_bytes r ++ bs) (told_more rs ss) ∙ sym (append_assoc (tick_bytes r) (bytes_told rs) (bytes_told ss))
 
-no_byte : (a : Answer) → tickBytes (answerReply a) ≡ []
+no_byte : (a : Answer) → tick_bytes (answer_reply a) ≡ []
 no_byte Answer.Done = refl
 no_byte (Answer.Width bits) = refl
 no_byte (Answer.Refused number) = refl
 
-only-ticked : {m m' : Machine} {bytes : List ℕ} → TicksTo m bytes m' → OnlyTicked m bytes m'
-unfolding bytesTold
-only-ticked TicksTo.none = record { replies = []; history = History.ends; told = refl }
-only-ticked (TicksTo.one r byte h e later) =
-    let o = only-ticked later in
+only_ticked : {m m' : Machine} {bytes : List ℕ} → TicksTo m bytes m' → OnlyTicked m bytes m'
+unfolding bytes_told
+only_ticked TicksTo.none = record { replies = []; history = History.ends; told = refl }
+only_ticked (TicksTo.one r byte h e later) =
+    let o = only_ticked later in
     record { replies = _ ∷ o.replies; history = History.ticks r h o.history; told = rw (e, o.told) }
 
 -- ---- a block, loaded and ticked to its end
 
 module _ (m : Bench) (b : Block) (i : AtRest m) (low : Low m) (ok : Accepted m b) (rest : Bench → List ℕ) where
-  block-cut : {cs : List Call} → Cut (alone (ended_of m b).bench) cs (rest (ended_of m b).bench)
-      → Cut (alone m) (Call.load b ∷ (onlyTicks (blockTicks (capacityOf m.settings) m.remainder m.at b) ++ cs))
-      (runThen (load_of m b).bench rest)
-  unfolding machine_of movedOf bytesTold
-  block-cut {cs} later =
+  block_cut : {cs : List Call} → Cut (alone (ended_of m b).bench) cs (rest (ended_of m b).bench)
+      → Cut (alone m) (Call.load b ∷ (only_ticks (block_ticks (capacity_of m.settings) m.remainder m.at b) ++ cs))
+      (run_then (load_of m b).bench rest)
+  unfolding machine_of moved_of bytes_told
+  block_cut {cs} later =
       let loaded = load_of m b in
       let x = run_of loaded.bench enough enough in
-      let left : x.ran.bench ≡ (ended_of m b).bench = ap (λ (r : Ran). r.bench) (ended-run m i b ok) in
-      let e = run-to-end loaded.bench (loaded-at-work m i b (rw i.idle ok)) in
-      let many : length x.bytes ≡ blockTicks (capacityOf m.settings) m.remainder m.at b =
-      e.finishes ∙ ap (λ (f : Finished). f.ticks) (ended m i b ok) ∙ ended-ticks m i b ok low in
-      let o = only-ticked (subst (λ (k : Bench). TicksTo (alone loaded.bench) x.bytes (alone k)) left e.ticks) in
+      let left : x.ran.bench ≡ (ended_of m b).bench = ap (λ (r : Ran). r.bench) (ended_run m i b ok) in
+      let e = run_to_end loaded.bench (loaded_at_work m i b (rw i.idle ok)) in
+      let many : length x.bytes ≡ block_ticks (capacity_of m.settings) m.remainder m.at b =
+      e.finishes ∙ ap (λ (f : Finished). f.ticks) (ended m i b ok) ∙ ended_ticks m i b ok low in
+      let o = only_ticked (subst (λ (k : Bench). TicksTo (alone loaded.bench) x.bytes (alone k)) left e.ticks) in
       let r = answers loaded.answer (alone loaded.bench) in
       rw (left, ← many)
       (record {
-        replies = answerReply r.answer ∷ (o.replies ++ later.replies);
+        replies = answer_reply r.answer ∷ (o.replies ++ later.replies);
         last = later.last;
-        history = History.loads b r (sym (load-alone m b i.idle)) (joined o.history later.history);
+        history = History.loads b r (sym (load_alone m b i.idle)) (joined o.history later.history);
         told = rw (no_byte loaded.answer) (told_more o.replies later.replies ∙ rw (o.told, later.told));
       })
 
@@ -131,164 +131,164 @@ module _ (m : Bench) (b : Block) (i : AtRest m) (low : Low m) (ok : Accepted m b
 abbrev Cuts : List (List ℕ) → Type 0
 Cuts ls =
     (n : ℕ) (m : Bench) (k : Reader) → AtRest m → Low m
-    → Cut (alone m) (jobCalls (capacityOf m.settings) m.remainder (jobFrom m.settings n m.at k ls).blocks) (bytesFrom m k ls)
+    → Cut (alone m) (job_calls (capacity_of m.settings) m.remainder (job_from m.settings n m.at k ls).blocks) (bytes_from m k ls)
 
-by-line : (m : Bench) (n : ℕ) (k : Reader) (ls : List (List ℕ)) → AtRest m → Low m → Cuts ls → {a : Asks} {r : ReadLine} → Read-as m k a r
+by_line : (m : Bench) (n : ℕ) (k : Reader) (ls : List (List ℕ)) → AtRest m → Low m → Cuts ls → {a : Asks} {r : ReadLine} → Read-as m k a r
     → Cut (alone m)
-    (jobCalls (capacityOf m.settings) m.remainder (read_on n m.at a (λ at k'. jobFrom m.settings (n + 1) at k' ls)).blocks)
-    (unless (is_refused r.answer) (runThen r.bench (λ m'. bytesFrom m' r.reader ls)))
-unfolding movedOf jobCalls bytesTold
-by-line m n k ls i low rest (Read-as.nothing known) =
-    rw (nothing_left m (λ (m' : Bench). bytesFrom m' known ls) (still-idle m i.idle)) (rest (n + 1) m known i low)
-by-line m n k ls i low rest (Read-as.makes known b ok) =
-    let later = rest (n + 1) (ended_of m b).bench known (ended-rests m i b ok) (ended-low m i b ok low) in
-    block-cut m b i low ok (λ m'. bytesFrom m' known ls)
+    (job_calls (capacity_of m.settings) m.remainder (read_on n m.at a (λ at k'. job_from m.settings (n + 1) at k' ls)).blocks)
+    (unless (is_refused r.answer) (run_then r.bench (λ m'. bytes_from m' r.reader ls)))
+unfolding moved_of job_calls bytes_told
+by_line m n k ls i low rest (Read-as.nothing known) =
+    rw (nothing_left m (λ (m' : Bench). bytes_from m' known ls) (still_idle m i.idle)) (rest (n + 1) m known i low)
+by_line m n k ls i low rest (Read-as.makes known b ok) =
+    let later = rest (n + 1) (ended_of m b).bench known (ended_rests m i b ok) (ended_low m i b ok low) in
+    block_cut m b i low ok (λ m'. bytes_from m' known ls)
     (subst (λ (r : ℕ). Cut (alone (ended_of m b).bench)
-    (jobCalls (capacityOf m.settings) r (jobFrom m.settings (n + 1) b.end known ls).blocks)
-    (bytesFrom (ended_of m b).bench known ls)) (ended-left m i b ok low) later)
-by-line m n k ls i low rest (Read-as.refuses number) =
+    (job_calls (capacity_of m.settings) r (job_from m.settings (n + 1) b.end known ls).blocks)
+    (bytes_from (ended_of m b).bench known ls)) (ended_left m i b ok low) later)
+by_line m n k ls i low rest (Read-as.refuses number) =
     record { replies = []; last = alone m; history = History.ends; told = refl }
 
 lines_cut : (ls : List (List ℕ)) → Cuts ls
-unfolding bytesFrom jobFromAt jobCalls bytesTold
+unfolding bytes_from job_from_at job_calls bytes_told
 lines_cut [] n m k i low = record { replies = []; last = alone m; history = History.ends; told = refl }
-lines_cut (l ∷ ls) n m k i low = by-line m n k ls i low (lines_cut ls) (line-asks m k i.sound i.idle l)
+lines_cut (l ∷ ls) n m k i low = by_line m n k ls i low (lines_cut ls) (line_asks_lem m k i.sound i.idle l)
 
-module _ (s : Settings) (passed : settingsNo s ≡ 0) (text : List ℕ) where
-  text-cut : Cut (freshMachine s) (jobCalls (capacityOf s) 0 (job_of s text).blocks) (tickBytesOf s text)
-  unfolding tickBytesOf jobAt fresh_of jobCalls bytesTold
-  text-cut = by (leb (length text) longestText)
+module _ (s : Settings) (passed : settings_no s ≡ 0) (text : List ℕ) where
+  text_cut : Cut (fresh_machine s) (job_calls (capacity_of s) 0 (job_of s text).blocks) (tick_bytes_of s text)
+  unfolding tick_bytes_of job_at fresh_of job_calls bytes_told
+  text_cut = by (leb (length text) longest_text)
     where
       by : (short : Bool)
-          → Cut (freshMachine s)
-          (jobCalls (capacityOf s) 0 (cond short (jobFrom s 1 (record { x = pos 0; y = pos 0 }) unknown (lines_of text))
+          → Cut (fresh_machine s)
+          (job_calls (capacity_of s) 0 (cond short (job_from s 1 (record { x = pos 0; y = pos 0 }) unknown (lines_of text))
           (record { blocks = []; end = End.refused 1 30 })).blocks)
-          (cond short (bytesFrom (fresh_of s) unknown (lines_of (drop 0 text))) [])
-      by true = lines_cut (lines_of text) 1 (fresh_of s) unknown (fresh-rests s passed) (fresh-low s passed)
-      by false = record { replies = []; last = freshMachine s; history = History.ends; told = refl }
+          (cond short (bytes_from (fresh_of s) unknown (lines_of (drop 0 text))) [])
+      by true = lines_cut (lines_of text) 1 (fresh_of s) unknown (fresh_rests s passed) (fresh_low s passed)
+      by false = record { replies = []; last = fresh_machine s; history = History.ends; told = refl }
 
-  made-fresh : (makeOf s).machine ≡ freshMachine s
-  unfolding makeOf
-  made-fresh = rw passed
+  made_fresh : (make_of s).machine ≡ fresh_machine s
+  unfolding make_of
+  made_fresh = rw passed
 
   -- the book, by 02 §4's unit
-  book-bytes : tickBytesOf s text ≡ bookBytes (capacityOf s) s.travel (job_of s text).blocks
+  book_bytes_lem : tick_bytes_of s text ≡ book_bytes (capacity_of s) s.travel (job_of s text).blocks
   unfolding fresh_of machine_of
-  book-bytes =
-      let c = text-cut in
-      let cs = jobCalls (capacityOf s) 0 (job_of s text).blocks in
-      let h = subst (λ (m : Machine). History m cs c.replies c.last) (sym made-fresh) c.history in
-      let a = (every-history s (makeOf s) refl cs c.replies c.last h).answers in
-      sym c.told ∙ ap bytesTold a
-      ∙ ap (λ (m : Machine). bytesTold (replies (capacityOf m.bench.settings) m.bench.settings.travel freshBook cs)) made-fresh
+  book_bytes_lem =
+      let c = text_cut in
+      let cs = job_calls (capacity_of s) 0 (job_of s text).blocks in
+      let h = subst (λ (m : Machine). History m cs c.replies c.last) (sym made_fresh) c.history in
+      let a = (every_history s (make_of s) refl cs c.replies c.last h).answers in
+      sym c.told ∙ ap bytes_told a
+      ∙ ap (λ (m : Machine). bytes_told (replies (capacity_of m.bench.settings) m.bench.settings.travel fresh_book cs)) made_fresh
 
 -- ---- the unit
 
 module _ (u : ℕ) (some : 1 ≤ u) (q0 : ℕ) where
-  more-calls : (cs ds : List Call) → finerCalls u (cs ++ ds) ≡ finerCalls u cs ++ finerCalls u ds
-  more-calls [] ds = refl
-  more-calls (c ∷ cs) ds = ap (λ (es : List Call). finerCall u c ∷ es) (more-calls cs ds)
+  more_calls : (cs ds : List Call) → finer_calls u (cs ++ ds) ≡ finer_calls u cs ++ finer_calls u ds
+  more_calls [] ds = refl
+  more_calls (c ∷ cs) ds = ap (λ (es : List Call). finer_call u c ∷ es) (more_calls cs ds)
 
-  ticks-stay : (n : ℕ) → finerCalls u (onlyTicks n) ≡ onlyTicks n
-  ticks-stay zero = refl
-  ticks-stay (suc n) = ap (λ (es : List Call). Call.tick ∷ es) (ticks-stay n)
+  ticks_stay : (n : ℕ) → finer_calls u (only_ticks n) ≡ only_ticks n
+  ticks_stay zero = refl
+  ticks_stay (suc n) = ap (λ (es : List Call). Call.tick ∷ es) (ticks_stay n)
 
-  calls-finer : (r : ℕ) (ms : List Made) → jobCalls (u * q0) (u * r) (finerBlocks u ms) ≡ finerCalls u (jobCalls q0 r ms)
-  unfolding jobCalls
-  calls-finer r [] = refl
-  calls-finer r (m ∷ ms) =
-      let n = madeTicks q0 r m in
-      let later = madeLeaves (u * q0) (u * r) (finerMade u m) in
+  calls_finer : (r : ℕ) (ms : List Made) → job_calls (u * q0) (u * r) (finer_blocks u ms) ≡ finer_calls u (job_calls q0 r ms)
+  unfolding job_calls
+  calls_finer r [] = refl
+  calls_finer r (m ∷ ms) =
+      let n = made_ticks q0 r m in
+      let later = made_leaves (u * q0) (u * r) (finer_made u m) in
       ap (λ (cs : List Call). Call.load (finer u m.block) ∷ cs)
-      (ap (λ (t : ℕ). onlyTicks t ++ jobCalls (u * q0) later (finerBlocks u ms)) (ticks-finer u some q0 r m.start m.block)
-      ∙ ap (λ (l : ℕ). onlyTicks n ++ jobCalls (u * q0) l (finerBlocks u ms)) (leaves-finer u some q0 r m.start m.block)
-      ∙ ap (λ (cs : List Call). onlyTicks n ++ cs) (calls-finer (madeLeaves q0 r m) ms)
-      ∙ ap (λ (cs : List Call). cs ++ finerCalls u (jobCalls q0 (madeLeaves q0 r m) ms)) (sym (ticks-stay n))
-      ∙ sym (more-calls (onlyTicks n) (jobCalls q0 (madeLeaves q0 r m) ms)))
+      (ap (λ (t : ℕ). only_ticks t ++ job_calls (u * q0) later (finer_blocks u ms)) (ticks_finer u some q0 r m.start m.block)
+      ∙ ap (λ (l : ℕ). only_ticks n ++ job_calls (u * q0) l (finer_blocks u ms)) (leaves_finer u some q0 r m.start m.block)
+      ∙ ap (λ (cs : List Call). only_ticks n ++ cs) (calls_finer (made_leaves q0 r m) ms)
+      ∙ ap (λ (cs : List Call). cs ++ finer_calls u (job_calls q0 (made_leaves q0 r m) ms)) (sym (ticks_stay n))
+      ∙ sym (more_calls (only_ticks n) (job_calls q0 (made_leaves q0 r m) ms)))
 
-  bytes-finer : (travel : Travel) (ms : List Made) → bookBytes (u * q0) travel (finerBlocks u ms) ≡ bookBytes q0 travel ms
-  bytes-finer travel ms =
-      ap (λ (cs : List Call). bytesTold (replies (u * q0) travel freshBook cs))
-      (ap (λ (r : ℕ). jobCalls (u * q0) r (finerBlocks u ms)) none ∙ calls-finer 0 ms)
-      ∙ ap bytesTold (history-finer u some q0 travel (jobCalls q0 0 ms))
+  bytes_finer : (travel : Travel) (ms : List Made) → book_bytes (u * q0) travel (finer_blocks u ms) ≡ book_bytes q0 travel ms
+  bytes_finer travel ms =
+      ap (λ (cs : List Call). bytes_told (replies (u * q0) travel fresh_book cs))
+      (ap (λ (r : ℕ). job_calls (u * q0) r (finer_blocks u ms)) none ∙ calls_finer 0 ms)
+      ∙ ap bytes_told (history_finer u some q0 travel (job_calls q0 0 ms))
     where
       none : 0 ≡ u * 0
       none = omega arith
 
-some-unit : 1 ≤ feedUnit
-some-unit = omega arith
+some_unit : 1 ≤ feed_unit
+some_unit = omega arith
 
 -- ---- the claim
 
 module _ (s : Settings) (text : List ℕ) (whole : WholeText text) {made : List Made} {end : End} (means : TextMeans 1 s text made end) where
-  before : jobAt 1 s text ≡ record { blocks = made; end = end }
-  before = (every-text.means 1 s text made end).0 means
+  before : job_at 1 s text ≡ record { blocks = made; end = end }
+  before = (every_text.means 1 s text made end).0 means
 
-  after : job_of s text ≡ record { blocks = finerBlocks feedUnit made; end = end }
-  after = job-finer feedUnit some-unit s text whole
-      ∙ ap (λ (j : Job). record { blocks = finerBlocks feedUnit j.blocks; end = j.end }) before
+  after : job_of s text ≡ record { blocks = finer_blocks feed_unit made; end = end }
+  after = job_finer feed_unit some_unit s text whole
+      ∙ ap (λ (j : Job). record { blocks = finer_blocks feed_unit j.blocks; end = j.end }) before
 
   -- the listing, as the check hands it out
-  listed : listingAt feedUnit s text ≡ jobListing (capacityAt 1 s) (record { blocks = made; end = end })
-  unfolding listingAt
-  listed = listing-finer feedUnit some-unit s text whole ∙ ap (jobListing (capacityAt 1 s)) before
+  listed : listing_at feed_unit s text ≡ job_listing (capacity_at 1 s) (record { blocks = made; end = end })
+  unfolding listing_at
+  listed = listing_finer feed_unit some_unit s text whole ∙ ap (job_listing (capacity_at 1 s)) before
 
   -- and the tick bytes
-  told : settingsNo s ≡ 0 → tickBytesOf s text ≡ bookBytes (capacityAt 1 s) s.travel made
+  told : settings_no s ≡ 0 → tick_bytes_of s text ≡ book_bytes (capacity_at 1 s) s.travel made
   told passed =
-      book-bytes s passed text
-      ∙ ap (λ (j : Job). bookBytes (capacityOf s) s.travel j.blocks) after
-      ∙ ap (λ (q : ℕ). bookBytes q s.travel (finerBlocks feedUnit made)) (capacity-times feedUnit s)
-      ∙ bytes-finer feedUnit some-unit (capacityAt 1 s) s.travel made
+      book_bytes_lem s passed text
+      ∙ ap (λ (j : Job). book_bytes (capacity_of s) s.travel j.blocks) after
+      ∙ ap (λ (q : ℕ). book_bytes q s.travel (finer_blocks feed_unit made)) (capacity_times feed_unit s)
+      ∙ bytes_finer feed_unit some_unit (capacity_at 1 s) s.travel made
 
-as_before : (s : Settings) (cs : List Call) {rs : List Reply} {m : Machine} → AsDemanded s (finerCalls feedUnit cs) rs m
-    → AsBefore feedUnit s cs rs m
+as_before : (s : Settings) (cs : List Call) {rs : List Reply} {m : Machine} → AsDemanded s (finer_calls feed_unit cs) rs m
+    → AsBefore feed_unit s cs rs m
 as_before s cs d =
-    let q0 = capacityAt 1 s in
-    let same : closing (capacityOf s) s.travel freshBook (finerCalls feedUnit cs)
-    ≡ finerBook feedUnit (closing q0 s.travel freshBook cs) =
-    ap (λ (q : ℕ). closing q s.travel freshBook (finerCalls feedUnit cs)) (capacity-times feedUnit s)
-    ∙ closing-fresh feedUnit some-unit q0 s.travel cs in
+    let q0 = capacity_at 1 s in
+    let same : closing (capacity_of s) s.travel fresh_book (finer_calls feed_unit cs)
+    ≡ finer_book feed_unit (closing q0 s.travel fresh_book cs) =
+    ap (λ (q : ℕ). closing q s.travel fresh_book (finer_calls feed_unit cs)) (capacity_times feed_unit s)
+    ∙ closing_fresh feed_unit some_unit q0 s.travel cs in
     record {
       answers = d.answers
-          ∙ ap (λ (q : ℕ). replies q s.travel freshBook (finerCalls feedUnit cs)) (capacity-times feedUnit s)
-          ∙ history-finer feedUnit some-unit q0 s.travel cs;
+          ∙ ap (λ (q : ℕ). replies q s.travel fresh_book (finer_calls feed_unit cs)) (capacity_times feed_unit s)
+          ∙ history_finer feed_unit some_unit q0 s.travel cs;
       point = d.point ∙ ap (λ (b : Book). b.bench.at) same;
       mark = d.mark ∙ ap (λ (b : Book). b.bench.mark) same;
       remainder = d.remainder ∙ ap (λ (b : Book). b.bench.remainder) same;
     }
 
-digits-known : (n : ℕ) → ((n * 1000 + 0) / 1000 ≡ n) × ((n * 1000 + 0) % 1000 ≡ 0)
-digits-known n = (omega arith, omega arith)
+digits_known : (n : ℕ) → ((n * 1000 + 0) / 1000 ≡ n) × ((n * 1000 + 0) % 1000 ≡ 0)
+digits_known n = (omega arith, omega arith)
 
 line_same : (k : Reader) → WholeKnown k.feed → (scale : ℕ) (start : Point) (bytes : List ℕ) → NoPoint bytes
     → (l : Line) → Means bytes l
-    → (lineBlock feedUnit k scale start l ≡ finer feedUnit (lineBlock 1 k scale start l)) × WholeKnown (readerAfter k l.words).feed
+    → (line_block feed_unit k scale start l ≡ finer feed_unit (line_block 1 k scale start l)) × WholeKnown (reader_after k l.words).feed
 line_same k known scale start bytes whole l means =
-    let is = means-unique bytes (meaningOf bytes) l (meaning-means bytes) means in
-    let after = reader-whole k l.words known (ap (λ (m : Line). m.words.f.magnitude % 1000) (sym is) ∙ line-thousands bytes whole) in
-    (block-finer feedUnit scale (readerAfter k l.words) l.words start after, after)
+    let is = means_unique bytes (meaning_of bytes) l (meaning_means bytes) means in
+    let after = reader_whole k l.words known (ap (λ (m : Line). m.words.f.magnitude % 1000) (sym is) ∙ line_thousands bytes whole) in
+    (block_finer feed_unit scale (reader_after k l.words) l.words start after, after)
 
-pub every-whole-feed : EveryWholeFeed
-unfolding listingAt
-every-whole-feed =
+pub every_whole_feed : EveryWholeFeed
+unfolding listing_at
+every_whole_feed =
     record {
       capacity = λ s. omega arith;
-      feed = feed-01;
-      capacity-now = λ s. refl;
-      feed-now = feed-fine;
-      known = λ f digits. rw ((digits-known (number digits)).0, (digits-known (number digits)).1);
+      feed = feed_01;
+      capacity_now = λ s. refl;
+      feed_now = feed_fine;
+      known = λ f digits. rw ((digits_known (number digits)).0, (digits_known (number digits)).1);
       line = line_same;
       job = λ s text whole made end means.
-          (every-text.means feedUnit s text (finerBlocks feedUnit made) end).1 (after s text whole means);
+          (every_text.means feed_unit s text (finer_blocks feed_unit made) end).1 (after s text whole means);
       listing = λ s pass text whole made end means c e bytes d rows.
           subst (λ (l : List ℕ). FrontOf l bytes (TellsOver d true))
           (listed s text whole means)
-          (every-text.listing s pass c e text bytes d rows);
+          (every_text.listing s pass c e text bytes d rows);
       bytes = λ s pass text whole made end means t e bytes u out.
           subst (λ (l : List ℕ). FrontOf l bytes (u.over ≡ true))
-          (told s text whole means ((settings-pass s).1 pass))
-          (stream-front s t e text bytes u out);
+          (told s text whole means ((settings_pass s).1 pass))
+          (stream_front s t e text bytes u out);
       history = λ asked made h cs rs m t.
-          as_before made.machine.bench.settings cs (every-history asked made h (finerCalls feedUnit cs) rs m t);
+          as_before made.machine.bench.settings cs (every_history asked made h (finer_calls feed_unit cs) rs m t);
     }

@@ -3,33 +3,33 @@ use Rattle.std.specs.Prelude.{◌≡◌, refl, Bool, true, not, ◌&&◌, ◌↔
 use Rattle.std.proofs.Common.{ap, arith, le-leb, ne_eqb}
 use Rattle.whole.specs.laws.Test.{joined}
 use Rattle.plane.specs.declared.point.Point.{Point}
-use Rattle.plane.specs.Travel.{insideOf, visitsInside}
+use Rattle.plane.specs.Travel.{inside_of, visits_inside}
 use Rattle.circle.specs.declared.plane.Offset.{Offset}
-use Rattle.circle.specs.Circle.{onCircle}
-use Rattle.circle.specs.laws.Circle.{on-circle-to, on-circle-of}
+use Rattle.circle.specs.Circle.{on_circle}
+use Rattle.circle.specs.laws.Circle.{on_circle_to, on_circle_of}
 use Rattle.line.specs.Line.{differ}
-use Rattle.arc.specs.Centre.{seenFrom, backFrom}
-use Rattle.arc.specs.computed.Arc.{arcAfter, arcCycles}
+use Rattle.arc.specs.Centre.{seen_from, back_from}
+use Rattle.arc.specs.computed.Arc.{arc_after, arc_cycles}
 use Rattle.block.specs.declared.Block.{Block}
 use Rattle.block.specs.declared.Path.{Path}
-use Rattle.block.specs.Block.{squareOf, arcOf}
-use Rattle.block.specs.Questions.{feedRight, offsetRight, loadNo, pathNo}
-use Rattle.block.specs.laws.Begin.{offset-right, square-some, square-most, start-on}
+use Rattle.block.specs.Block.{square_of, arc_of}
+use Rattle.block.specs.Questions.{feed_right, offset_right, load_no, path_no}
+use Rattle.block.specs.laws.Begin.{offset_right_lem, square_some, square_most, start_on}
 use Rattle.work.specs.declared.Work.{Work}
-use Rattle.work.specs.Work.{isNothing}
+use Rattle.work.specs.Work.{is_nothing}
 use Rattle.settings.specs.declared.Settings.{Settings}
-use Rattle.settings.specs.Settings.{capacityAt}
+use Rattle.settings.specs.Settings.{capacity_at}
 use Rattle.work.specs.laws.Left.{nothing_is}
-use Rattle.demands.specs.Block.{CentreRight, EndOnCircle, pathQuestions, blockQuestions}
-use Rattle.demands.specs.laws.Asked.{Verdict, asked, none-asked}
-use Rattle.demands.specs.laws.Bench.{in-range, in-travel, line-differs, visits-is}
+use Rattle.demands.specs.Block.{CentreRight, EndOnCircle, path_questions, block_questions}
+use Rattle.demands.specs.laws.Asked.{Verdict, asked, none_asked}
+use Rattle.demands.specs.laws.Bench.{in_range_lem, in_travel, line_differs, visits_is}
 
-pub nothing-iff : (w : Work) → (isNothing w ≡ true) ↔ (w ≡ Work.Nothing)
-nothing-iff w = (nothing_is w, λ e. ap isNothing e)
+pub nothing_iff : (w : Work) → (is_nothing w ≡ true) ↔ (w ≡ Work.Nothing)
+nothing_iff w = (nothing_is w, λ e. ap is_nothing e)
 
-pub centre-is : (centre : Offset) → (offsetRight centre ≡ true) ↔ CentreRight centre
-centre-is o = (
-  λ e. let r = offset-right o e in record { x = r.x; y = r.y; some = λ z. omega (arith, r.some) },
+pub centre_is : (centre : Offset) → (offset_right centre ≡ true) ↔ CentreRight centre
+centre_is o = (
+  λ e. let r = offset_right_lem o e in record { x = r.x; y = r.y; some = λ z. omega (arith, r.some) },
   λ c. joined (joined (le-leb _ _ c.x) (le-leb _ _ c.y)) (by (nat_abs o.x) (nat_abs o.y) c.some),
 )
   where
@@ -41,29 +41,29 @@ centre-is o = (
 module _ (s : Settings) (start : Point) (b : Block) where
   -- question 14 bounds N, so question 15 is the circle's alone
   end_is : (centre : Offset) → CentreRight centre
-      → (onCircle (squareOf centre) (seenFrom (backFrom start centre) b.end) ≡ true) ↔ EndOnCircle start b centre
+      → (on_circle (square_of centre) (seen_from (back_from start centre) b.end) ≡ true) ↔ EndOnCircle start b centre
   end_is o c =
-      let r = offset-right o ((centre-is o).1 c) in (
-        λ e. (on-circle-to _ _ e).circle,
-        λ p. on-circle-of _ _ (record { some = square-some o r; bound = square-most o r; circle = p }),
+      let r = offset_right_lem o ((centre_is o).1 c) in (
+        λ e. (on_circle_to _ _ e).circle,
+        λ p. on_circle_of _ _ (record { some = square_some o r; bound = square_most o r; circle = p }),
       )
 
-  path-verdict : (p : Path) → Verdict (pathQuestions s start b p) (pathNo s.travel start b p)
-  unfolding arcOf
-  path-verdict Path.Line = asked (differ start b.end) 12 (line-differs start b.end) (λ _. none-asked)
-  path-verdict (Path.Arc turn centre) =
-      let a = arcOf start b turn centre in
-      asked (offsetRight centre) 13 (centre-is centre) (λ right.
-      asked (onCircle (squareOf centre) (seenFrom (backFrom start centre) b.end)) 14 (end_is centre right) (λ there.
-      let here = (on-circle-to _ _ (start-on start centre (offset-right centre ((centre-is centre).1 right)))).circle in
-      asked (visitsInside s.travel (arcAfter a start) (arcCycles a start)) 15 (visits-is s.travel a start here there)
-      (λ _. none-asked)))
+  path_verdict : (p : Path) → Verdict (path_questions s start b p) (path_no s.travel start b p)
+  unfolding arc_of
+  path_verdict Path.Line = asked (differ start b.end) 12 (line_differs start b.end) (λ _. none_asked)
+  path_verdict (Path.Arc turn centre) =
+      let a = arc_of start b turn centre in
+      asked (offset_right centre) 13 (centre_is centre) (λ right.
+      asked (on_circle (square_of centre) (seen_from (back_from start centre) b.end)) 14 (end_is centre right) (λ there.
+      let here = (on_circle_to _ _ (start_on start centre (offset_right_lem centre ((centre_is centre).1 right)))).circle in
+      asked (visits_inside s.travel (arc_after a start) (arc_cycles a start)) 15 (visits_is s.travel a start here there)
+      (λ _. none_asked)))
 
-  pub block-verdict : {Room : Type 0} (u : ℕ) (room : Bool) → (room ≡ true) ↔ Room
-      → Verdict (blockQuestions u Room s start b) (loadNo (capacityAt u s) s.travel room start b)
-  unfolding loadNo
-  block-verdict u room is =
+  pub block_verdict : {Room : Type 0} (u : ℕ) (room : Bool) → (room ≡ true) ↔ Room
+      → Verdict (block_questions u Room s start b) (load_no (capacity_at u s) s.travel room start b)
+  unfolding load_no
+  block_verdict u room is =
       asked room 9 is (λ _.
-      asked (feedRight (capacityAt u s) b.feed) 10 (in-range 1 (capacityAt u s) b.feed) (λ _.
-      asked (insideOf s.travel b.end) 11 (in-travel s.travel b.end) (λ _.
-      path-verdict b.path)))
+      asked (feed_right (capacity_at u s) b.feed) 10 (in_range_lem 1 (capacity_at u s) b.feed) (λ _.
+      asked (inside_of s.travel b.end) 11 (in_travel s.travel b.end) (λ _.
+      path_verdict b.path)))

@@ -4,58 +4,58 @@ use Rattle.std.proofs.Common.{sym, ap, subst, ◌∙◌, append_assoc}
 use Rattle.std.specs.Borrow.{Bor}
 use Rattle.whole.specs.laws.Test.{both, joined, refuted}
 use Rattle.settings.specs.declared.Settings.{Settings}
-use Rattle.settings.specs.computed.Settings.{settingsNo}
+use Rattle.settings.specs.computed.Settings.{settings_no}
 use Rattle.bench.specs.declared.Bench.{Bench}
-use Rattle.bench.specs.computed.Calls.{makeWith, makeOf}
+use Rattle.bench.specs.computed.Calls.{make_with, make_of}
 use Rattle.machine.specs.Machine.{machine_of}
-use Rattle.machine.specs.computed.Calls.{makeWith as machineMakeWith, makeOf as machineMake}
-use Rattle.tally.specs.computed.Tally.{tallyFrom as tallyStart}
+use Rattle.machine.specs.computed.Calls.{make_with as machine_make_with, make_of as machine_make}
+use Rattle.tally.specs.computed.Tally.{tally_from as tally_start}
 use Rattle.job.specs.declared.Stage.{Stage}
 use Rattle.job.specs.declared.Check.{Check}
-use Rattle.job.specs.computed.Listing.{listingOf}
-use Rattle.job.specs.computed.Check.{checkFrom, rest_at, rest_of}
-use Rattle.job.specs.Check.{stageOver}
-use Rattle.encoding.specs.Words.{encodeOf, markWord}
-use Rattle.encoding.specs.computed.Words.{benchRead, soundWords}
-use Rattle.encoding.specs.laws.Same.{same_true, same-words}
-use Rattle.encoding.specs.laws.Record.{machine-back, words_are, told-sound, sound-words}
-use Rattle.progress.specs.Progress.{encodeProgress, checkIn}
-use Rattle.progress.specs.computed.Progress.{decodeProgress}
-use Rattle.calls.specs.Calls.{answerNumber}
-use Rattle.calls.specs.computed.Calls.{Told, tells, benchMade}
-use Rattle.ccheck.specs.computed.Check.{startProgress, checkTold, isCheck, Hands, TellsFill}
+use Rattle.job.specs.computed.Listing.{listing_of}
+use Rattle.job.specs.computed.Check.{check_from, rest_at, rest_of}
+use Rattle.job.specs.Check.{stage_over}
+use Rattle.encoding.specs.Words.{encode_of, mark_word}
+use Rattle.encoding.specs.computed.Words.{bench_read, sound_words}
+use Rattle.encoding.specs.laws.Same.{same_true, same_words_lem}
+use Rattle.encoding.specs.laws.Record.{machine_back, words_are, told_sound, sound_words_lem}
+use Rattle.progress.specs.Progress.{encode_progress, check_in}
+use Rattle.progress.specs.computed.Progress.{decode_progress}
+use Rattle.calls.specs.Calls.{answer_number}
+use Rattle.calls.specs.computed.Calls.{Told, tells, bench_made}
+use Rattle.ccheck.specs.computed.Check.{start_progress, check_told, is_check, Hands, TellsFill}
 use Rattle.ccheck.specs.Check.{Refuses}
-use Rattle.ccheck.specs.laws.Check.{rows_told, refused-told}
-use Rattle.ccheck.specs.laws.Start.{Told as CheckTold, start-told, start-lists, hands, fill-told}
+use Rattle.ccheck.specs.laws.Check.{rows_told, refused_told}
+use Rattle.ccheck.specs.laws.Start.{Told as CheckTold, start_told, start_lists, hands, fill_told}
 use Rattle.demands.specs.Asked.{AllYes}
-use Rattle.demands.specs.Bench.{settingsQuestions}
+use Rattle.demands.specs.Bench.{settings_questions}
 use Rattle.demands.specs.Texts.{FrontOf}
 use Rattle.demands.specs.CheckFromC.{StartedWords, OwnFill, IsCheck, RowsOutToC}
-use Rattle.demands.specs.laws.Bench.{bench-is, settings-pass}
+use Rattle.demands.specs.laws.Bench.{bench_is, settings_pass}
 
 -- its words, and whether they are such
-check-is : (ws ps : List ℤ) (k : Bench) → IsCheck ws ps k → (isCheck ws ps ≡ true) × ((checkTold ws ps).check ≡ checkIn k ps)
-unfolding isCheck decodeProgress
-check-is ws ps k c =
-    let e = (bench-is k).1 c.0 in
-    let here = ap benchRead c.1 ∙ machine-back k e in
-    (joined (ap soundWords c.1 ∙ sound-words k e) (rw here (sym (same-words c.2))), ap (λ (x : Bench). checkIn x ps) here)
+check_is : (ws ps : List ℤ) (k : Bench) → IsCheck ws ps k → (is_check ws ps ≡ true) × ((check_told ws ps).check ≡ check_in k ps)
+unfolding is_check decode_progress
+check_is ws ps k c =
+    let e = (bench_is k).1 c.0 in
+    let here = ap bench_read c.1 ∙ machine_back k e in
+    (joined (ap sound_words c.1 ∙ sound_words_lem k e) (rw here (sym (same_words_lem c.2))), ap (λ (x : Bench). check_in x ps) here)
 
-no-check-is : (ws ps : List ℤ) → ((k : Bench) → ¬ (IsCheck ws ps k)) → isCheck ws ps ≡ false
-unfolding isCheck decodeProgress
-no-check-is ws ps none =
-    refuted (isCheck ws ps)
+no_check_is : (ws ps : List ℤ) → ((k : Bench) → ¬ (IsCheck ws ps k)) → is_check ws ps ≡ false
+unfolding is_check decode_progress
+no_check_is ws ps none =
+    refuted (is_check ws ps)
     (λ t.
-    let b = both {a = soundWords ws} t in
-    none (benchRead ws) (
-      (bench-is (benchRead ws)).0 (told-sound ws b.0),
+    let b = both {a = sound_words ws} t in
+    none (bench_read ws) (
+      (bench_is (bench_read ws)).0 (told_sound ws b.0),
       words_are ws b.0,
-      same_true ps (encodeProgress (checkIn (benchRead ws) ps)) b.1,
+      same_true ps (encode_progress (check_in (bench_read ws) ps)) b.1,
     ))
 
-own-fill : {c : Check} (text out out' : Bor (List ℕ)) {n : ℤ} {len : ℕ} {ws' ps' : List ℤ}
+own_fill : {c : Check} (text out out' : Bor (List ℕ)) {n : ℤ} {len : ℕ} {ws' ps' : List ℤ}
     → Hands c text.now out.now n len ws' ps' out'.now → OwnFill c text out out' n len ws' ps'
-own-fill text out out' {n} {len} h =
+own_fill text out out' {n} {len} h =
     (record { len = len; check = h.next }, λ κs. h.fills, h.over, refl, record { words = h.words; progress = h.progress })
 
 -- fills from the words of a start: the check that they have come to, and what it has still to hand out
@@ -65,10 +65,10 @@ record Come (whole text bytes : List ℕ) (n : ℤ) (ws ps : List ℤ) : Type 0 
   front : bytes ++ rest_of check text ≡ whole
   ended : n ≡ pos 1 → rest_of check text ≡ []
 
-ended-rest : (g : Stage) (c : Check) (text : List ℕ) → pos 1 ≡ markWord (stageOver g) → rest_at g c text ≡ []
-ended-rest Stage.Header c text e = cc
-ended-rest Stage.Lines c text e = cc
-ended-rest Stage.Over c text e = refl
+ended_rest : (g : Stage) (c : Check) (text : List ℕ) → pos 1 ≡ mark_word (stage_over g) → rest_at g c text ≡ []
+ended_rest Stage.Header c text e = cc
+ended_rest Stage.Lines c text e = cc
+ended_rest Stage.Over c text e = refl
 
 zero_one : (whole : List ℕ) → pos 0 ≡ pos 1 → whole ≡ []
 zero_one whole e = cc
@@ -78,68 +78,68 @@ come : {text : List ℕ} {ws ps : List ℤ} (c : Check) → CheckTold ws ps c �
 unfolding rest_of
 come {text} c t RowsOutToC.none = record { check = c; told = t; front = refl; ended = zero_one (rest_of c text) }
 come {text} c t (RowsOutToC.fill {bytes = bytes} {ws₁ = ws₁} before κs words words' progress progress' lent out out' len len' n'
-    at_words at-progress is h) =
+    at_words at_progress is h) =
     let b = come c t before in
     let f = subst (λ (t : List ℕ). TellsFill words.now progress.now t out.now n' len'.now words'.now progress'.now
     out'.now) is h in
     let here = subst (λ (ws : List ℤ). CheckTold ws progress.now b.check) (sym at_words)
-    (subst (λ (ps : List ℤ). CheckTold ws₁ ps b.check) (sym at-progress) b.told) in
+    (subst (λ (ps : List ℤ). CheckTold ws₁ ps b.check) (sym at_progress) b.told) in
     let g = hands here f in
     record {
       check = g.next;
-      told = fill-told here f;
+      told = fill_told here f;
       front =
           append_assoc bytes (take len'.now out'.now) (rest_of g.next text)
           ∙ ap (λ (rest : List ℕ). bytes ++ rest) g.fills.bytes
           ∙ b.front;
-      ended = λ one. ended-rest g.next.stage g.next text (sym one ∙ g.over);
+      ended = λ one. ended_rest g.next.stage g.next text (sym one ∙ g.over);
     }
 
-from_start : (s : Settings) → AllYes (settingsQuestions s) → (text bytes : List ℕ) (n : ℤ) (ws ps : List ℤ)
-    → RowsOutToC text (encodeOf (makeOf s).bench) (startProgress s) bytes n ws ps → FrontOf (listingOf s text) bytes (n ≡ pos 1)
+from_start : (s : Settings) → AllYes (settings_questions s) → (text bytes : List ℕ) (n : ℤ) (ws ps : List ℤ)
+    → RowsOutToC text (encode_of (make_of s).bench) (start_progress s) bytes n ws ps → FrontOf (listing_of s text) bytes (n ≡ pos 1)
 from_start s pass text bytes n ws ps rows =
-    let k = come (checkFrom (makeOf s).bench) (start-told s) rows in
-    record { rest = rest_of k.check text; front = k.front ∙ start-lists s ((settings-pass s).1 pass) text; all = k.ended }
+    let k = come (check_from (make_of s).bench) (start_told s) rows in
+    record { rest = rest_of k.check text; front = k.front ∙ start_lists s ((settings_pass s).1 pass) text; all = k.ended }
 
 -- the bench of the machine that a make answers
-pub made-bench : (s : Settings) → ((makeOf s).answer ≡ (machineMake s).answer) × ((makeOf s).bench ≡ (machineMake s).machine.bench)
-unfolding makeOf machineMake machine_of
-made-bench s = by (settingsNo s)
+pub made_bench : (s : Settings) → ((make_of s).answer ≡ (machine_make s).answer) × ((make_of s).bench ≡ (machine_make s).machine.bench)
+unfolding make_of machine_make machine_of
+made_bench s = by (settings_no s)
   where
-    by : (n : ℕ) → ((makeWith s n).answer ≡ (machineMakeWith s n).answer) × ((makeWith s n).bench ≡ (machineMakeWith s n).machine.bench)
+    by : (n : ℕ) → ((make_with s n).answer ≡ (machine_make_with s n).answer) × ((make_with s n).bench ≡ (machine_make_with s n).machine.bench)
     by zero = (refl, refl)
     by (suc n) = (refl, refl)
 
-pub started : (s : Settings) (n : ℤ) (ws ps : List ℤ) → tells n ws ≡ benchMade s → ps ≡ startProgress s → StartedWords s n ws ps
-unfolding checkFrom tallyStart
+pub started : (s : Settings) (n : ℤ) (ws ps : List ℤ) → tells n ws ≡ bench_made s → ps ≡ start_progress s → StartedWords s n ws ps
+unfolding check_from tally_start
 started s n ws ps made progress =
-    let same = made-bench s in (
-      machineMake s,
+    let same = made_bench s in (
+      machine_make s,
       refl,
-      ap (λ (t : Told). t.answer) made ∙ ap answerNumber same.0,
-      checkFrom (makeOf s).bench,
-      ap checkFrom same.1,
+      ap (λ (t : Told). t.answer) made ∙ ap answer_number same.0,
+      check_from (make_of s).bench,
+      ap check_from same.1,
       record { words = ap (λ (t : Told). t.words) made; progress = progress },
     )
 
-pub from-words : (s : Settings) → AllYes (settingsQuestions s) → {n : ℤ} (ws ps : List ℤ) → tells n ws ≡ benchMade s → ps ≡ startProgress s
+pub from_words : (s : Settings) → AllYes (settings_questions s) → {n : ℤ} (ws ps : List ℤ) → tells n ws ≡ bench_made s → ps ≡ start_progress s
     → (text bytes : List ℕ) (last : ℤ) (ws' ps' : List ℤ) → RowsOutToC text ws ps bytes last ws' ps'
-    → FrontOf (listingOf s text) bytes (last ≡ pos 1)
-from-words s pass ws ps made progress text bytes last ws' ps' rows =
+    → FrontOf (listing_of s text) bytes (last ≡ pos 1)
+from_words s pass ws ps made progress text bytes last ws' ps' rows =
     from_start s pass text bytes last ws' ps'
-    (subst (λ (l : List ℤ). RowsOutToC text l (startProgress s) bytes last ws' ps') (ap (λ (t : Told). t.words) made)
+    (subst (λ (l : List ℤ). RowsOutToC text l (start_progress s) bytes last ws' ps') (ap (λ (t : Told). t.words) made)
     (subst (λ (l : List ℤ). RowsOutToC text ws l bytes last ws' ps') progress rows))
 
 -- ---- a fill, whatever the words
 
 module _ (ws ps : List ℤ) where
-  pub check-fills : (k : Bench) → IsCheck ws ps k → (text out out' : Bor (List ℕ)) {n : ℤ} {len : ℕ} {ws' ps' : List ℤ}
-      → TellsFill ws ps text.now out.now n len ws' ps' out'.now → OwnFill (checkIn k ps) text out out' n len ws' ps'
-  check-fills k c text out out' {n} {len} {ws'} {ps'} h =
-      let is = check-is ws ps k c in
-      own-fill text out out'
+  pub check_fills : (k : Bench) → IsCheck ws ps k → (text out out' : Bor (List ℕ)) {n : ℤ} {len : ℕ} {ws' ps' : List ℤ}
+      → TellsFill ws ps text.now out.now n len ws' ps' out'.now → OwnFill (check_in k ps) text out out' n len ws' ps'
+  check_fills k c text out out' {n} {len} {ws'} {ps'} h =
+      let is = check_is ws ps k c in
+      own_fill text out out'
       (subst (λ (c : Check). Hands c text.now out.now n len ws' ps' out'.now) is.1 (rows_told is.0 h))
 
-  pub no-check-fills : ((k : Bench) → ¬ (IsCheck ws ps k)) → {text old new : List ℕ} {n : ℤ} {len : ℕ} {ws' ps' : List ℤ}
+  pub no_check_fills : ((k : Bench) → ¬ (IsCheck ws ps k)) → {text old new : List ℕ} {n : ℤ} {len : ℕ} {ws' ps' : List ℤ}
       → TellsFill ws ps text old n len ws' ps' new → Refuses ws ps old n len ws' ps' new
-  no-check-fills none h = refused-told (no-check-is ws ps none) h
+  no_check_fills none h = refused_told (no_check_is ws ps none) h

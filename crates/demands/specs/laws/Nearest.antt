@@ -2,11 +2,11 @@
 use Rattle.std.specs.Prelude.{◌⊎◌, ◌↔◌, ℕ, zero, suc, ◌+◌, ◌*◌, ◌≤◌, ◌<◌, ℤ, pos, negsuc, nat_abs, ◌+ℤ◌, ◌-ℤ◌, ◌*ℤ◌, ◌<ℤ◌}
 use Rattle.std.proofs.Common.{inl, inr, mul-le-mul, mul-le-mul_right, arith}
 use Rattle.std.proofs.Math.Decide.{dec_le}
-use Rattle.whole.specs.laws.Difference.{parts, natural, negated, added, multiplied, size-up, split, var, num, ◌⊕◌, ◌⊖◌, ◌⊗◌}
+use Rattle.whole.specs.laws.Difference.{parts, natural, negated, added, multiplied, size_up, split, var, num, ◌⊕◌, ◌⊖◌, ◌⊗◌}
 use Rattle.whole.specs.laws.Order.{◌≺◌, abs_neg}
 use Rattle.circle.specs.declared.plane.Offset.{Offset}
 use Rattle.circle.specs.Circle.{square, Circle}
-use Rattle.circle.specs.laws.Circle.{from-<ℤ, to-<ℤ, square-parts, circle-quadrant, quadrant-circle}
+use Rattle.circle.specs.laws.Circle.{from_<ℤ, to_<ℤ, square_parts, circle_quadrant, quadrant_circle}
 use Rattle.circle.specs.laws.Octant.{Octant, Quadrant, some, below, above}
 use Rattle.demands.specs.Arcs.{NearestAlong, LeastError}
 
@@ -30,13 +30,13 @@ other_sign (negsuc a) (negsuc b) h = absurd (omega (arith, multiplied (parts (ne
 
 -- ---- the middle, doubled, is beyond x or before it
 
-out-size : (x z : ℤ) → pos 0 ≺ x *ℤ (z -ℤ x) → 2 * nat_abs x + 1 ≤ nat_abs (x +ℤ z)
-out-size (pos a) z h = by (same_sign (pos a) (z -ℤ pos a) h)
+out_size : (x z : ℤ) → pos 0 ≺ x *ℤ (z -ℤ x) → 2 * nat_abs x + 1 ≤ nat_abs (x +ℤ z)
+out_size (pos a) z h = by (same_sign (pos a) (z -ℤ pos a) h)
   where
     by : ((pos 0 ≺ pos a) × (pos 0 ≺ z -ℤ pos a)) ⊎ ((pos a ≺ pos 0) × (z -ℤ pos a ≺ pos 0)) → 2 * a + 1 ≤ nat_abs (pos a +ℤ z)
-    by (inl k) = let d = split (var z ⊖ var (pos a)) in let w = k.1 in omega (arith, size-up (added (natural a) (parts z)) (omega arith))
+    by (inl k) = let d = split (var z ⊖ var (pos a)) in let w = k.1 in omega (arith, size_up (added (natural a) (parts z)) (omega arith))
     by (inr k) = absurd (omega (arith, k.0))
-out-size (negsuc a) z h = by (same_sign (negsuc a) (z -ℤ negsuc a) h)
+out_size (negsuc a) z h = by (same_sign (negsuc a) (z -ℤ negsuc a) h)
   where
     by : ((pos 0 ≺ negsuc a) × (pos 0 ≺ z -ℤ negsuc a)) ⊎ ((negsuc a ≺ pos 0) × (z -ℤ negsuc a ≺ pos 0))
         → 2 * suc a + 1 ≤ nat_abs (negsuc a +ℤ z)
@@ -44,7 +44,7 @@ out-size (negsuc a) z h = by (same_sign (negsuc a) (z -ℤ negsuc a) h)
     by (inr k) =
         let d = split (var z ⊖ var (negsuc a)) in
         let w = k.1 in
-        omega (arith, size-up (negated (added (parts (negsuc a)) (parts z))) (omega arith), abs_neg (negsuc a +ℤ z))
+        omega (arith, size_up (negated (added (parts (negsuc a)) (parts z))) (omega arith), abs_neg (negsuc a +ℤ z))
 
 in_size : (x z : ℤ) → x *ℤ (z -ℤ x) ≺ pos 0 → pos 0 ≺ x *ℤ (x +ℤ z) → nat_abs (x +ℤ z) + 1 ≤ 2 * nat_abs x
 in_size (pos a) z h g = by (other_sign (pos a) (z -ℤ pos a) h) (same_sign (pos a) (pos a +ℤ z) g)
@@ -56,7 +56,7 @@ in_size (pos a) z h g = by (other_sign (pos a) (z -ℤ pos a) h) (same_sign (pos
         let s = added (natural a) (parts z) in
         let w = k.1 in
         let v = l.1 in
-        omega (arith, size-up s (omega arith))
+        omega (arith, size_up s (omega arith))
     by (inl k) (inr l) = absurd (omega (arith, l.0))
     by (inr k) l = absurd (omega (arith, k.0))
 in_size (negsuc a) z h g = by (other_sign (negsuc a) (z -ℤ negsuc a) h) (same_sign (negsuc a) (negsuc a +ℤ z) g)
@@ -69,7 +69,7 @@ in_size (negsuc a) z h g = by (other_sign (negsuc a) (z -ℤ negsuc a) h) (same_
         let s = added (parts (negsuc a)) (parts z) in
         let w = k.1 in
         let v = l.1 in
-        omega (arith, size-up (negated s) (omega arith), abs_neg (negsuc a +ℤ z))
+        omega (arith, size_up (negated s) (omega arith), abs_neg (negsuc a +ℤ z))
     by (inr k) (inl l) = absurd (omega (arith, l.0))
     by (inl k) l = absurd (omega (arith, k.0))
 
@@ -84,22 +84,22 @@ before {x = suc x} o s h = let g : s ≤ 2 * x + 1 = omega arith in omega (arith
 
 along : (N : ℕ) (x y : ℤ) → Octant N (nat_abs x) (nat_abs y) → NearestAlong N x y
 along N x y o = record {
-  meets = to-<ℤ (square y) (pos N) (omega (arith, o.high, square-parts y, mul-le-mul_right (nat_abs x) (some o)));
+  meets = to_<ℤ (square y) (pos N) (omega (arith, o.high, square_parts y, mul-le-mul_right (nat_abs x) (some o)));
   outside = λ z h.
-      to-<ℤ (pos 4 *ℤ pos N) (square (x +ℤ z) +ℤ (pos 4 *ℤ square y))
+      to_<ℤ (pos 4 *ℤ pos N) (square (x +ℤ z) +ℤ (pos 4 *ℤ square y))
       (omega (
         arith,
-        beyond o (nat_abs (x +ℤ z)) (out-size x z (from-<ℤ h)),
-        added (square-parts (x +ℤ z))
-            (multiplied (natural 4) (square-parts y)),
+        beyond o (nat_abs (x +ℤ z)) (out_size x z (from_<ℤ h)),
+        added (square_parts (x +ℤ z))
+            (multiplied (natural 4) (square_parts y)),
       ));
   inside = λ z h g.
-      to-<ℤ (square (x +ℤ z) +ℤ (pos 4 *ℤ square y)) (pos 4 *ℤ pos N)
+      to_<ℤ (square (x +ℤ z) +ℤ (pos 4 *ℤ square y)) (pos 4 *ℤ pos N)
       (omega (
         arith,
-        before o (nat_abs (x +ℤ z)) (in_size x z (from-<ℤ h) (from-<ℤ g)),
-        added (square-parts (x +ℤ z))
-            (multiplied (natural 4) (square-parts y)),
+        before o (nat_abs (x +ℤ z)) (in_size x z (from_<ℤ h) (from_<ℤ g)),
+        added (square_parts (x +ℤ z))
+            (multiplied (natural 4) (square_parts y)),
       ));
 }
 
@@ -110,36 +110,36 @@ back N (pos (suc a)) y s l h =
     let x = pos (suc a) in
     let out = x +ℤ pos 1 in
     let in' = x -ℤ pos 1 in
-    let far = from-<ℤ (h.outside out (to-<ℤ (pos 0) (x *ℤ (out -ℤ x)) (omega (arith, split (var x ⊗ (var x ⊕ num 1 ⊖ var x)))))) in
-    let near = from-<ℤ (h.inside in' (to-<ℤ (x *ℤ (in' -ℤ x)) (pos 0) (omega (arith, split (var x ⊗ (var x ⊖ num 1 ⊖ var x)))))
-    (to-<ℤ (pos 0) (x *ℤ (x +ℤ in')) (omega (arith, split (var x ⊗ (var x ⊕ (var x ⊖ num 1))))))) in
-    let sums-out = added (split ((var x ⊕ (var x ⊕ num 1)) ⊗ (var x ⊕ (var x ⊕ num 1)))) (multiplied (natural 4) (square-parts y)) in
-    let sums-in = added (split ((var x ⊕ (var x ⊖ num 1)) ⊗ (var x ⊕ (var x ⊖ num 1)))) (multiplied (natural 4) (square-parts y)) in
-    record { wide = l; low = omega (arith, far, sums-out); high = omega (arith, near, sums-in) }
+    let far = from_<ℤ (h.outside out (to_<ℤ (pos 0) (x *ℤ (out -ℤ x)) (omega (arith, split (var x ⊗ (var x ⊕ num 1 ⊖ var x)))))) in
+    let near = from_<ℤ (h.inside in' (to_<ℤ (x *ℤ (in' -ℤ x)) (pos 0) (omega (arith, split (var x ⊗ (var x ⊖ num 1 ⊖ var x)))))
+    (to_<ℤ (pos 0) (x *ℤ (x +ℤ in')) (omega (arith, split (var x ⊗ (var x ⊕ (var x ⊖ num 1))))))) in
+    let sums_out = added (split ((var x ⊕ (var x ⊕ num 1)) ⊗ (var x ⊕ (var x ⊕ num 1)))) (multiplied (natural 4) (square_parts y)) in
+    let sums_in = added (split ((var x ⊕ (var x ⊖ num 1)) ⊗ (var x ⊕ (var x ⊖ num 1)))) (multiplied (natural 4) (square_parts y)) in
+    record { wide = l; low = omega (arith, far, sums_out); high = omega (arith, near, sums_in) }
 back N (negsuc a) y s l h =
     let x = negsuc a in
     let out = x -ℤ pos 1 in
     let in' = x +ℤ pos 1 in
-    let far = from-<ℤ (h.outside out (to-<ℤ (pos 0) (x *ℤ (out -ℤ x)) (omega (arith, split (var x ⊗ (var x ⊖ num 1 ⊖ var x)))))) in
-    let near = from-<ℤ (h.inside in' (to-<ℤ (x *ℤ (in' -ℤ x)) (pos 0) (omega (arith, split (var x ⊗ (var x ⊕ num 1 ⊖ var x)))))
-    (to-<ℤ (pos 0) (x *ℤ (x +ℤ in')) (omega (arith, split (var x ⊗ (var x ⊕ (var x ⊕ num 1))))))) in
-    let sums-out = added (split ((var x ⊕ (var x ⊖ num 1)) ⊗ (var x ⊕ (var x ⊖ num 1)))) (multiplied (natural 4) (square-parts y)) in
-    let sums-in = added (split ((var x ⊕ (var x ⊕ num 1)) ⊗ (var x ⊕ (var x ⊕ num 1)))) (multiplied (natural 4) (square-parts y)) in
-    record { wide = l; low = omega (arith, far, sums-out); high = omega (arith, near, sums-in) }
+    let far = from_<ℤ (h.outside out (to_<ℤ (pos 0) (x *ℤ (out -ℤ x)) (omega (arith, split (var x ⊗ (var x ⊖ num 1 ⊖ var x)))))) in
+    let near = from_<ℤ (h.inside in' (to_<ℤ (x *ℤ (in' -ℤ x)) (pos 0) (omega (arith, split (var x ⊗ (var x ⊕ num 1 ⊖ var x)))))
+    (to_<ℤ (pos 0) (x *ℤ (x +ℤ in')) (omega (arith, split (var x ⊗ (var x ⊕ (var x ⊕ num 1))))))) in
+    let sums_out = added (split ((var x ⊕ (var x ⊖ num 1)) ⊗ (var x ⊕ (var x ⊖ num 1)))) (multiplied (natural 4) (square_parts y)) in
+    let sums_in = added (split ((var x ⊕ (var x ⊕ num 1)) ⊗ (var x ⊕ (var x ⊕ num 1)))) (multiplied (natural 4) (square_parts y)) in
+    record { wide = l; low = omega (arith, far, sums_out); high = omega (arith, near, sums_in) }
 
-pub least-error : (N : ℕ) (p : Offset) → Circle N p ↔ ((1 ≤ nat_abs p.x + nat_abs p.y) × LeastError N p)
-least-error N p = (
+pub least_error : (N : ℕ) (p : Offset) → Circle N p ↔ ((1 ≤ nat_abs p.x + nat_abs p.y) × LeastError N p)
+least_error N p = (
   λ c.
-      let q = circle-quadrant c in
-      (off-centre q, record { along-x = λ l. along N p.x p.y (below q l); along-y = λ l. along N p.y p.x (above q l) }),
-  λ h. quadrant-circle p (by (dec_le (nat_abs p.y) (nat_abs p.x)) h.0 h.1),
+      let q = circle_quadrant c in
+      (off_centre q, record { along_x = λ l. along N p.x p.y (below q l); along_y = λ l. along N p.y p.x (above q l) }),
+  λ h. quadrant_circle p (by (dec_le (nat_abs p.y) (nat_abs p.x)) h.0 h.1),
 )
   where
-    off-centre : Quadrant N (nat_abs p.x) (nat_abs p.y) → 1 ≤ nat_abs p.x + nat_abs p.y
-    off-centre (inl o) = omega (arith, some o)
-    off-centre (inr o) = omega (arith, some o)
+    off_centre : Quadrant N (nat_abs p.x) (nat_abs p.y) → 1 ≤ nat_abs p.x + nat_abs p.y
+    off_centre (inl o) = omega (arith, some o)
+    off_centre (inr o) = omega (arith, some o)
 
     by : Dec (nat_abs p.y ≤ nat_abs p.x) → 1 ≤ nat_abs p.x + nat_abs p.y → LeastError N p
         → Quadrant N (nat_abs p.x) (nat_abs p.y)
-    by (yes l) s h = inl (back N p.x p.y (omega arith) l (h.along-x l))
-    by (no f) s h = let l : nat_abs p.x ≤ nat_abs p.y = omega arith in inr (back N p.y p.x (omega arith) l (h.along-y l))
+    by (yes l) s h = inl (back N p.x p.y (omega arith) l (h.along_x l))
+    by (no f) s h = let l : nat_abs p.x ≤ nat_abs p.y = omega arith in inr (back N p.y p.x (omega arith) l (h.along_y l))

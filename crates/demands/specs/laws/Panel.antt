@@ -6,85 +6,85 @@ use Rattle.std.proofs.Math.Bool.{true, false, cond}
 use Rattle.std.proofs.Math.Dec.{leb}
 use Rattle.std.proofs.lemmas.Bool.{lt-leb}
 use Rattle.settings.specs.declared.Settings.{Settings}
-use Rattle.settings.specs.Settings.{feedUnit, capacityOf}
+use Rattle.settings.specs.Settings.{feed_unit, capacity_of}
 use Rattle.bench.specs.declared.Bench.{Bench}
-use Rattle.row.specs.Lines.{headerLine}
-use Rattle.reader.specs.computed.Reader.{longestText}
+use Rattle.row.specs.Lines.{header_line}
+use Rattle.reader.specs.computed.Reader.{longest_text}
 use Rattle.reader.specs.Reader.{unknown}
 use Rattle.job.specs.declared.Stage.{Stage}
-use Rattle.job.specs.Check.{stageOver}
+use Rattle.job.specs.Check.{stage_over}
 use Rattle.job.specs.Job.{Made, End, Job}
-use Rattle.job.specs.Listing.{jobListing}
-use Rattle.job.specs.computed.Job.{jobOfLines, jobAt}
+use Rattle.job.specs.Listing.{job_listing}
+use Rattle.job.specs.computed.Job.{job_of_lines, job_at}
 use Rattle.panel.specs.declared.PanelCheck.{PanelCheck}
 use Rattle.panel.specs.declared.Told.{Told}
 use Rattle.panel.specs.declared.PieceRead.{PieceRead}
-use Rattle.panel.specs.Whole.{wholeLines}
-use Rattle.panel.specs.computed.Listing.{thirtyAfter, longJob, panelJob, panelListing}
-use Rattle.panel.specs.computed.Piece.{scratchBytes, start_of, heldIn, tellOf, piece_of, ReadsPiece}
-use Rattle.panel.specs.computed.Rest.{rowsOn, rest_at, rest_of, callsLeft}
-use Rattle.panel.specs.laws.Listing.{panel-is}
-use Rattle.panel.specs.laws.Hand.{small-scratch, small-rows, fitting}
-use Rattle.panel.specs.laws.Pieces.{over_none, reads_on, reads-less}
+use Rattle.panel.specs.Whole.{whole_lines}
+use Rattle.panel.specs.computed.Listing.{thirty_after, long_job, panel_job, panel_listing}
+use Rattle.panel.specs.computed.Piece.{scratch_bytes, start_of, held_in, tell_of, piece_of, ReadsPiece}
+use Rattle.panel.specs.computed.Rest.{rows_on, rest_at, rest_of, calls_left}
+use Rattle.panel.specs.laws.Listing.{panel_is}
+use Rattle.panel.specs.laws.Hand.{small_scratch, small_rows, fitting}
+use Rattle.panel.specs.laws.Pieces.{over_none, reads_on, reads_less}
 use Rattle.demands.specs.Texts.{EveryCounted}
 use Rattle.demands.specs.Panel.{FromStart, PanelMeans, Reading, Unread, LongEnough, RowsRead, CallsOn, EveryPanel}
-use Rattle.demands.specs.laws.Bench.{settings-pass}
-use Rattle.demands.specs.laws.Texts.{lines-mean, lines-once, lines-counted, text-means, text-once, text-counted}
+use Rattle.demands.specs.laws.Bench.{settings_pass}
+use Rattle.demands.specs.laws.Texts.{lines_mean, lines_once, lines_counted, text_means, text_once, text_counted}
 
 -- ---- what it lists
 
 module _ (s : Settings) (text : List ℕ) where
   abbrev whole : Job
-  whole = jobOfLines feedUnit s (wholeLines text)
+  whole = job_of_lines feed_unit s (whole_lines text)
 
-  long-means : longestText < length text → PanelMeans s text whole.blocks (thirtyAfter (length (wholeLines text)) whole.end)
-  long-means h = by whole.end (lines-mean feedUnit s 1 (record { x = pos 0; y = pos 0 }) unknown (wholeLines text))
+  long_means : longest_text < length text → PanelMeans s text whole.blocks (thirty_after (length (whole_lines text)) whole.end)
+  long_means h = by whole.end (lines_mean feed_unit s 1 (record { x = pos 0; y = pos 0 }) unknown (whole_lines text))
     where
-      by : (end : End) → FromStart s (wholeLines text) whole.blocks end
-          → PanelMeans s text whole.blocks (thirtyAfter (length (wholeLines text)) end)
+      by : (end : End) → FromStart s (whole_lines text) whole.blocks end
+          → PanelMeans s text whole.blocks (thirty_after (length (whole_lines text)) end)
       by End.complete m = PanelMeans.long h m
       by (End.refused n number) m = PanelMeans.refused h m
 
-  panel-means : (let j = panelJob s text in PanelMeans s text j.blocks j.end)
-  unfolding panelJob longJob
-  panel-means = by (leb (length text) longestText) refl
+  panel_means : (let j = panel_job s text in PanelMeans s text j.blocks j.end)
+  unfolding panel_job long_job
+  panel_means = by (leb (length text) longest_text) refl
     where
-      by : (short : Bool) → leb (length text) longestText ≡ short
-          → (let j = cond short (jobAt feedUnit s text) (longJob s text) in PanelMeans s text j.blocks j.end)
-      by true e = PanelMeans.short (leb-true (length text) longestText e) (text-means feedUnit s text)
-      by false e = long-means (leb-false (length text) longestText e)
+      by : (short : Bool) → leb (length text) longest_text ≡ short
+          → (let j = cond short (job_at feed_unit s text) (long_job s text) in PanelMeans s text j.blocks j.end)
+      by true e = PanelMeans.short (leb-true (length text) longest_text e) (text_means feed_unit s text)
+      by false e = long_means (leb-false (length text) longest_text e)
 
-  panel-once : {made : List Made} {end : End} → PanelMeans s text made end → panelJob s text ≡ record { blocks = made; end = end }
-  unfolding panelJob longJob
-  panel-once (PanelMeans.short h m) = rw (le-leb (length text) longestText h) (text-once feedUnit s text m)
-  panel-once (PanelMeans.refused h m) = rw (lt-leb (length text) longestText h, lines-once feedUnit s m)
-  panel-once (PanelMeans.long h m) = rw (lt-leb (length text) longestText h, lines-once feedUnit s m)
+  panel_once : {made : List Made} {end : End} → PanelMeans s text made end → panel_job s text ≡ record { blocks = made; end = end }
+  unfolding panel_job long_job
+  panel_once (PanelMeans.short h m) = rw (le-leb (length text) longest_text h) (text_once feed_unit s text m)
+  panel_once (PanelMeans.refused h m) = rw (lt-leb (length text) longest_text h, lines_once feed_unit s m)
+  panel_once (PanelMeans.long h m) = rw (lt-leb (length text) longest_text h, lines_once feed_unit s m)
 
-  panel-counted : {made : List Made} {end : End} → PanelMeans s text made end → EveryCounted made
-  panel-counted (PanelMeans.short h m) = text-counted feedUnit s text m
-  panel-counted (PanelMeans.refused h m) = lines-counted feedUnit s m
-  panel-counted (PanelMeans.long h m) = lines-counted feedUnit s m
+  panel_counted : {made : List Made} {end : End} → PanelMeans s text made end → EveryCounted made
+  panel_counted (PanelMeans.short h m) = text_counted feed_unit s text m
+  panel_counted (PanelMeans.refused h m) = lines_counted feed_unit s m
+  panel_counted (PanelMeans.long h m) = lines_counted feed_unit s m
 
-  panel-same : length text ≤ longestText → panelJob s text ≡ jobAt feedUnit s text
-  unfolding panelJob
-  panel-same h = rw (le-leb (length text) longestText h)
+  panel_same : length text ≤ longest_text → panel_job s text ≡ job_at feed_unit s text
+  unfolding panel_job
+  panel_same h = rw (le-leb (length text) longest_text h)
 
 -- ---- a call
 
-more-told : (stage : Stage) → tellOf stage ≡ Told.More → false ≡ stageOver stage
-more-told Stage.Header e = refl
-more-told Stage.Lines e = refl
-more-told Stage.Over e = cc
+more_told : (stage : Stage) → tell_of stage ≡ Told.More → false ≡ stage_over stage
+more_told Stage.Header e = refl
+more_told Stage.Lines e = refl
+more_told Stage.Over e = cc
 
-over-told : (stage : Stage) → tellOf stage ≡ Told.Over → true ≡ stageOver stage
-over-told Stage.Header e = cc
-over-told Stage.Lines e = cc
-over-told Stage.Over e = refl
+over_told : (stage : Stage) → tell_of stage ≡ Told.Over → true ≡ stage_over stage
+over_told Stage.Header e = cc
+over_told Stage.Lines e = cc
+over_told Stage.Over e = refl
 
-either-told : (stage : Stage) → (tellOf stage ≡ Told.More) ⊎ (tellOf stage ≡ Told.Over)
-either-told Stage.Header = inl refl
-either-told Stage.Lines = inl refl
-either-told Stage.Over = inr refl
+either_told : (stage : Stage) → (tell_of stage ≡ Told.More) ⊎ (tell_of stage ≡ Told.Over)
+either_told Stage.Header = inl refl
+either_told Stage.Lines = inl refl
+either_told Stage.Over = inr refl
 
 module _ (c : PanelCheck) (scratch piece : List ℕ) (last : Bool) (rows : List ℕ) {f : PieceRead} {free rows' : List ℕ} where
   reading : ReadsPiece c scratch piece last rows f free rows' → LongEnough scratch rows → Reading piece rows rows' f
@@ -98,75 +98,75 @@ module _ (c : PanelCheck) (scratch piece : List ℕ) (last : Bool) (rows : List 
         line = on.line;
         wrote = rw h.read h.short;
         later = on.later;
-        more = rw h.read (more-told stage);
-        over = rw h.read (over-told stage);
-        told = rw h.read (either-told stage);
+        more = rw h.read (more_told stage);
+        over = rw h.read (over_told stage);
+        told = rw h.read (either_told stage);
       }
 
   unread : ReadsPiece c scratch piece last rows f free rows' → (length scratch < 81) ⊎ (length rows < 160)
       → Unread c scratch free rows rows' f
-  unread (ReadsPiece.short _ e kept same) _ = record { read = e; scratch-kept = kept; rows-kept = same }
-  unread (ReadsPiece.read ok _) (inl small) = absurd (true≢false (sym ok ∙ small-scratch scratch rows small))
-  unread (ReadsPiece.read ok _) (inr few) = absurd (true≢false (sym ok ∙ small-rows scratch rows (lt-leb 160 (length rows) few)))
+  unread (ReadsPiece.short _ e kept same) _ = record { read = e; scratch_kept = kept; rows_kept = same }
+  unread (ReadsPiece.read ok _) (inl small) = absurd (true≢false (sym ok ∙ small_scratch scratch rows small))
+  unread (ReadsPiece.read ok _) (inr few) = absurd (true≢false (sym ok ∙ small_rows scratch rows (lt-leb 160 (length rows) few)))
 
 -- ---- calls one after the other
 
 -- of the scratch buffer the bytes of the line count alone
-pub rest-held : (c : PanelCheck) (a b text : List ℕ) → take c.held a ≡ take c.held b → rest_of c a text ≡ rest_of c b text
+pub rest_held : (c : PanelCheck) (a b text : List ℕ) → take c.held a ≡ take c.held b → rest_of c a text ≡ rest_of c b text
 unfolding rest_of
-rest-held c a b text e = by c.stage
+rest_held c a b text e = by c.stage
   where
     n : ℕ
-    n = min c.held scratchBytes
+    n = min c.held scratch_bytes
 
-    same : heldIn c.held a ≡ heldIn c.held b
+    same : held_in c.held a ≡ held_in c.held b
     same = sym (take-take n c.held a (omega arith)) ∙ ap (take n) e ∙ take-take n c.held b (omega arith)
 
     by : (stage : Stage) → rest_at stage c a text ≡ rest_at stage c b text
-    by Stage.Header = ap (λ (l : List ℕ). headerLine ++ rowsOn c.tally c.left l text) same
-    by Stage.Lines = ap (λ (l : List ℕ). rowsOn c.tally c.left l text) same
+    by Stage.Header = ap (λ (l : List ℕ). header_line ++ rows_on c.tally c.left l text) same
+    by Stage.Lines = ap (λ (l : List ℕ). rows_on c.tally c.left l text) same
     by Stage.Over = refl
 
-rows-rest : {text : List ℕ} {c : PanelCheck} {whole : List ℕ} → ((scratch : List ℕ) → rest_of c scratch text ≡ whole)
+rows_rest : {text : List ℕ} {c : PanelCheck} {whole : List ℕ} → ((scratch : List ℕ) → rest_of c scratch text ≡ whole)
     → {left scratch bytes : List ℕ} {d : PanelCheck} → RowsRead text c left scratch bytes d
     → bytes ++ rest_of d scratch left ≡ whole
-rows-rest start (RowsRead.none scratch) = start scratch
-rows-rest start (RowsRead.read {left = left} {before = before} {bytes = bytes}
+rows_rest start (RowsRead.none scratch) = start scratch
+rows_rest start (RowsRead.read {left = left} {before = before} {bytes = bytes}
     {d = d} read κs scratch free piece last rows rows' f rest kept cut
     end h) =
     let on = reads_on d scratch.now piece.now last rows.now h in
     append_assoc bytes (take f.wrote rows'.now) (rest_of f.check free.now (drop f.took piece.now ++ rest))
-    ∙ ap (λ (s : List ℕ). bytes ++ s) (on.bytes rest end ∙ ap (rest_of d scratch.now) cut ∙ rest-held d scratch.now before left kept)
-    ∙ rows-rest start read
+    ∙ ap (λ (s : List ℕ). bytes ++ s) (on.bytes rest end ∙ ap (rest_of d scratch.now) cut ∙ rest_held d scratch.now before left kept)
+    ∙ rows_rest start read
 
-calls-few : {c : PanelCheck} {n : ℕ} → CallsOn c n → n ≤ callsLeft c
-calls-few CallsOn.none = omega arith
-calls-few (CallsOn.read {c = c} κs scratch free piece last rows rows' f going (wide, room) some h later) =
-    let less = reads-less c scratch.now piece.now last rows.now h wide (le-leb 160 (length rows.now) room) (sym going) some in
-    omega (arith, less, calls-few later)
+calls_few : {c : PanelCheck} {n : ℕ} → CallsOn c n → n ≤ calls_left c
+calls_few CallsOn.none = omega arith
+calls_few (CallsOn.read {c = c} κs scratch free piece last rows rows' f going (wide, room) some h later) =
+    let less = reads_less c scratch.now piece.now last rows.now h wide (le-leb 160 (length rows.now) room) (sym going) some in
+    omega (arith, less, calls_few later)
 
-start-few : (m : Bench) → callsLeft (start_of m) ≡ 131074
+start_few : (m : Bench) → calls_left (start_of m) ≡ 131074
 unfolding start_of
-start-few m = refl
+start_few m = refl
 
-pub every-panel : EveryPanel
-unfolding panelListing
-every-panel =
+pub every_panel : EveryPanel
+unfolding panel_listing
+every_panel =
     record {
       means = λ s text made end. (
-        panel-once s text,
-        λ e. subst (λ (j : Job). PanelMeans s text j.blocks j.end) e (panel-means s text),
+        panel_once s text,
+        λ e. subst (λ (j : Job). PanelMeans s text j.blocks j.end) e (panel_means s text),
       );
-      counts = λ s text. panel-counted s text (panel-means s text);
-      same = λ s text h. ap (jobListing (capacityOf s)) (panel-same s text h);
+      counts = λ s text. panel_counted s text (panel_means s text);
+      same = λ s text h. ap (job_listing (capacity_of s)) (panel_same s text h);
       read = λ κs c scratch free piece last rows rows' f h enough. reading c scratch.now piece.now last rows.now h enough;
       short = λ κs c scratch free piece last rows rows' f h few. unread c scratch.now piece.now last rows.now h few;
       listing = λ s pass c e text left scratch bytes d rows.
           record {
             rest = rest_of d scratch left;
-            front = rows-rest (λ scratch. ap (λ (c : PanelCheck). rest_of c scratch text) e
-                ∙ panel-is s ((settings-pass s).1 pass) scratch text) rows;
+            front = rows_rest (λ scratch. ap (λ (c : PanelCheck). rest_of c scratch text) e
+                ∙ panel_is s ((settings_pass s).1 pass) scratch text) rows;
             all = λ told. over_none d (sym told) scratch left;
           };
-      ends = λ m c e n calls. omega (arith, calls-few calls, ap callsLeft e, start-few m);
+      ends = λ m c e n calls. omega (arith, calls_few calls, ap calls_left e, start_few m);
     }

@@ -6,23 +6,23 @@ use Rattle.whole.specs.laws.Difference.{ring, var, num, neg, ◌⊖◌}
 use Rattle.std.specs.Int.{w64}
 use Rattle.std.proofs.Math.Facts.{sfits_lit}
 use Rattle.circle.specs.declared.plane.Turn.{Turn}
-use Rattle.encoding.specs.Words.{count_of, word_of, refusalOf, markWord, turnWord}
+use Rattle.encoding.specs.Words.{count_of, word_of, refusal_of, mark_word, turn_word}
 
 pub count_none : (z : ℤ) → z ≺ pos 0 → 0 ≡ count_of z
 count_none (pos n) h = absurd (omega arith)
 count_none (negsuc n) h = refl
 
-pub count-some : (z : ℤ) → pos 0 ≼ z → nat_abs z ≡ count_of z
-count-some (pos n) h = refl
-count-some (negsuc n) h = absurd (omega arith)
+pub count_some : (z : ℤ) → pos 0 ≼ z → nat_abs z ≡ count_of z
+count_some (pos n) h = refl
+count_some (negsuc n) h = absurd (omega arith)
 
 pub word_small : {n : ℕ} → n < 2 ^ 63 → word_of n ≡ pos n
 unfolding word_of
 word_small {n} h = rw (lt-ltb n (2 ^ 63) h)
 
-pub word-large : {n : ℕ} → 2 ^ 63 ≤ n → word_of n ≡ negsuc 0
+pub word_large : {n : ℕ} → 2 ^ 63 ≤ n → word_of n ≡ negsuc 0
 unfolding word_of
-word-large {n} h = rw (le-ltb n (2 ^ 63) h)
+word_large {n} h = rw (le-ltb n (2 ^ 63) h)
 
 -- ---- every word of a record is one of 64 bits
 
@@ -35,9 +35,9 @@ word_fits n = by (ltb n (2 ^ 63)) refl
     by false e = sfits_lit tt
 
 -- no word is so small that minus it is none
-pub refusal-fits : (n : ℕ) → SFits w64 (refusalOf n)
-unfolding word_of refusalOf
-refusal-fits n = by (ltb n (2 ^ 63)) refl
+pub refusal_fits : (n : ℕ) → SFits w64 (refusal_of n)
+unfolding word_of refusal_of
+refusal_fits n = by (ltb n (2 ^ 63)) refl
   where
     least : (n : ℕ) → n < 2 ^ 63 → SFits w64 (neg_ℤ (pos n))
     least zero h = sfits_lit tt
@@ -51,13 +51,13 @@ refusal-fits n = by (ltb n (2 ^ 63)) refl
 pub minus : (z : ℤ) → pos 0 -ℤ z ≡ neg_ℤ z
 minus z = ring (num 0 ⊖ var z) (neg (var z)) (omega arith)
 
-pub turn-fits : (t : Turn) → SFits w64 (turnWord t)
-turn-fits Turn.Clockwise = sfits_lit tt
-turn-fits Turn.Counterclockwise = sfits_lit tt
+pub turn_fits : (t : Turn) → SFits w64 (turn_word t)
+turn_fits Turn.Clockwise = sfits_lit tt
+turn_fits Turn.Counterclockwise = sfits_lit tt
 
-pub mark-fits : (held : Bool) → SFits w64 (markWord held)
-mark-fits true = sfits_lit tt
-mark-fits false = sfits_lit tt
+pub mark_fits : (held : Bool) → SFits w64 (mark_word held)
+mark_fits true = sfits_lit tt
+mark_fits false = sfits_lit tt
 
 -- a number that the code reads back from its bits
 pub through : {x z : ℤ} → SFits w64 z → x ≡ z → to_z w64 (of_z w64 x) ≡ z

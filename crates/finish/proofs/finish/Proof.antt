@@ -5,10 +5,10 @@ use mathlib.Core.Path.{sym, ◌∙◌}
 use Prim.Native.Nat.{◌+◌, ◌*◌, ◌^◌, ◌≤◌, ◌<◌}
 use native.Mathlib.Omega.{arith}
 use borrow.Author.Tests.{not-true, not-false}
-use Rattle.run.specs.laws.Skip.{skip-counts, end-asks}
+use Rattle.run.specs.laws.Skip.{skip_counts, end_asks}
 use Rattle.bench.specs.laws.Sound.{sound}
-use Rattle.finish.specs.computed.Finish.{finishOf}
-use Rattle.finish.specs.laws.Record.{AtWork, at-work, works, finishes}
+use Rattle.finish.specs.computed.Finish.{finish_of}
+use Rattle.finish.specs.laws.Record.{AtWork, at_work, works, finishes}
 use Rattle.finish.proofs.finish.Statement.{statement}
 use Rattle.finish.proofs.finish.Tie as tie
 
@@ -16,18 +16,18 @@ use Rattle.finish.proofs.finish.Tie as tie
 working : (c : tie.Else1) → AtWork c.before.before.args.m
 working c = works (sym c.before.works.ensures ∙ not-false _ c.if1.false)
 
-works-requires : tie.Need-works-requires
-works-requires c κs = search rules
+works_requires : tie.Need-works-requires
+works_requires c κs = search rules
 
 returns : tie.Need-returns
-unfolding finishOf
+unfolding finish_of
 returns c = simp (sym c.before.works.ensures ∙ not-true _ c.if1.true)
 
-capacity-requires : tie.Need-capacity-requires
-capacity-requires c κs = (sound (working c.before.before).sound).settings
+capacity_requires : tie.Need-capacity-requires
+capacity_requires c κs = (sound (working c.before.before).sound).settings
 
-work-left-requires : tie.Need-work-left-requires
-work-left-requires c κs = skip-counts (at-work (working c.before.before.before))
+work_left_requires : tie.Need-work-left-requires
+work_left_requires c κs = skip_counts (at_work (working c.before.before.before))
 
 -- what the divider asks of what is left, with its dues
 asked : (c : tie.After-struct-known) → (let l = c.before.before.work-left.result in
@@ -36,23 +36,23 @@ asked : (c : tie.After-struct-known) → (let l = c.before.before.work-left.resu
     × (l.charges * q0 + 1000 * l.feed + c.before.before.before.before.before.before.before.before.args.m.remainder < 2 ^ 64))
 asked c =
     let l = c.before.before in
-    let w = at-work (working c.before.before.before.before.before.before) in
-    rw l.before.capacity.ensures (end-asks w l.work-left.ensures)
+    let w = at_work (working c.before.before.before.before.before.before) in
+    rw l.before.capacity.ensures (end_asks w l.work-left.ensures)
 
-mul-ending : tie.Need-overflow-mul-ending
-mul-ending c = omega (arith, asked c)
+mul_ending : tie.Need-overflow-mul-ending
+mul_ending c = omega (arith, asked c)
 
-mul-ending-2 : tie.Need-overflow-mul-ending-2
-mul-ending-2 c = omega (arith, asked c.before)
+mul_ending_2 : tie.Need-overflow-mul-ending-2
+mul_ending_2 c = omega (arith, asked c.before)
 
-ending-requires : tie.Need-ending-requires
-ending-requires c κs = asked c.before
+ending_requires : tie.Need-ending-requires
+ending_requires c κs = asked c.before
 
-moved-requires : tie.Need-moved-requires
-moved-requires c κs = search rules
+moved_requires : tie.Need-moved-requires
+moved_requires c κs = search rules
 
-returns-2 : tie.Need-returns-2
-returns-2 c =
+returns_2 : tie.Need-returns-2
+returns_2 c =
     let e = c.before in
     let l = c.before.before.before.before.before in
     rw (c.moved.ensures, e.ending.ensures, l.before.capacity.ensures, l.work-left.ensures)
@@ -62,12 +62,12 @@ pub finish_spec : {M : Type 1} → statement M
 finish_spec =
     tie.close
     (tie.spec
-    works-requires
+    works_requires
     returns
-    capacity-requires
-    work-left-requires
-    mul-ending
-    mul-ending-2
-    ending-requires
-    moved-requires
-    returns-2)
+    capacity_requires
+    work_left_requires
+    mul_ending
+    mul_ending_2
+    ending_requires
+    moved_requires
+    returns_2)

@@ -3,38 +3,38 @@ use Rattle.std.specs.Prelude.{◌≡◌, refl, Bool, true, false, cond, List, �
 use Rattle.std.proofs.Common.{arith}
 use Rattle.letters.specs.declared.word.Word.{Word}
 use Rattle.letters.specs.declared.word.Words.{Words}
-use Rattle.words.specs.computed.Meaning.{meaningOf}
-use Rattle.row.specs.laws.Long.{plus-adds}
+use Rattle.words.specs.computed.Meaning.{meaning_of}
+use Rattle.row.specs.laws.Long.{plus_adds}
 use Rattle.bench.specs.declared.Bench.{Bench}
 use Rattle.bench.specs.declared.Answer.{Answer}
-use Rattle.bench.specs.computed.Bench.{soundOf}
-use Rattle.bench.specs.Bench.{movedOf}
+use Rattle.bench.specs.computed.Bench.{sound_of}
+use Rattle.bench.specs.Bench.{moved_of}
 use Rattle.bench.specs.computed.Calls.{load_of}
-use Rattle.finish.specs.laws.Record.{AtRest, cycles-most, ticks-most}
+use Rattle.finish.specs.laws.Record.{AtRest, cycles_most, ticks_most}
 use Rattle.reader.specs.declared.Feed.{Feed}
 use Rattle.reader.specs.declared.Reader.{Reader}
 use Rattle.reader.specs.declared.asked.ToLoad.{ToLoad}
 use Rattle.reader.specs.declared.asked.Asked.{Asked}
 use Rattle.reader.specs.declared.text_line.Read.{Read}
 use Rattle.reader.specs.declared.text_line.ReadLine.{ReadLine}
-use Rattle.reader.specs.computed.Reader.{longestText, lineNo}
-use Rattle.reader.specs.Reader.{readerAfter, feedAfter}
-use Rattle.reader.specs.computed.Asked.{askedWith, asked_of}
-use Rattle.reader.specs.computed.TextLine.{reads, loaded, takes, taken_of, readLineOf}
-use Rattle.reader.specs.laws.Small.{line-writable}
+use Rattle.reader.specs.computed.Reader.{longest_text, line_no}
+use Rattle.reader.specs.Reader.{reader_after, feed_after}
+use Rattle.reader.specs.computed.Asked.{asked_with, asked_of}
+use Rattle.reader.specs.computed.TextLine.{reads, loaded, takes, taken_of, read_line_of}
+use Rattle.reader.specs.laws.Small.{line_writable}
 use Rattle.tally.specs.declared.Tally.{Tally}
-use Rattle.tally.specs.computed.Tally.{countsRight, blockListed, listedWith, listed_of}
-use Rattle.tally.specs.computed.Tally.{tallyFrom as tallyStart}
+use Rattle.tally.specs.computed.Tally.{counts_right, block_listed, listed_with, listed_of}
+use Rattle.tally.specs.computed.Tally.{tally_from as tally_start}
 use Rattle.tally.specs.laws.Counts.{Counts, counts}
 use Rattle.tally.specs.laws.Read.{listed, not_listed}
 use Rattle.job.specs.computed.Job.{Asks}
 use Rattle.job.specs.computed.Check.{FeedSmall, Reached}
-use Rattle.job.specs.laws.Ended.{ended_of, ended, ended-rests}
-use Rattle.job.specs.laws.Asks.{Read-as, line-asks}
+use Rattle.job.specs.laws.Ended.{ended_of, ended, ended_rests}
+use Rattle.job.specs.laws.Asks.{Read-as, line_asks_lem}
 
-pub start-reached : {m : Bench} → AtRest m → Reached 0 (tallyStart m)
-unfolding tallyStart
-start-reached i =
+pub start_reached : {m : Bench} → AtRest m → Reached 0 (tally_start m)
+unfolding tally_start
+start_reached i =
     record {
       sound = i.sound;
       free = i.free;
@@ -50,50 +50,50 @@ start-reached i =
 
 -- ---- the F that is known has seven digits and three decimals
 
-feed-after : (f : Feed) (w : Word) → w.magnitude < 10 ^ 10 → FeedSmall f → FeedSmall (feedAfter f w)
-feed-after f w h known = by w.stands
+feed_after_lem : (f : Feed) (w : Word) → w.magnitude < 10 ^ 10 → FeedSmall f → FeedSmall (feed_after f w)
+feed_after_lem f w h known = by w.stands
   where
     by : (stands : Bool) → FeedSmall (cond stands (Feed.Known (w.magnitude / 1000) (w.magnitude % 1000)) f)
     by true = (omega arith, omega arith)
     by false = known
 
 module _ (k k' : Reader) (m : Bench) (before : FeedSmall k.feed) (after : FeedSmall k'.feed) where
-  feed-loaded : (next : Bench) (a : Answer) → FeedSmall (loaded k k' m next a).reader.feed
-  feed-loaded next Answer.Done = after
-  feed-loaded next (Answer.Width bits) = after
-  feed-loaded next (Answer.Refused number) = before
+  feed_loaded : (next : Bench) (a : Answer) → FeedSmall (loaded k k' m next a).reader.feed
+  feed_loaded next Answer.Done = after
+  feed_loaded next (Answer.Width bits) = after
+  feed_loaded next (Answer.Refused number) = before
 
-  feed-taken : (a : ToLoad) → FeedSmall (takes k k' m a).reader.feed
-  feed-taken ToLoad.Nothing = after
-  feed-taken (ToLoad.Block b) = feed-loaded (load_of m b).bench (load_of m b).answer
-  feed-taken (ToLoad.Refused number) = before
+  feed_taken : (a : ToLoad) → FeedSmall (takes k k' m a).reader.feed
+  feed_taken ToLoad.Nothing = after
+  feed_taken (ToLoad.Block b) = feed_loaded (load_of m b).bench (load_of m b).answer
+  feed_taken (ToLoad.Refused number) = before
 
-  feed-asked : (ws : Words) (number : ℕ) → FeedSmall (askedWith m.settings.scale k k' m.at ws number).reader.feed
-  feed-asked ws zero = after
-  feed-asked ws (suc n) = before
+  feed_asked : (ws : Words) (number : ℕ) → FeedSmall (asked_with m.settings.scale k k' m.at ws number).reader.feed
+  feed_asked ws zero = after
+  feed_asked ws (suc n) = before
 
-feed-read : (k : Reader) (m : Bench) (line : List ℕ) → FeedSmall k.feed → FeedSmall (readLineOf k m line).reader.feed
-unfolding readLineOf asked_of
-feed-read k m line h = by (soundOf m)
+feed_read_lem : (k : Reader) (m : Bench) (line : List ℕ) → FeedSmall k.feed → FeedSmall (read_line_of k m line).reader.feed
+unfolding read_line_of asked_of
+feed_read_lem k m line h = by (sound_of m)
   where
     k' : Reader
-    k' = readerAfter k (meaningOf line).words
+    k' = reader_after k (meaning_of line).words
 
     number : ℕ
-    number = lineNo m.settings.scale k' (length line) (meaningOf line)
+    number = line_no m.settings.scale k' (length line) (meaning_of line)
 
     a : Asked
-    a = askedWith m.settings.scale k k' m.at (meaningOf line).words number
+    a = asked_with m.settings.scale k k' m.at (meaning_of line).words number
 
     by : (sound : Bool) → FeedSmall (cond sound (taken_of k m a) (reads (Read.Refused 9) k m)).reader.feed
     by true =
-        let after = feed-after k.feed (meaningOf line).words.f (line-writable line).f h in
-        feed-taken k a.reader m h (feed-asked k k' m h after (meaningOf line).words number) a.asks
+        let after = feed_after_lem k.feed (meaning_of line).words.f (line_writable line).f h in
+        feed_taken k a.reader m h (feed_asked k k' m h after (meaning_of line).words number) a.asks
     by false = h
 
 -- ---- a line
 
-module _ (t : Tally) {at next : ℕ} (r : Reached at t) (near : next ≤ longestText + 1) where
+module _ (t : Tally) {at next : ℕ} (r : Reached at t) (near : next ≤ longest_text + 1) where
   rests : AtRest t.bench
   rests = record { sound = r.sound; free = r.free; idle = r.idle }
 
@@ -112,10 +112,10 @@ module _ (t : Tally) {at next : ℕ} (r : Reached at t) (near : next ≤ longest
         low = r.low;
       }
 
-  by-line : Counts t → {a : Asks} {x : ReadLine} → Read-as t.bench t.reader a x → FeedSmall x.reader.feed
-      → Reached next (listedWith t x.reader x.bench x.answer).tally
-  unfolding blockListed movedOf
-  by-line c (Read-as.nothing known) f =
+  by_line : Counts t → {a : Asks} {x : ReadLine} → Read-as t.bench t.reader a x → FeedSmall x.reader.feed
+      → Reached next (listed_with t x.reader x.bench x.answer).tally
+  unfolding block_listed moved_of
+  by_line c (Read-as.nothing known) f =
       record {
         sound = r.sound;
         free = r.free;
@@ -128,12 +128,12 @@ module _ (t : Tally) {at next : ℕ} (r : Reached at t) (near : next ≤ longest
         high = omega (arith, c.high);
         low = c.low;
       }
-  by-line c (Read-as.makes known b ok) f =
+  by_line c (Read-as.makes known b ok) f =
       let e = ended t.bench rests b ok in
-      let i = ended-rests t.bench rests b ok in
-      let few = rw e at (cycles-most (load_of t.bench b).bench) in
-      let short = rw e at (ticks-most (load_of t.bench b).bench) in
-      let adds = plus-adds t.ticks (ended_of t.bench b).ticks c.low (omega arith) in
+      let i = ended_rests t.bench rests b ok in
+      let few = rw e at (cycles_most (load_of t.bench b).bench) in
+      let short = rw e at (ticks_most (load_of t.bench b).bench) in
+      let adds = plus_adds t.ticks (ended_of t.bench b).ticks c.low (omega arith) in
       rw e
       (record {
         sound = i.sound;
@@ -147,14 +147,14 @@ module _ (t : Tally) {at next : ℕ} (r : Reached at t) (near : next ≤ longest
         high = omega (arith, c.high, adds.carried);
         low = adds.low;
       })
-  by-line c (Read-as.refuses number) f = stays
+  by_line c (Read-as.refuses number) f = stays
 
-  pub line-reached : (line : List ℕ) → Reached next (listed_of t line).tally
-  line-reached line = by (countsRight t) refl
+  pub line_reached : (line : List ℕ) → Reached next (listed_of t line).tally
+  line_reached line = by (counts_right t) refl
     where
-      by : (right : Bool) → countsRight t ≡ right → Reached next (listed_of t line).tally
+      by : (right : Bool) → counts_right t ≡ right → Reached next (listed_of t line).tally
       by true e =
-          rw (listed t line e {r = readLineOf t.reader t.bench line} refl)
-          (by-line (counts t e) (line-asks t.bench t.reader r.sound r.idle line)
-          (feed-read t.reader t.bench line r.feed))
+          rw (listed t line e {r = read_line_of t.reader t.bench line} refl)
+          (by_line (counts t e) (line_asks_lem t.bench t.reader r.sound r.idle line)
+          (feed_read_lem t.reader t.bench line r.feed))
       by false e = rw (not_listed t line e) stays

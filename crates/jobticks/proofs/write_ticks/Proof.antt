@@ -7,68 +7,68 @@ use native.Mathlib.Omega.{arith}
 use borrow.Author.Tests.{not-true}
 use lib.ListN.{length}
 use lib.Seq.{length-take-le}
-use Rattle.stream.specs.laws.Fill.{toCome, fill-less}
+use Rattle.stream.specs.laws.Fill.{to_come, fill_less}
 
-abbrev invariant-loop : tie.invariant-loop
-invariant-loop text out₀ stream₀ out stream = 65536 ≡ length out
+abbrev invariant_loop : tie.invariant_loop
+invariant_loop text out₀ stream₀ out stream = 65536 ≡ length out
 
-abbrev decreases-loop : tie.decreases-loop
-decreases-loop text out₀ stream₀ out stream = toCome stream text
+abbrev decreases_loop : tie.decreases_loop
+decreases_loop text out₀ stream₀ out stream = to_come stream text
 
-large-buffer-requires : tie.Need-large-buffer-requires invariant-loop decreases-loop
-large-buffer-requires c κs = tt
+large_buffer_requires : tie.Need-large-buffer-requires invariant_loop decreases_loop
+large_buffer_requires c κs = tt
 
-start-requires : tie.Need-start-requires invariant-loop decreases-loop
-start-requires c κs = tt
+start_requires : tie.Need-start-requires invariant_loop decreases_loop
+start_requires c κs = tt
 
-loop-holds : tie.Need-loop-init invariant-loop decreases-loop
-loop-holds c = c.before.large-buffer.ensures
+loop_holds : tie.Need-loop-init invariant_loop decreases_loop
+loop_holds c = c.before.large-buffer.ensures
 
-slice-aggregate-fill : tie.Need-slice-aggregate-fill invariant-loop decreases-loop
-slice-aggregate-fill c = search rules
+slice_aggregate_fill : tie.Need-slice-aggregate-fill invariant_loop decreases_loop
+slice_aggregate_fill c = search rules
 
-fill-requires : tie.Need-fill-requires invariant-loop decreases-loop
-fill-requires c κs = tt
+fill_requires : tie.Need-fill-requires invariant_loop decreases_loop
+fill_requires c κs = tt
 
-array-share-prefix-out : tie.Need-array-share-prefix-out invariant-loop decreases-loop
-array-share-prefix-out c = search rules
+array_share_prefix_out : tie.Need-array-share-prefix-out invariant_loop decreases_loop
+array_share_prefix_out c = search rules
 
-slice-aggregate-write-all : tie.Need-slice-aggregate-write-all invariant-loop decreases-loop
-slice-aggregate-write-all c = sym (length-take-le _ _ (search rules))
+slice_aggregate_write_all : tie.Need-slice-aggregate-write-all invariant_loop decreases_loop
+slice_aggregate_write_all c = sym (length-take-le _ _ (search rules))
 
-write-all-requires : tie.Need-write-all-requires invariant-loop decreases-loop
-write-all-requires c κs = tt
+write_all_requires : tie.Need-write-all-requires invariant_loop decreases_loop
+write_all_requires c κs = tt
 
-returns : tie.Need-returns invariant-loop decreases-loop
+returns : tie.Need-returns invariant_loop decreases_loop
 returns c = tt
 
-loop-less : tie.Need-loop-smaller invariant-loop decreases-loop
-loop-less c =
+loop_less : tie.Need-loop-smaller invariant_loop decreases_loop
+loop_less c =
     let turn = c.before.before.before.before.before.before.before.before.before in
-    fill-less c.before.before.before.before.before.fill.ensures (omega (arith, turn.loop.invariant)) (search rules)
+    fill_less c.before.before.before.before.before.fill.ensures (omega (arith, turn.loop.invariant)) (search rules)
     (not-true _ c.before.before.before.before.before.before.before.if1.true)
 
-loop-again : tie.Need-loop-preserved invariant-loop decreases-loop
-loop-again c = search rules
+loop_again : tie.Need-loop-preserved invariant_loop decreases_loop
+loop_again c = search rules
 
-returns-2 : tie.Need-returns-2 invariant-loop decreases-loop
-returns-2 c = tt
+returns_2 : tie.Need-returns-2 invariant_loop decreases_loop
+returns_2 c = tt
 
-pub write-ticks-spec : {M : Type 1} → statement M
-write-ticks-spec =
+pub write_ticks_spec : {M : Type 1} → statement M
+write_ticks_spec =
     tie.close
     (tie.spec
-    invariant-loop
-    decreases-loop
-    large-buffer-requires
-    start-requires
-    loop-holds
-    slice-aggregate-fill
-    fill-requires
-    array-share-prefix-out
-    slice-aggregate-write-all
-    write-all-requires
+    invariant_loop
+    decreases_loop
+    large_buffer_requires
+    start_requires
+    loop_holds
+    slice_aggregate_fill
+    fill_requires
+    array_share_prefix_out
+    slice_aggregate_write_all
+    write_all_requires
     returns
-    loop-less
-    loop-again
-    returns-2)
+    loop_less
+    loop_again
+    returns_2)

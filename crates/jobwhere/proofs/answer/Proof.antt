@@ -19,67 +19,67 @@ start c =
     let s = a.before.before.args.text.now in
     subst (NumberWithin (length s)) (sym a.ask.ensures ∙ c.asked.given.1) (begins s)
 
-ask-requires : tie.Need-ask-requires
-ask-requires c κs = search rules
+ask_requires : tie.Need-ask-requires
+ask_requires c κs = search rules
 
-enum-known-asked : tie.Need-enum-known-asked
-enum-known-asked c = search rules
+enum_known_asked : tie.Need-enum-known-asked
+enum_known_asked c = search rules
 
-sub-find : tie.Need-overflow-sub-find
-sub-find c = omega (arith, start c.before)
+sub_find : tie.Need-overflow-sub-find
+sub_find c = omega (arith, start c.before)
 
-part-find-start : tie.Need-slice-bounds-find-start
-part-find-start c = omega (arith, start c.before)
+part_find_start : tie.Need-slice-bounds-find-start
+part_find_start c = omega (arith, start c.before)
 
-part-find-end : tie.Need-slice-bounds-find-end
-part-find-end c = search rules
+part_find_end : tie.Need-slice-bounds-find-end
+part_find_end c = search rules
 
-find-requires : tie.Need-find-requires
-find-requires c κs = search rules
+find_requires : tie.Need-find-requires
+find_requires c κs = search rules
 
-write-row-requires : tie.Need-write-row-requires
-write-row-requires c κs = search rules
+write_row_requires : tie.Need-write-row-requires
+write_row_requires c κs = search rules
 
-slice-aggregate-fail : tie.Need-slice-aggregate-fail
-slice-aggregate-fail c = search rules
+slice_aggregate_fail : tie.Need-slice-aggregate-fail
+slice_aggregate_fail c = search rules
 
-fail-requires : tie.Need-fail-requires
-fail-requires c κs = search rules
+fail_requires : tie.Need-fail-requires
+fail_requires c κs = search rules
 
 enum_told : tie.Need-enum-told
 enum_told c = search rules
 
-slice-aggregate-fail-2 : tie.Need-slice-aggregate-fail-2
-slice-aggregate-fail-2 c = search rules
+slice_aggregate_fail_2 : tie.Need-slice-aggregate-fail-2
+slice_aggregate_fail_2 c = search rules
 
-fail-requires-2 : tie.Need-fail-requires-2
-fail-requires-2 c κs = search rules
+fail_requires_2 : tie.Need-fail-requires-2
+fail_requires_2 c κs = search rules
 
 returns : tie.Need-returns
 returns c = search rules
 
-returns-2 : tie.Need-returns-2
-returns-2 c = search rules
+returns_2 : tie.Need-returns-2
+returns_2 c = search rules
 
-returns-3 : tie.Need-returns-3
-returns-3 c = search rules
+returns_3 : tie.Need-returns-3
+returns_3 c = search rules
 
-pub answer-spec : {M : Type 1} → statement M
-answer-spec =
+pub answer_spec : {M : Type 1} → statement M
+answer_spec =
     tie.close
     (tie.spec
-    ask-requires
-    enum-known-asked
-    sub-find
-    part-find-start
-    part-find-end
-    find-requires
-    write-row-requires
-    slice-aggregate-fail
-    fail-requires
+    ask_requires
+    enum_known_asked
+    sub_find
+    part_find_start
+    part_find_end
+    find_requires
+    write_row_requires
+    slice_aggregate_fail
+    fail_requires
     enum_told
-    slice-aggregate-fail-2
-    fail-requires-2
+    slice_aggregate_fail_2
+    fail_requires_2
     returns
-    returns-2
-    returns-3)
+    returns_2
+    returns_3)

@@ -6,5 +6,5 @@ use Rattle.jobwhere.proofs.join.Tie as tie
 returns : tie.Need-returns
 returns c = search to_z-of_z
 
-pub join-spec : {M : Type 1} → statement M
-join-spec = tie.close (tie.spec returns)
+pub join_spec : {M : Type 1} → statement M
+join_spec = tie.close (tie.spec returns)

@@ -3,14 +3,14 @@ use borrow.Author.Rules.{rules}
 use Rattle.jobwhere.proofs.lay.Statement.{statement}
 use Rattle.jobwhere.proofs.lay.Tie as tie
 
-row-requires : tie.Need-row-requires
-row-requires c κs = search rules
+row_requires : tie.Need-row-requires
+row_requires c κs = search rules
 
-slice-aggregate-line : tie.Need-slice-aggregate-line
-slice-aggregate-line c = search rules
+slice_aggregate_line : tie.Need-slice-aggregate-line
+slice_aggregate_line c = search rules
 
-line-requires : tie.Need-line-requires
-line-requires c κs = search rules
+line_requires : tie.Need-line-requires
+line_requires c κs = search rules
 
 same_length : tie.Need-same-length
 same_length c = search rules
@@ -20,5 +20,5 @@ returns c =
     let l = c.before.before in
     rw l.before.before.before.row.ensures at l.line.ensures
 
-pub lay-spec : {M : Type 1} → statement M
-lay-spec = tie.close (tie.spec row-requires slice-aggregate-line line-requires same_length returns)
+pub lay_spec : {M : Type 1} → statement M
+lay_spec = tie.close (tie.spec row_requires slice_aggregate_line line_requires same_length returns)

@@ -6,55 +6,55 @@ use lib.Seq.{length-take-le}
 use Rattle.jobwhere.proofs.main.Statement.{statement}
 use Rattle.jobwhere.proofs.main.Tie as tie
 
-slice-aggregate-read : tie.Need-slice-aggregate-read
-slice-aggregate-read c = search rules
+slice_aggregate_read : tie.Need-slice-aggregate-read
+slice_aggregate_read c = search rules
 
-read-requires : tie.Need-read-requires
-read-requires c κs = search rules
+read_requires : tie.Need-read-requires
+read_requires c κs = search rules
 
-enum-known-input : tie.Need-enum-known-input
-enum-known-input c = search rules
+enum_known_input : tie.Need-enum-known-input
+enum_known_input c = search rules
 
-array-share-prefix-text : tie.Need-array-share-prefix-text
-array-share-prefix-text c =
+array_share_prefix_text : tie.Need-array-share-prefix-text
+array_share_prefix_text c =
     let fits = rw c.before.input.given.1 at c.before.before.before.before.read.ensures in
     omega (arith, fits)
 
-slice-aggregate-answer : tie.Need-slice-aggregate-answer
-slice-aggregate-answer c =
+slice_aggregate_answer : tie.Need-slice-aggregate-answer
+slice_aggregate_answer c =
     let fits = rw c.before.before.input.given.1 at c.before.before.before.before.before.read.ensures in
     sym (length-take-le _ _ (omega (arith, fits)))
 
-answer-requires : tie.Need-answer-requires
-answer-requires c κs = search rules
+answer_requires : tie.Need-answer-requires
+answer_requires c κs = search rules
 
 enum_told : tie.Need-enum-told
 enum_told c = search rules
 
-slice-aggregate-fail : tie.Need-slice-aggregate-fail
-slice-aggregate-fail c = search rules
+slice_aggregate_fail : tie.Need-slice-aggregate-fail
+slice_aggregate_fail c = search rules
 
-fail-requires : tie.Need-fail-requires
-fail-requires c κs = search rules
+fail_requires : tie.Need-fail-requires
+fail_requires c κs = search rules
 
 returns : tie.Need-returns
 returns c = search rules
 
-returns-2 : tie.Need-returns-2
-returns-2 c = search rules
+returns_2 : tie.Need-returns-2
+returns_2 c = search rules
 
 pub main_spec : {M : Type 1} → statement M
 main_spec =
     tie.close
     (tie.spec
-    slice-aggregate-read
-    read-requires
-    enum-known-input
-    array-share-prefix-text
-    slice-aggregate-answer
-    answer-requires
+    slice_aggregate_read
+    read_requires
+    enum_known_input
+    array_share_prefix_text
+    slice_aggregate_answer
+    answer_requires
     enum_told
-    slice-aggregate-fail
-    fail-requires
+    slice_aggregate_fail
+    fail_requires
     returns
-    returns-2)
+    returns_2)

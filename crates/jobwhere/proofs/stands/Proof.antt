@@ -1,33 +1,33 @@
 -- `stands` is right because each word is that of its number.
 use borrow.Author.Rules.{rules}
 use Rattle.encoding.specs.laws.Number.{word_fits, through}
-use Rattle.jobwhere.specs.laws.Row.{found-fits}
+use Rattle.jobwhere.specs.laws.Row.{found_fits}
 use Rattle.jobwhere.proofs.stands.Statement.{statement}
 use Rattle.jobwhere.proofs.stands.Tie as tie
 
-found-word-requires : tie.Need-found-word-requires
-found-word-requires c κs = search rules
+found_word_requires : tie.Need-found-word-requires
+found_word_requires c κs = search rules
 
-word-requires : tie.Need-word-requires
-word-requires c κs = search rules
+word_requires : tie.Need-word-requires
+word_requires c κs = search rules
 
-word-requires-2 : tie.Need-word-requires-2
-word-requires-2 c κs = search rules
+word_requires_2 : tie.Need-word-requires-2
+word_requires_2 c κs = search rules
 
-word-requires-3 : tie.Need-word-requires-3
-word-requires-3 c κs = search rules
+word_requires_3 : tie.Need-word-requires-3
+word_requires_3 c κs = search rules
 
-word-requires-4 : tie.Need-word-requires-4
-word-requires-4 c κs = search rules
+word_requires_4 : tie.Need-word-requires-4
+word_requires_4 c κs = search rules
 
-word-requires-5 : tie.Need-word-requires-5
-word-requires-5 c κs = search rules
+word_requires_5 : tie.Need-word-requires-5
+word_requires_5 c κs = search rules
 
 returns : tie.Need-returns
 returns c =
     let k = c.before in
     let f = k.before.before.before.before.before in
-    let found = found-fits f.before.before.before.args.s.found in
+    let found = found_fits f.before.before.before.args.s.found in
     simp (
       through found f.found_word.ensures,
       through (word_fits _) k.before.before.before.before.word.ensures,
@@ -38,14 +38,14 @@ returns c =
     )
     (search rules)
 
-pub stands-spec : {M : Type 1} → statement M
-stands-spec =
+pub stands_spec : {M : Type 1} → statement M
+stands_spec =
     tie.close
     (tie.spec
-    found-word-requires
-    word-requires
-    word-requires-2
-    word-requires-3
-    word-requires-4
-    word-requires-5
+    found_word_requires
+    word_requires
+    word_requires_2
+    word_requires_3
+    word_requires_4
+    word_requires_5
     returns)

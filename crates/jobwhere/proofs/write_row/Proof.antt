@@ -6,27 +6,27 @@ use lib.Seq.{length-take-le}
 use Rattle.jobwhere.proofs.write_row.Statement.{statement}
 use Rattle.jobwhere.proofs.write_row.Tie as tie
 
-slice-aggregate-lay : tie.Need-slice-aggregate-lay
-slice-aggregate-lay c = search rules
+slice_aggregate_lay : tie.Need-slice-aggregate-lay
+slice_aggregate_lay c = search rules
 
-lay-requires : tie.Need-lay-requires
-lay-requires c κs = search rules
+lay_requires : tie.Need-lay-requires
+lay_requires c κs = search rules
 
-enum-known-place : tie.Need-enum-known-place
-enum-known-place c = search rules
+enum_known_place : tie.Need-enum-known-place
+enum_known_place c = search rules
 
-array-share-prefix-out : tie.Need-array-share-prefix-out
-array-share-prefix-out c =
+array_share_prefix_out : tie.Need-array-share-prefix-out
+array_share_prefix_out c =
     let fits = rw c.before.place.given.1 at c.before.before.before.before.lay.ensures.1.1 in
     omega (arith, fits)
 
-slice-aggregate-write-all : tie.Need-slice-aggregate-write-all
-slice-aggregate-write-all c =
+slice_aggregate_write_all : tie.Need-slice-aggregate-write-all
+slice_aggregate_write_all c =
     let fits = rw c.before.before.place.given.1 at c.before.before.before.before.before.lay.ensures.1.1 in
     sym (length-take-le _ _ (omega (arith, fits)))
 
-write-all-requires : tie.Need-write-all-requires
-write-all-requires c κs = search rules
+write_all_requires : tie.Need-write-all-requires
+write_all_requires c κs = search rules
 
 enum_told : tie.Need-enum-told
 enum_told c = search rules
@@ -34,19 +34,19 @@ enum_told c = search rules
 returns : tie.Need-returns
 returns c = search rules
 
-returns-2 : tie.Need-returns-2
-returns-2 c = search rules
+returns_2 : tie.Need-returns-2
+returns_2 c = search rules
 
-pub write-row-spec : {M : Type 1} → statement M
-write-row-spec =
+pub write_row_spec : {M : Type 1} → statement M
+write_row_spec =
     tie.close
     (tie.spec
-    slice-aggregate-lay
-    lay-requires
-    enum-known-place
-    array-share-prefix-out
-    slice-aggregate-write-all
-    write-all-requires
+    slice_aggregate_lay
+    lay_requires
+    enum_known_place
+    array_share_prefix_out
+    slice_aggregate_write_all
+    write_all_requires
     enum_told
     returns
-    returns-2)
+    returns_2)

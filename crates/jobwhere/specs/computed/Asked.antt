@@ -5,22 +5,22 @@ use Rattle.jobwhere.specs.declared.Asked.{Asked}
 use Rattle.jobwhere.specs.declared.Pushed.{Pushed}
 
 -- a digit, from '0', byte 48, to '9', after the digits that write n
-unfoldable pub digitPushed : (n b : ℕ) → Pushed
-digitPushed n b =
+unfoldable pub digit_pushed : (n b : ℕ) → Pushed
+digit_pushed n b =
     let more = n * 10 + (b - 48) in
     cond (leb 48 b && (leb b 57 && ltb more (2 ^ 63))) (Pushed.Number more) Pushed.Nothing
 
-abbrev pub ifPushed : Pushed → (rest : ℕ → Asked) → Asked
-ifPushed (Pushed.Number n) rest = rest n
-ifPushed Pushed.Nothing rest = Asked.Nothing
+abbrev pub if_pushed : Pushed → (rest : ℕ → Asked) → Asked
+if_pushed (Pushed.Number n) rest = rest n
+if_pushed Pushed.Nothing rest = Asked.Nothing
 
 -- after so many digits, which write n: at least one and at most 19, so that no zeros in front push the job out of the buffer
-unfoldable pub askedFrom : (n digits : ℕ) → List ℕ → Asked
-askedFrom n digits [] = Asked.Nothing
-askedFrom n digits (b ∷ s) =
+unfoldable pub asked_from : (n digits : ℕ) → List ℕ → Asked
+asked_from n digits [] = Asked.Nothing
+asked_from n digits (b ∷ s) =
     cond (eqb b 10)
     (cond (eqb digits 0) Asked.Nothing (Asked.Ticks n (digits + 1)))
-    (cond (eqb digits 19) Asked.Nothing (ifPushed (digitPushed n b) (λ more. askedFrom more (digits + 1) s)))
+    (cond (eqb digits 19) Asked.Nothing (if_pushed (digit_pushed n b) (λ more. asked_from more (digits + 1) s)))
 
-abbrev pub ticksAsked : (text : List ℕ) → Asked
-ticksAsked text = askedFrom 0 0 text
+abbrev pub ticks_asked : (text : List ℕ) → Asked
+ticks_asked text = asked_from 0 0 text

@@ -1,6 +1,6 @@
 -- Where a job stands, as a row of 16 signed numbers of 64 bits.
 use Rattle.std.specs.Prelude.{List, [], ◌∷◌, ℤ, pos}
-use Rattle.encoding.specs.Words.{word_of, refusalOf, workWordsOf}
+use Rattle.encoding.specs.Words.{word_of, refusal_of, work_words_of}
 use Rattle.seek.specs.declared.Found.{Found}
 use Rattle.seek.specs.declared.Sought.{Sought}
 use Rattle.encoding.specs.declared.encode.WorkWords.{WorkWords}
@@ -8,24 +8,24 @@ use Rattle.encoding.specs.Words.{word_of}
 use Rattle.jobwhere.specs.declared.Standing.{Standing}
 
 -- 1 a block is in work, 0 the job is over; a refusal is minus the number of the question, as the calls from C have it
-abbrev pub foundWord : Found → ℤ
-foundWord Found.InWork = pos 1
-foundWord Found.Over = pos 0
-foundWord (Found.Refused number) = refusalOf number
+abbrev pub found_word : Found → ℤ
+found_word Found.InWork = pos 1
+found_word Found.Over = pos 0
+found_word (Found.Refused number) = refusal_of number
 
 -- what is found; block, text line, ticks and cycles left; the point and the remainder; what is in work, in the eight words of a record
 abbrev pub row_of : Sought → List ℤ
 row_of a =
     let m = a.bench in
-    let w = workWordsOf m.work in
-    foundWord a.found ∷ word_of a.block ∷ word_of a.line ∷ word_of a.ticks ∷ word_of a.left
+    let w = work_words_of m.work in
+    found_word a.found ∷ word_of a.block ∷ word_of a.line ∷ word_of a.ticks ∷ word_of a.left
     ∷ m.at.x ∷ m.at.y ∷ word_of m.remainder
     ∷ w.kind ∷ w.a ∷ w.b ∷ w.c ∷ w.d ∷ w.e ∷ w.f ∷ w.g ∷ []
 
-abbrev pub standingOf : Sought → Standing
-standingOf a =
+abbrev pub standing_of : Sought → Standing
+standing_of a =
     record {
-      found = foundWord a.found;
+      found = found_word a.found;
       block = word_of a.block;
       line = word_of a.line;
       ticks = word_of a.ticks;
@@ -35,7 +35,7 @@ standingOf a =
       remainder = word_of a.bench.remainder;
     }
 
-abbrev pub rowWith : Standing → WorkWords → List ℤ
-rowWith s w =
+abbrev pub row_with : Standing → WorkWords → List ℤ
+row_with s w =
     s.found ∷ s.block ∷ s.line ∷ s.ticks ∷ s.left ∷ s.x ∷ s.y ∷ s.remainder
     ∷ w.kind ∷ w.a ∷ w.b ∷ w.c ∷ w.d ∷ w.e ∷ w.f ∷ w.g ∷ []

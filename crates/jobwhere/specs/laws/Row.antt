@@ -2,11 +2,11 @@
 use Rattle.std.specs.Int.{w64}
 use Rattle.std.proofs.Common.{SFits}
 use Rattle.std.proofs.Math.Facts.{sfits_lit}
-use Rattle.encoding.specs.laws.Number.{refusal-fits}
+use Rattle.encoding.specs.laws.Number.{refusal_fits}
 use Rattle.seek.specs.declared.Found.{Found}
-use Rattle.jobwhere.specs.computed.Row.{foundWord}
+use Rattle.jobwhere.specs.computed.Row.{found_word}
 
-pub found-fits : (f : Found) → SFits w64 (foundWord f)
-found-fits Found.InWork = sfits_lit tt
-found-fits Found.Over = sfits_lit tt
-found-fits (Found.Refused number) = refusal-fits number
+pub found_fits : (f : Found) → SFits w64 (found_word f)
+found_fits Found.InWork = sfits_lit tt
+found_fits Found.Over = sfits_lit tt
+found_fits (Found.Refused number) = refusal_fits number

@@ -6,7 +6,7 @@ use Rattle.letters.specs.declared.letter.Letter.TheVariants.{N, G, F, X, Y, I, J
 use Rattle.letters.specs.declared.word.Word.{Word}
 use Rattle.letters.specs.declared.word.Words.{Words}
 use Rattle.letters.specs.declared.found.Found.{Found}
-use Rattle.letters.specs.Word.{wordsBy}
+use Rattle.letters.specs.Word.{words_by}
 
 abbrev pub index_of : Letter → ℕ
 index_of N = 0
@@ -23,26 +23,26 @@ has_of set l = eqb (set / 2 ^ index_of l % 2) 1
 abbrev pub found : (stands twice negative : ℕ) → Found
 found s t n = record { stands = s; twice = t; negative = n }
 
-abbrev pub nothingFound : Found
-nothingFound = found 0 0 0
+abbrev pub nothing_found : Found
+nothing_found = found 0 0 0
 
 -- the set of all seven
-abbrev pub allLetters : ℕ
-allLetters = 127
+abbrev pub all_letters : ℕ
+all_letters = 127
 
-abbrev pub addOf : Found → Letter → (negative : Bool) → Found
-addOf f l n =
+abbrev pub add_of : Found → Letter → (negative : Bool) → Found
+add_of f l n =
     let one = 2 ^ index_of l in
     cond (has_of f.stands l)
-    (found f.stands (bit_or f.twice one) (bit_and f.negative (allLetters - one)))
+    (found f.stands (bit_or f.twice one) (bit_and f.negative (all_letters - one)))
     (found (bit_or f.stands one) f.twice (bit_or f.negative (cond n one 0)))
 
-abbrev pub magnitudeAfter : Found → Letter → (magnitude : ℕ) → ℕ
-magnitudeAfter f l m = cond (has_of f.stands l) 0 m
+abbrev pub magnitude_after : Found → Letter → (magnitude : ℕ) → ℕ
+magnitude_after f l m = cond (has_of f.stands l) 0 m
 
 abbrev pub word_in : Found → (magnitudes : List ℕ) → Letter → Word
 word_in f ms l =
     record { stands = has_of f.stands l; twice = has_of f.twice l; negative = has_of f.negative l; magnitude = get_or ms (index_of l) 0 }
 
 abbrev pub words_in : Found → (magnitudes : List ℕ) → Words
-words_in f ms = wordsBy (word_in f ms)
+words_in f ms = words_by (word_in f ms)

@@ -10,5 +10,5 @@ pub record Gathered (f : Found) (ms : List ℕ) : Type 0 where
   pub twice : f.twice < 128
   pub negative : f.negative < 128
   pub places : length ms ≡ 7
-  pub not-twice : (l : Letter) → has_of f.stands l ≡ false → has_of f.twice l ≡ false
+  pub not_twice : (l : Letter) → has_of f.stands l ≡ false → has_of f.twice l ≡ false
   pub not_negative : (l : Letter) → has_of f.stands l ≡ false → has_of f.negative l ≡ false

@@ -5,49 +5,49 @@ use Rattle.letters.specs.declared.letter.Letter.{Letter}
 use Rattle.letters.specs.declared.letter.Letter.TheVariants.{N, G, F, X, Y, I, J}
 use Rattle.letters.specs.declared.letter.Named.{Named}
 use Rattle.letters.specs.declared.letter.Named.TheVariants.{Is, Other}
-use Rattle.letters.specs.Letter.{letters, letterByte}
-use Rattle.letters.specs.computed.Scan.{amongOf, letterOf}
+use Rattle.letters.specs.Letter.{letters, letter_byte}
+use Rattle.letters.specs.computed.Scan.{among_of, letter_of}
 
-pub letter-of : (l : Letter) → letterOf (letterByte l) ≡ Is l
-letter-of N = refl
-letter-of G = refl
-letter-of F = refl
-letter-of X = refl
-letter-of Y = refl
-letter-of I = refl
-letter-of J = refl
+pub letter_of_lem : (l : Letter) → letter_of (letter_byte l) ≡ Is l
+letter_of_lem N = refl
+letter_of_lem G = refl
+letter_of_lem F = refl
+letter_of_lem X = refl
+letter_of_lem Y = refl
+letter_of_lem I = refl
+letter_of_lem J = refl
 
 -- the byte is none of the letters', said as a `match` says it, and before that r
 abbrev pub NoneOf : List Letter → ℕ → Type 0 → Type 0
 NoneOf [] b r = r
-NoneOf (l ∷ ls) b r = NoneOf ls b (r × (b ≡ letterByte l → ⊥))
+NoneOf (l ∷ ls) b r = NoneOf ls b (r × (b ≡ letter_byte l → ⊥))
 
 before : (ls : List Letter) (b : ℕ) (r : Type 0) → NoneOf ls b r → r
 before [] b r h = h
-before (l ∷ ls) b r h = (before ls b (r × (b ≡ letterByte l → ⊥)) h).0
+before (l ∷ ls) b r h = (before ls b (r × (b ≡ letter_byte l → ⊥)) h).0
 
-among_none : (ls : List Letter) (b : ℕ) (r : Type 0) → NoneOf ls b r → amongOf ls b ≡ Other
+among_none : (ls : List Letter) (b : ℕ) (r : Type 0) → NoneOf ls b r → among_of ls b ≡ Other
 among_none [] b r h = refl
 among_none (l ∷ ls) b r h =
-    let differs = (before ls b (r × (b ≡ letterByte l → ⊥)) h).1 in
-    rw (ne_eqb b (letterByte l) differs) (among_none ls b (r × (b ≡ letterByte l → ⊥)) h)
+    let differs = (before ls b (r × (b ≡ letter_byte l → ⊥)) h).1 in
+    rw (ne_eqb b (letter_byte l) differs) (among_none ls b (r × (b ≡ letter_byte l → ⊥)) h)
 
-pub letter-none : (b : ℕ) → NoneOf letters b Unit → letterOf b ≡ Other
-letter-none b h = among_none letters b Unit h
+pub letter_none : (b : ℕ) → NoneOf letters b Unit → letter_of b ≡ Other
+letter_none b h = among_none letters b Unit h
 
 -- ---- and back
 
 abbrev HasByte : Named → ℕ → Type 0
-HasByte (Is l) b = b ≡ letterByte l
+HasByte (Is l) b = b ≡ letter_byte l
 HasByte Other b = Unit
 
-if-has : (t : Bool) (l : Letter) (b : ℕ) (n : Named) → eqb b (letterByte l) ≡ t → HasByte n b → HasByte (cond t (Is l) n) b
-if-has true l b n e h = eqb-true b (letterByte l) e
-if-has false l b n e h = h
+if_has : (t : Bool) (l : Letter) (b : ℕ) (n : Named) → eqb b (letter_byte l) ≡ t → HasByte n b → HasByte (cond t (Is l) n) b
+if_has true l b n e h = eqb-true b (letter_byte l) e
+if_has false l b n e h = h
 
-among-has : (ls : List Letter) (b : ℕ) → HasByte (amongOf ls b) b
-among-has [] b = tt
-among-has (l ∷ ls) b = if-has (eqb b (letterByte l)) l b (amongOf ls b) refl (among-has ls b)
+among_has : (ls : List Letter) (b : ℕ) → HasByte (among_of ls b) b
+among_has [] b = tt
+among_has (l ∷ ls) b = if_has (eqb b (letter_byte l)) l b (among_of ls b) refl (among_has ls b)
 
-pub letter-byte : (b : ℕ) (l : Letter) → letterOf b ≡ Is l → b ≡ letterByte l
-letter-byte b l e = rw e at (among-has letters b)
+pub letter_byte_lem : (b : ℕ) (l : Letter) → letter_of b ≡ Is l → b ≡ letter_byte l
+letter_byte_lem b l e = rw e at (among_has letters b)

@@ -5,12 +5,12 @@ use Rattle.letters.specs.declared.letter.Letter.{Letter}
 use Rattle.letters.specs.declared.word.Word.{Word}
 use Rattle.letters.specs.declared.word.Words.{Words}
 use Rattle.letters.specs.Letter.{same}
-use Rattle.letters.specs.Word.{twiceWord, word_at, wordsBy}
+use Rattle.letters.specs.Word.{twice_word, word_at, words_by}
 
 -- ---- the words found
 
-abbrev pub moreOf : (old new : Word) → Word
-moreOf old new = cond old.stands twiceWord new
+abbrev pub more_of : (old new : Word) → Word
+more_of old new = cond old.stands twice_word new
 
 abbrev pub put_of : Words → Letter → Word → Words
-put_of ws l new = wordsBy (λ k. cond (same k l) (moreOf (word_at ws k) new) (word_at ws k))
+put_of ws l new = words_by (λ k. cond (same k l) (more_of (word_at ws k) new) (word_at ws k))

@@ -8,7 +8,7 @@ use Rattle.std.proofs.lemmas.Bool.{eqb-false}
 use Rattle.letters.specs.declared.letter.Letter.{Letter}
 use Rattle.letters.specs.declared.letter.Letter.TheVariants.{N, G, F, X, Y, I, J}
 use Rattle.letters.specs.Letter.{letters, same}
-use Rattle.letters.specs.computed.Found.{index_of, has_of, allLetters}
+use Rattle.letters.specs.computed.Found.{index_of, has_of, all_letters}
 
 pub index_below : (l : Letter) → index_of l < 7
 index_below N = omega arith
@@ -29,14 +29,14 @@ bit_below I = omega arith
 bit_below J = omega arith
 
 -- a bit as the code makes it
-pub bit-fits : (l : Letter) → 1 * 2 ^ index_of l % 18446744073709551616 ≡ 2 ^ index_of l
-bit-fits N = refl
-bit-fits G = refl
-bit-fits F = refl
-bit-fits X = refl
-bit-fits Y = refl
-bit-fits I = refl
-bit-fits J = refl
+pub bit_fits : (l : Letter) → 1 * 2 ^ index_of l % 18446744073709551616 ≡ 2 ^ index_of l
+bit_fits N = refl
+bit_fits G = refl
+bit_fits F = refl
+bit_fits X = refl
+bit_fits Y = refl
+bit_fits I = refl
+bit_fits J = refl
 
 -- ---- the computed test
 
@@ -89,26 +89,26 @@ agree_same false false t = refl
 abbrev put_in : ℕ → (l k : Letter) → Bool
 put_in s l k = agree (has_of (bit_or s (2 ^ index_of l)) k) (same k l || has_of s k)
 
-abbrev takenOut : ℕ → (l k : Letter) → Bool
-takenOut s l k = agree (has_of (bit_and s (allLetters - 2 ^ index_of l)) k) (not (same k l) && has_of s k)
+abbrev taken_out : ℕ → (l k : Letter) → Bool
+taken_out s l k = agree (has_of (bit_and s (all_letters - 2 ^ index_of l)) k) (not (same k l) && has_of s k)
 
 module _ (s : ℕ) (small : s < 128) (l k : Letter) where
-  pub has-put : has_of (bit_or s (2 ^ index_of l)) k ≡ (same k l || has_of s k)
-  has-put =
+  pub has_put : has_of (bit_or s (2 ^ index_of l)) k ≡ (same k l || has_of s k)
+  has_put =
       let test = below_at 128 (λ n. each (λ a. each (put_in n a))) tt s small in
       agree_same _ _ (each_at (put_in s l) (each_at (λ a. each (put_in s a)) test l) k)
 
-  pub has-taken : has_of (bit_and s (allLetters - 2 ^ index_of l)) k ≡ (not (same k l) && has_of s k)
-  has-taken =
-      let test = below_at 128 (λ n. each (λ a. each (takenOut n a))) tt s small in
-      agree_same _ _ (each_at (takenOut s l) (each_at (λ a. each (takenOut s a)) test l) k)
+  pub has_taken : has_of (bit_and s (all_letters - 2 ^ index_of l)) k ≡ (not (same k l) && has_of s k)
+  has_taken =
+      let test = below_at 128 (λ n. each (λ a. each (taken_out n a))) tt s small in
+      agree_same _ _ (each_at (taken_out s l) (each_at (λ a. each (taken_out s a)) test l) k)
 
 module _ (s : ℕ) (small : s < 128) (l : Letter) where
   pub put_small : bit_or s (2 ^ index_of l) < 128
   put_small = or_lt 7 s (2 ^ index_of l) small (omega (arith, bit_below l))
 
-  pub taken-small : bit_and s (allLetters - 2 ^ index_of l) < 128
-  taken-small = omega (arith, and_le_l s (allLetters - 2 ^ index_of l))
+  pub taken_small : bit_and s (all_letters - 2 ^ index_of l) < 128
+  taken_small = omega (arith, and_le_l s (all_letters - 2 ^ index_of l))
 
 -- a letter's index tells it from the others, as its byte does
 pub index_same : (k l : Letter) → eqb (index_of k) (index_of l) ≡ same k l
@@ -118,9 +118,9 @@ index_same k l = agree_same _ _ (each_at (test k) (each_at (λ a. each (test a))
     test a b = agree (eqb (index_of a) (index_of b)) (same a b)
 
 -- only the set that is 0 has no letter
-abbrev pub anyIn : List Letter → ℕ → Bool
-anyIn [] s = false
-anyIn (l ∷ ls) s = has_of s l || anyIn ls s
+abbrev pub any_in : List Letter → ℕ → Bool
+any_in [] s = false
+any_in (l ∷ ls) s = has_of s l || any_in ls s
 
-pub set-empty : (s : ℕ) → s < 128 → eqb s 0 ≡ not (anyIn letters s)
-set-empty s small = agree_same _ _ (below_at 128 (λ n. agree (eqb n 0) (not (anyIn letters n))) tt s small)
+pub set_empty : (s : ℕ) → s < 128 → eqb s 0 ≡ not (any_in letters s)
+set_empty s small = agree_same _ _ (below_at 128 (λ n. agree (eqb n 0) (not (any_in letters n))) tt s small)

@@ -6,98 +6,98 @@ use Rattle.whole.specs.laws.Difference.{ring, var, ◌⊕◌, ◌⊖◌}
 use Rattle.whole.specs.laws.Test.{both, joined}
 use Rattle.plane.specs.declared.point.Point.{Point}
 use Rattle.plane.specs.declared.pulse.Pulses.{Pulses}
-use Rattle.plane.specs.Pulse.{shiftedOf}
-use Rattle.plane.specs.laws.Point.{equal-point, equal-itself}
+use Rattle.plane.specs.Pulse.{shifted_of}
+use Rattle.plane.specs.laws.Point.{equal_point_lem, equal_itself}
 use Rattle.plane.specs.laws.Fits.{FitsPoint}
 use Rattle.line.specs.declared.line.Line.{Line}
-use Rattle.line.specs.Line.{incrementX, incrementY, lineCycles, axisSteps, axisMoved, linePoint}
-use Rattle.line.specs.computed.Line.{drawnOf, line_at, steppedOf}
+use Rattle.line.specs.Line.{increment_x, increment_y, line_cycles, axis_steps, axis_moved, line_point}
+use Rattle.line.specs.computed.Line.{drawn_of, line_at, stepped_of}
 use Rattle.line.specs.computed.Register.{AxisFits}
-use Rattle.line.specs.laws.Signed.{moved-size}
-use Rattle.line.specs.laws.Cycles.{increment-x, increment-y, cycles-bound}
-use Rattle.line.specs.laws.Points.{point-fits}
-use Rattle.line.specs.laws.Pulses.{point-next, pulses-next}
+use Rattle.line.specs.laws.Signed.{moved_size}
+use Rattle.line.specs.laws.Cycles.{increment_x_lem, increment_y_lem, cycles_bound}
+use Rattle.line.specs.laws.Points.{point_fits}
+use Rattle.line.specs.laws.Pulses.{point_next, pulses_next}
 
 pub record Drawn (l : Line) : Type 0 where
-  pub short-x : nat_abs (incrementX l.start l.end) ≤ 2000000
-  pub short-y : nat_abs (incrementY l.start l.end) ≤ 2000000
-  pub own : l.cycles ≡ lineCycles l.start l.end
+  pub short_x : nat_abs (increment_x l.start l.end) ≤ 2000000
+  pub short_y : nat_abs (increment_y l.start l.end) ≤ 2000000
+  pub own : l.cycles ≡ line_cycles l.start l.end
   pub due : l.done < l.cycles
 
-pub drawn : {l : Line} → drawnOf l ≡ true → Drawn l
-unfolding drawnOf
+pub drawn : {l : Line} → drawn_of l ≡ true → Drawn l
+unfolding drawn_of
 drawn {l} e =
     let short = both e in
     let axes = both short.0 in
     let rest = both short.1 in
     record {
-      short-x = leb-true _ _ axes.0;
-      short-y = leb-true _ _ axes.1;
+      short_x = leb-true _ _ axes.0;
+      short_y = leb-true _ _ axes.1;
       own = eqb-true _ _ rest.0;
       due =
           ltb-true _ _ rest.1;
     }
 
-pub drawn-test : {l : Line} → Drawn l → drawnOf l ≡ true
-unfolding drawnOf
-drawn-test d =
-    joined (joined (le-leb _ _ d.short-x) (le-leb _ _ d.short-y)) (joined (eq-eqb _ _ d.own) (lt-ltb _ _ d.due))
+pub drawn_test : {l : Line} → Drawn l → drawn_of l ≡ true
+unfolding drawn_of
+drawn_test d =
+    joined (joined (le-leb _ _ d.short_x) (le-leb _ _ d.short_y)) (joined (eq-eqb _ _ d.own) (lt-ltb _ _ d.due))
 
 module _ (l : Line) (d : Drawn l) where
-  pub some-cycle : 0 < lineCycles l.start l.end
-  some-cycle = omega (arith, d.own, d.due)
+  pub some_cycle : 0 < line_cycles l.start l.end
+  some_cycle = omega (arith, d.own, d.due)
 
-  axis : (a : ℕ) → a ≤ lineCycles l.start l.end → AxisFits l.cycles a l.done
+  axis : (a : ℕ) → a ≤ line_cycles l.start l.end → AxisFits l.cycles a l.done
   axis a short =
-      let bound = cycles-bound l.start l.end d.short-x d.short-y in
+      let bound = cycles_bound l.start l.end d.short_x d.short_y in
       record { some = omega (arith, d.due); wide = omega (arith, d.own); short = omega (arith, d.own); due = omega (arith, d.due) }
 
-  pub axis-x : AxisFits l.cycles (nat_abs (incrementX l.start l.end)) l.done
-  axis-x = axis _ (increment-x l.start l.end)
+  pub axis_x : AxisFits l.cycles (nat_abs (increment_x l.start l.end)) l.done
+  axis_x = axis _ (increment_x_lem l.start l.end)
 
-  pub axis-y : AxisFits l.cycles (nat_abs (incrementY l.start l.end)) l.done
-  axis-y = axis _ (increment-y l.start l.end)
+  pub axis_y : AxisFits l.cycles (nat_abs (increment_y l.start l.end)) l.done
+  axis_y = axis _ (increment_y_lem l.start l.end)
 
 -- a line in work at a point
 pub record LineAt (l : Line) (at : Point) : Type 0 where
   pub drawing : Drawn l
-  pub reached : at ≡ linePoint l.start l.end l.done
+  pub reached : at ≡ line_point l.start l.end l.done
 
-pub line-at : {l : Line} {at : Point} → line_at l at ≡ true → LineAt l at
+pub line_at_lem : {l : Line} {at : Point} → line_at l at ≡ true → LineAt l at
 unfolding line_at
-line-at e = let b = both e in record { drawing = drawn b.0; reached = equal-point _ _ b.1 }
+line_at_lem e = let b = both e in record { drawing = drawn b.0; reached = equal_point_lem _ _ b.1 }
 
 -- what the axes have moved, from the point
 gone : (s v m : ℤ) → v ≡ s +ℤ m → nat_abs (v -ℤ s) ≡ nat_abs m
 gone s v m e = ap nat_abs (ap (λ (z : ℤ). z -ℤ s) e ∙ ring (var s ⊕ var m ⊖ var s) (var m) (omega arith))
 
 module _ (l : Line) (at : Point) (i : LineAt l at) where
-  own-moved : (a : ℤ) → nat_abs (axisMoved (lineCycles l.start l.end) a l.done) ≡ axisSteps l.cycles (nat_abs a) l.done
-  own-moved a = moved-size (lineCycles l.start l.end) (some-cycle l i.drawing) a l.done
-      ∙ ap (λ (q : ℕ). axisSteps q (nat_abs a) l.done) (sym i.drawing.own)
+  own_moved : (a : ℤ) → nat_abs (axis_moved (line_cycles l.start l.end) a l.done) ≡ axis_steps l.cycles (nat_abs a) l.done
+  own_moved a = moved_size (line_cycles l.start l.end) (some_cycle l i.drawing) a l.done
+      ∙ ap (λ (q : ℕ). axis_steps q (nat_abs a) l.done) (sym i.drawing.own)
 
-  pub gone-x : nat_abs (at.x -ℤ l.start.x) ≡ axisSteps l.cycles (nat_abs (incrementX l.start l.end)) l.done
-  unfolding linePoint
-  gone-x = gone l.start.x at.x _ (ap (λ (p : Point). p.x) i.reached) ∙ own-moved (incrementX l.start l.end)
+  pub gone_x : nat_abs (at.x -ℤ l.start.x) ≡ axis_steps l.cycles (nat_abs (increment_x l.start l.end)) l.done
+  unfolding line_point
+  gone_x = gone l.start.x at.x _ (ap (λ (p : Point). p.x) i.reached) ∙ own_moved (increment_x l.start l.end)
 
-  pub gone-y : nat_abs (at.y -ℤ l.start.y) ≡ axisSteps l.cycles (nat_abs (incrementY l.start l.end)) l.done
-  unfolding linePoint
-  gone-y = gone l.start.y at.y _ (ap (λ (p : Point). p.y) i.reached) ∙ own-moved (incrementY l.start l.end)
+  pub gone_y : nat_abs (at.y -ℤ l.start.y) ≡ axis_steps l.cycles (nat_abs (increment_y l.start l.end)) l.done
+  unfolding line_point
+  gone_y = gone l.start.y at.y _ (ap (λ (p : Point). p.y) i.reached) ∙ own_moved (increment_y l.start l.end)
 
   -- the next cycle's pulses lead to the next point, which the code's numbers hold
-  pub stepped-at : shiftedOf at (steppedOf l).pulses ≡ (steppedOf l).at
-  unfolding steppedOf
-  stepped-at =
-      let some = some-cycle l i.drawing in
-      ap₂ (λ (p : Point) (k : Pulses). shiftedOf p k) i.reached (pulses-next l.start l.end some l.done)
-      ∙ sym (point-next l.start l.end some l.done)
+  pub stepped_at : shifted_of at (stepped_of l).pulses ≡ (stepped_of l).at
+  unfolding stepped_of
+  stepped_at =
+      let some = some_cycle l i.drawing in
+      ap₂ (λ (p : Point) (k : Pulses). shifted_of p k) i.reached (pulses_next l.start l.end some l.done)
+      ∙ sym (point_next l.start l.end some l.done)
 
-  pub stepped-fits : FitsPoint l.start → FitsPoint l.end → FitsPoint (shiftedOf at (steppedOf l).pulses)
-  unfolding steppedOf
-  stepped-fits s e =
-      rw stepped-at
-      (point-fits l.start l.end (some-cycle l i.drawing) (l.done + 1) (omega (arith, i.drawing.own, i.drawing.due)) s e)
+  pub stepped_fits : FitsPoint l.start → FitsPoint l.end → FitsPoint (shifted_of at (stepped_of l).pulses)
+  unfolding stepped_of
+  stepped_fits s e =
+      rw stepped_at
+      (point_fits l.start l.end (some_cycle l i.drawing) (l.done + 1) (omega (arith, i.drawing.own, i.drawing.due)) s e)
 
-pub line-test : {l : Line} {at : Point} → LineAt l at → line_at l at ≡ true
+pub line_test : {l : Line} {at : Point} → LineAt l at → line_at l at ≡ true
 unfolding line_at
-line-test {l} i = joined (drawn-test i.drawing) (rw i.reached (equal-itself (linePoint l.start l.end l.done)))
+line_test {l} i = joined (drawn_test i.drawing) (rw i.reached (equal_itself (line_point l.start l.end l.done)))

@@ -6,11 +6,11 @@ use Rattle.look.specs.laws.Ahead.{unsound}
 use Rattle.look.proofs.look_ahead.Statement.{statement}
 use Rattle.look.proofs.look_ahead.Tie as tie
 
-is-sound-requires : tie.Need-is-sound-requires
-is-sound-requires c κs = search rules
+is_sound_requires : tie.Need-is-sound-requires
+is_sound_requires c κs = search rules
 
-refused-requires : tie.Need-refused-requires
-refused-requires c κs = search rules
+refused_requires : tie.Need-refused-requires
+refused_requires c κs = search rules
 
 returns : tie.Need-returns
 returns c =
@@ -18,11 +18,11 @@ returns c =
     let s = e.before.before.args in
     c.refused.ensures ∙ sym (unsound s.m s.ticks (sym e.before.is-sound.ensures ∙ not-true _ e.if1.true))
 
-look-sound-requires : tie.Need-look-sound-requires
-look-sound-requires c κs = sym c.before.is-sound.ensures ∙ not-false _ c.if1.false
+look_sound_requires : tie.Need-look-sound-requires
+look_sound_requires c κs = sym c.before.is-sound.ensures ∙ not-false _ c.if1.false
 
-returns-2 : tie.Need-returns-2
-returns-2 c = c.look-sound.ensures
+returns_2 : tie.Need-returns-2
+returns_2 c = c.look-sound.ensures
 
-pub look-ahead-spec : {M : Type 1} → statement M
-look-ahead-spec = tie.close (tie.spec is-sound-requires refused-requires returns look-sound-requires returns-2)
+pub look_ahead_spec : {M : Type 1} → statement M
+look_ahead_spec = tie.close (tie.spec is_sound_requires refused_requires returns look_sound_requires returns_2)

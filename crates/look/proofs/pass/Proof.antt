@@ -2,13 +2,13 @@
 use borrow.Author.Rules.{rules}
 use mathlib.Core.Path.{◌≡◌, refl}
 use Prim.Native.Nat.{◌+◌}
-use Rattle.work.specs.Work.{cyclesLeft}
-use Rattle.bench.specs.laws.Sound.{sound as bench-parts}
-use Rattle.finish.specs.laws.Record.{AtWork, at-work, works}
+use Rattle.work.specs.Work.{cycles_left}
+use Rattle.bench.specs.laws.Sound.{sound as bench_parts}
+use Rattle.finish.specs.laws.Record.{AtWork, at_work, works}
 use Rattle.machine.specs.laws.Right.{sound}
 use Rattle.machine.specs.laws.Onward.{Onward}
 use Rattle.machine.specs.laws.Next.{coming, left_less}
-use Rattle.look.specs.laws.Pass.{skip-onward, skip-less, passes}
+use Rattle.look.specs.laws.Pass.{skip_onward, skip_less, passes}
 use Rattle.look.proofs.pass.Statement.{statement}
 use Rattle.look.proofs.pass.Tie as tie
 
@@ -23,34 +23,34 @@ onward : (c : tie.After-moved) → Onward (start c).args.m.bench c.moved.result
 onward c =
     let skip = c.before.before in
     let s = start c in
-    skip-onward s.args.m s.args.ticks skip.before.capacity.ensures skip.skip-work.ensures c.moved.ensures (working s)
+    skip_onward s.args.m s.args.ticks skip.before.capacity.ensures skip.skip-work.ensures c.moved.ensures (working s)
 
-capacity-requires : tie.Need-capacity-requires
-capacity-requires c κs = (bench-parts (working c.before.before.before.before).sound).settings
+capacity_requires : tie.Need-capacity-requires
+capacity_requires c κs = (bench_parts (working c.before.before.before.before).sound).settings
 
-skip-work-requires : tie.Need-skip-work-requires
-skip-work-requires c κs = rw c.capacity.ensures (at-work (working c.before.before.before.before.before))
+skip_work_requires : tie.Need-skip-work-requires
+skip_work_requires c κs = rw c.capacity.ensures (at_work (working c.before.before.before.before.before))
 
-moved-requires : tie.Need-moved-requires
-moved-requires c κs = search rules
+moved_requires : tie.Need-moved-requires
+moved_requires c κs = search rules
 
 -- and how many cycles less are left
 less : (c : tie.After-moved) → (let k = (start c).args.m.bench in
     let k' = c.moved.result in
-    cyclesLeft k.at k.work ≡ cyclesLeft k'.at k'.work + c.before.before.skip-work.result.cycles)
+    cycles_left k.at k.work ≡ cycles_left k'.at k'.work + c.before.before.skip-work.result.cycles)
 less c =
     let skip = c.before.before in
     let s = start c in
-    skip-less s.args.m s.args.ticks skip.before.capacity.ensures skip.skip-work.ensures c.moved.ensures (working s)
+    skip_less s.args.m s.args.ticks skip.before.capacity.ensures skip.skip-work.ensures c.moved.ensures (working s)
 
-sub-left : tie.Need-overflow-sub-left
-sub-left c =
+sub_left : tie.Need-overflow-sub-left
+sub_left c =
     let moved = c.before.before in
     let s = start moved in
     (left_less (sound s.args.m s.pre.0).right (onward moved) (less moved)).0
 
-next-requires : tie.Need-next-requires
-next-requires c κs =
+next_requires : tie.Need-next-requires
+next_requires c κs =
     let moved = c.before.before in
     let s = start moved in
     let i = sound s.args.m s.pre.0 in
@@ -66,4 +66,4 @@ returns c =
 
 pub pass_spec : {M : Type 1} → statement M
 pass_spec =
-    tie.close (tie.spec capacity-requires skip-work-requires moved-requires sub-left next-requires returns)
+    tie.close (tie.spec capacity_requires skip_work_requires moved_requires sub_left next_requires returns)

@@ -7,33 +7,33 @@ use native.Mathlib.Omega.{arith}
 use Rattle.std.proofs.Math.Dec.{ltb}
 use Rattle.plane.specs.declared.point.Point.{Point}
 use Rattle.plane.specs.declared.travel.Travel.{Travel}
-use Rattle.plane.specs.Travel.{insideOf}
+use Rattle.plane.specs.Travel.{inside_of}
 use Rattle.block.specs.declared.Block.{Block}
-use Rattle.block.specs.Block.{blockCycles}
-use Rattle.block.specs.Questions.{loadNo}
-use Rattle.block.specs.Chain.{chainEnd, chainCycles, rootOf}
+use Rattle.block.specs.Block.{block_cycles}
+use Rattle.block.specs.Questions.{load_no}
+use Rattle.block.specs.Chain.{chain_end, chain_cycles, root_of}
 use Rattle.block.specs.computed.Chain.{Accepted}
 use Rattle.whole.specs.laws.Ask.{answered}
-use Rattle.block.specs.laws.Chain.{cycles-more, chain-end-inside, chain-cycles-most}
-use Rattle.block.specs.laws.Accepted.{cycles-range}
-use Rattle.queue.specs.Queue.{waiting, pushedOf, waitingAt}
-use Rattle.queue.specs.laws.Waiting.{push-waiting, none-waits, waiting-length}
+use Rattle.block.specs.laws.Chain.{cycles_more, chain_end_inside, chain_cycles_most}
+use Rattle.block.specs.laws.Accepted.{cycles_range}
+use Rattle.queue.specs.Queue.{waiting, pushed_of, waiting_at}
+use Rattle.queue.specs.laws.Waiting.{push_waiting, none_waits, waiting_length}
 use Rattle.work.specs.declared.Work.{Work}
-use Rattle.work.specs.Work.{isNothing, cyclesLeft, end_of, begunOf}
-use Rattle.work.specs.Work.{rootIn}
-use Rattle.work.specs.laws.Left.{nothing_is, begun-left, begun-root}
-use Rattle.settings.specs.Settings.{capacityOf}
+use Rattle.work.specs.Work.{is_nothing, cycles_left, end_of, begun_of}
+use Rattle.work.specs.Work.{root_in}
+use Rattle.work.specs.laws.Left.{nothing_is, begun_left, begun_root}
+use Rattle.settings.specs.Settings.{capacity_of}
 use Rattle.bench.specs.declared.Answer.{Answer}
 use Rattle.bench.specs.declared.Bench.{Bench}
-use Rattle.bench.specs.Bench.{movedOf}
+use Rattle.bench.specs.Bench.{moved_of}
 use Rattle.machine.specs.declared.Machine.{Machine}
 use Rattle.machine.specs.declared.Answered.{Answered}
-use Rattle.machine.specs.Machine.{toDo, machine_of, start_of}
+use Rattle.machine.specs.Machine.{to_do, machine_of, start_of}
 use Rattle.machine.specs.Calls.{answers, beginning}
-use Rattle.machine.specs.computed.Calls.{loadWith}
+use Rattle.machine.specs.computed.Calls.{load_with}
 use Rattle.machine.specs.computed.Asked.{Taking}
 use Rattle.machine.specs.laws.Right.{Sound, sound, WaitingRight}
-use Rattle.machine.specs.laws.Onward.{wide, work-end-inside, work-left-most}
+use Rattle.machine.specs.laws.Onward.{wide, work_end_inside, work_left_most}
 
 -- ---- any sound record
 
@@ -42,7 +42,7 @@ module _ (m : Machine) (i : Sound m) where
   k = m.bench
 
   abbrev q0 : ℕ
-  q0 = capacityOf k.settings
+  q0 = capacity_of k.settings
 
   abbrev t : Travel
   t = k.settings.travel
@@ -51,21 +51,21 @@ module _ (m : Machine) (i : Sound m) where
   right = i.right
 
   -- where the next block starts is in travel
-  pub start-inside : insideOf t (start_of k m.queue) ≡ true
-  start-inside = chain-end-inside q0 t (end_of k.at k.work) (waiting m.queue) (work-end-inside k i.bench)
+  pub start_inside : inside_of t (start_of k m.queue) ≡ true
+  start_inside = chain_end_inside q0 t (end_of k.at k.work) (waiting m.queue) (work_end_inside k i.bench)
       right.queue.accepted
 
   -- 17 blocks of 8,000,000 cycles at most
-  pub left-bound : m.left ≤ 136000000
-  unfolding toDo
-  left-bound =
+  pub left_bound : m.left ≤ 136000000
+  unfolding to_do
+  left_bound =
       omega (
         arith,
         right.left_is,
-        work-left-most k i.bench,
-        chain-cycles-most q0 t (end_of k.at k.work) (waiting m.queue) (wide k i.bench) (work-end-inside k i.bench)
+        work_left_most k i.bench,
+        chain_cycles_most q0 t (end_of k.at k.work) (waiting m.queue) (wide k i.bench) (work_end_inside k i.bench)
             right.queue.accepted,
-        waiting-length m.queue (omega (arith, right.queue.sixteen, right.queue.most)),
+        waiting_length m.queue (omega (arith, right.queue.sixteen, right.queue.most)),
         right.queue.most,
       )
 
@@ -79,90 +79,90 @@ module _ {m : Machine} {start : Point} {b : Block} (g : Taking m start b) where
   i' = sound m g.sound
 
   room : ltb m.queue.len 16 ≡ true
-  unfolding loadNo
+  unfolding load_no
   room = (answered {yes = ltb m.queue.len 16} 9 g.asked).0
 
-  pub room-left : m.queue.len < 16
-  room-left = ltb-true _ 16 room
+  pub room_left : m.queue.len < 16
+  room_left = ltb-true _ 16 room
 
-  pub taken-accepted : Accepted start b
-  taken-accepted =
+  pub taken_accepted : Accepted start b
+  taken_accepted =
       record {
-        capacity = capacityOf mk.settings;
+        capacity = capacity_of mk.settings;
         travel = mk.settings.travel;
         wide = wide mk i'.bench;
-        start-in = subst (λ (p : Point). insideOf mk.settings.travel p ≡ true) (sym g.start_is) (start-inside m i');
+        start_in = subst (λ (p : Point). inside_of mk.settings.travel p ≡ true) (sym g.start_is) (start_inside m i');
         none = rw room at g.asked;
       }
 
   -- the sum fits a word
-  pub taken-fits : {c : ℕ} → c ≡ blockCycles start b → m.left + c < 2 ^ 64
-  taken-fits e = omega (arith, e, left-bound m i', (cycles-range taken-accepted).1)
+  pub taken_fits : {c : ℕ} → c ≡ block_cycles start b → m.left + c < 2 ^ 64
+  taken_fits e = omega (arith, e, left_bound m i', (cycles_range taken_accepted).1)
 
-  module _ {w : Work} {bits root c : ℕ} (begun-is : w ≡ (begunOf start b).work) (bits_is : bits ≡ (begunOf start b).width)
-      (root_is : root ≡ rootIn w) (c-is : c ≡ cyclesLeft start w) where
-    root-own : root ≡ rootOf start b
-    root-own = root_is ∙ ap rootIn begun-is ∙ begun-root start b
+  module _ {w : Work} {bits root c : ℕ} (begun_is : w ≡ (begun_of start b).work) (bits_is : bits ≡ (begun_of start b).width)
+      (root_is : root ≡ root_in w) (c_is : c ≡ cycles_left start w) where
+    root_own : root ≡ root_of start b
+    root_own = root_is ∙ ap root_in begun_is ∙ begun_root start b
 
-    pub c-own : c ≡ blockCycles start b
-    c-own = c-is ∙ ap (cyclesLeft start) begun-is ∙ begun-left start b
+    pub c_own : c ≡ block_cycles start b
+    c_own = c_is ∙ ap (cycles_left start) begun_is ∙ begun_left start b
 
-    abbrev answered-with : Machine → Answered
-    answered-with n = answers (Answer.Width (begunOf (start_of mk m.queue) b).width) n
+    abbrev answered_with : Machine → Answered
+    answered_with n = answers (Answer.Width (begun_of (start_of mk m.queue) b).width) n
 
-    at-start : begunOf start b ≡ begunOf (start_of mk m.queue) b
-    at-start = ap (λ (p : Point). begunOf p b) g.start_is
+    at_start : begun_of start b ≡ begun_of (start_of mk m.queue) b
+    at_start = ap (λ (p : Point). begun_of p b) g.start_is
 
     -- nothing is in work: then none waits, and the block starts at the point
-    module _ (idle : isNothing mk.work ≡ true) where
+    module _ (idle : is_nothing mk.work ≡ true) where
       none : m.queue.len ≡ 0
       none = i'.right.none idle
 
-      at-point : start ≡ mk.at
-      unfolding chainEnd
-      at-point =
+      at_point : start ≡ mk.at
+      unfolding chain_end
+      at_point =
           g.start_is
-          ∙ ap (λ (l : List Block). chainEnd (end_of mk.at mk.work) l) (none-waits m.queue none)
+          ∙ ap (λ (l : List Block). chain_end (end_of mk.at mk.work) l) (none_waits m.queue none)
           ∙ ap (end_of mk.at) (nothing_is mk.work idle)
 
       nothing_left : m.left ≡ 0
-      unfolding toDo chainCycles
+      unfolding to_do chain_cycles
       nothing_left =
           i'.right.left_is
-          ∙ ap (λ (l : List Block). cyclesLeft mk.at mk.work + chainCycles (end_of mk.at mk.work) l) (none-waits m.queue none)
-          ∙ ap (λ (v : Work). cyclesLeft mk.at v + 0) (nothing_is mk.work idle)
+          ∙ ap (λ (l : List Block). cycles_left mk.at mk.work + chain_cycles (end_of mk.at mk.work) l) (none_waits m.queue none)
+          ∙ ap (λ (v : Work). cycles_left mk.at v + 0) (nothing_is mk.work idle)
 
-      left-now : m.left + c ≡ toDo mk.at w (waiting m.queue)
-      unfolding toDo chainCycles
-      left-now =
+      left_now : m.left + c ≡ to_do mk.at w (waiting m.queue)
+      unfolding to_do chain_cycles
+      left_now =
           ap (λ (n : ℕ). n + c) nothing_left
-          ∙ by c (cyclesLeft start w) c-is
-          ∙ ap (λ (p : Point). cyclesLeft p w + 0) at-point
-          ∙ sym (ap (λ (l : List Block). cyclesLeft mk.at w + chainCycles (end_of mk.at w) l) (none-waits m.queue none))
+          ∙ by c (cycles_left start w) c_is
+          ∙ ap (λ (p : Point). cycles_left p w + 0) at_point
+          ∙ sym (ap (λ (l : List Block). cycles_left mk.at w + chain_cycles (end_of mk.at w) l) (none_waits m.queue none))
         where
           by : (x y : ℕ) → x ≡ y → 0 + x ≡ y + 0
           by x y e = omega arith
 
-      pub into-work :
+      pub into_work :
           ◌≡◌ {A = Answered}
           (answers (Answer.Width bits) (record { bench = beginning mk w; root = root; left = m.left + c; queue = m.queue }))
-          (loadWith m b 0)
-      unfolding machine_of movedOf
-      into-work = rw (idle, bits_is, ← at-start, root_is, left-now, ← begun-is) refl
+          (load_with m b 0)
+      unfolding machine_of moved_of
+      into_work = rw (idle, bits_is, ← at_start, root_is, left_now, ← begun_is) refl
 
     -- a block is in work: this one waits
-    module _ (busy : isNothing mk.work ≡ false) where
-      left-then : m.left + c ≡ toDo mk.at mk.work (waiting (pushedOf m.queue (waitingAt start b)))
-      unfolding toDo
-      left-then =
+    module _ (busy : is_nothing mk.work ≡ false) where
+      left_then_lem : m.left + c ≡ to_do mk.at mk.work (waiting (pushed_of m.queue (waiting_at start b)))
+      unfolding to_do
+      left_then_lem =
           omega (
             arith,
             i'.right.left_is,
-            c-own,
-            ap (chainCycles (end_of mk.at mk.work))
-                (push-waiting m.queue (waitingAt start b) (omega (arith, room-left, i'.right.queue.sixteen))),
-            cycles-more (end_of mk.at mk.work) (waiting m.queue) b,
-            ap (λ (p : Point). blockCycles p b) g.start_is,
+            c_own,
+            ap (chain_cycles (end_of mk.at mk.work))
+                (push_waiting m.queue (waiting_at start b) (omega (arith, room_left, i'.right.queue.sixteen))),
+            cycles_more (end_of mk.at mk.work) (waiting m.queue) b,
+            ap (λ (p : Point). block_cycles p b) g.start_is,
           )
 
       pub waits :
@@ -171,9 +171,9 @@ module _ {m : Machine} {start : Point} {b : Block} (g : Taking m start b) where
             bench = mk;
             root = m.root;
             left = m.left + c;
-            queue = pushedOf m.queue
+            queue = pushed_of m.queue
                 (record { block = b; root = root });
           }))
-          (loadWith m b 0)
+          (load_with m b 0)
       unfolding machine_of
-      waits = rw (busy, bits_is, ← at-start, ← g.start_is, root-own, left-then, i'.right.root_is) refl
+      waits = rw (busy, bits_is, ← at_start, ← g.start_is, root_own, left_then_lem, i'.right.root_is) refl

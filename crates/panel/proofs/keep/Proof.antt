@@ -5,24 +5,24 @@ use Rattle.panel.proofs.keep.Tie as tie
 use mathlib.Core.Path.{sym}
 use native.Mathlib.Omega.{arith}
 use lib.Seq.{length-take-le}
-use Rattle.panel.specs.laws.Line.{kept, kept-fits}
+use Rattle.panel.specs.laws.Line.{kept, kept_fits}
 
-least-requires : tie.Need-least-requires
-least-requires c κs = search rules
+least_requires : tie.Need-least-requires
+least_requires c κs = search rules
 
-sub-least : tie.Need-overflow-sub-least
-sub-least c = search rules
+sub_least : tie.Need-overflow-sub-least
+sub_least c = search rules
 
-least-requires-2 : tie.Need-least-requires-2
-least-requires-2 c κs = search rules
+least_requires_2 : tie.Need-least-requires-2
+least_requires_2 c κs = search rules
 
-slice-aggregate-text : tie.Need-slice-aggregate-text
-slice-aggregate-text c = sym (length-take-le _ _ (omega (arith, c.before.before.least2.ensures)))
+slice_aggregate_text : tie.Need-slice-aggregate-text
+slice_aggregate_text c = sym (length-take-le _ _ (omega (arith, c.before.before.least2.ensures)))
 
-text-requires : tie.Need-text-requires
-text-requires c κs =
+text_requires : tie.Need-text-requires
+text_requires c κs =
     let s = c.before.before.before.before.before.before in
-    kept-fits s.args.held s.args.scratch.now s.args.bytes.now s.requires c.before.before.before.least.ensures
+    kept_fits s.args.held s.args.scratch.now s.args.bytes.now s.requires c.before.before.before.least.ensures
     c.before.before.least2.ensures
 
 same_length : tie.Need-same-length
@@ -39,10 +39,10 @@ pub keep_spec : {M : Type 1} → statement M
 keep_spec =
     tie.close
     (tie.spec
-    least-requires
-    sub-least
-    least-requires-2
-    slice-aggregate-text
-    text-requires
+    least_requires
+    sub_least
+    least_requires_2
+    slice_aggregate_text
+    text_requires
     same_length
     returns)

@@ -6,74 +6,74 @@ use Rattle.std.proofs.Common.{◌∙◌, arith, leb-true, leb-false, le-leb}
 use mathlib.Core.List.{List, [], ◌++◌}
 use Rattle.std.proofs.Math.ListN.{length}
 use Rattle.std.proofs.lemmas.Bool.{lt-leb}
-use Rattle.row.specs.Lines.{headerLine}
-use Rattle.words.specs.computed.Scan.{firstLine}
+use Rattle.row.specs.Lines.{header_line}
+use Rattle.words.specs.computed.Scan.{first_line}
 use Rattle.settings.specs.declared.Settings.{Settings}
-use Rattle.settings.specs.Settings.{feedUnit, capacityOf}
-use Rattle.settings.specs.computed.Settings.{settingsNo}
+use Rattle.settings.specs.Settings.{feed_unit, capacity_of}
+use Rattle.settings.specs.computed.Settings.{settings_no}
 use Rattle.bench.specs.Bench.{fresh_of}
-use Rattle.reader.specs.computed.Reader.{longestText}
-use Rattle.tally.specs.computed.Tally.{tallyFrom as tallyStart}
+use Rattle.reader.specs.computed.Reader.{longest_text}
+use Rattle.tally.specs.computed.Tally.{tally_from as tally_start}
 use Rattle.job.specs.Job.{Made, End}
-use Rattle.job.specs.Listing.{rows, lastLine}
-use Rattle.job.specs.computed.Job.{jobOfLines}
-use Rattle.job.specs.computed.Listing.{listingAt, listingOf}
-use Rattle.job.specs.computed.Check.{checkFrom, rowsThen}
-use Rattle.job.specs.computed.Check.{rest_of as checkRest}
-use Rattle.job.specs.laws.Rows.{lastAfter, lists}
-use Rattle.job.specs.laws.Listing.{fresh-rests, fresh-low, fresh-counts, listing-is}
-use Rattle.panel.specs.Whole.{wholeLines}
-use Rattle.panel.specs.computed.Listing.{thirtyAfter, longJob, panelJob, panelListing}
-use Rattle.panel.specs.computed.Piece.{start_of, tooLong}
-use Rattle.panel.specs.computed.Rest.{rowsOn, rest_of, Lists}
-use Rattle.panel.specs.laws.Rows.{front, on-short, on-longer}
-use Rattle.panel.specs.laws.Whole.{whole-few}
+use Rattle.job.specs.Listing.{rows, last_line}
+use Rattle.job.specs.computed.Job.{job_of_lines}
+use Rattle.job.specs.computed.Listing.{listing_at, listing_of}
+use Rattle.job.specs.computed.Check.{check_from, rows_then}
+use Rattle.job.specs.computed.Check.{rest_of as check_rest}
+use Rattle.job.specs.laws.Rows.{last_after, lists}
+use Rattle.job.specs.laws.Listing.{fresh_rests, fresh_low, fresh_counts, listing_is}
+use Rattle.panel.specs.Whole.{whole_lines}
+use Rattle.panel.specs.computed.Listing.{thirty_after, long_job, panel_job, panel_listing}
+use Rattle.panel.specs.computed.Piece.{start_of, too_long}
+use Rattle.panel.specs.computed.Rest.{rows_on, rest_of, Lists}
+use Rattle.panel.specs.laws.Rows.{front, on_short, on_longer}
+use Rattle.panel.specs.laws.Whole.{whole_few}
 
 -- "For a text of at most 65,536 bytes the listing equals the old one in every byte."
-pub panel-short : (s : Settings) (text : List ℕ) → length text ≤ longestText → panelListing s text ≡ listingOf s text
-unfolding panelListing panelJob listingAt
-panel-short s text h = rw (le-leb (length text) longestText h)
+pub panel_short : (s : Settings) (text : List ℕ) → length text ≤ longest_text → panel_listing s text ≡ listing_of s text
+unfolding panel_listing panel_job listing_at
+panel_short s text h = rw (le-leb (length text) longest_text h)
 
-last-is : (q0 lines : ℕ) (ms : List Made) (end : End) → lines ≤ longestText
-    → lastAfter tooLong lines 0 0 0 q0 0 ms end ≡ lastLine q0 ms (thirtyAfter lines end)
-last-is q0 lines ms End.complete h = rw (le-leb lines longestText h)
-last-is q0 lines ms (End.refused n number) h = refl
+last_is : (q0 lines : ℕ) (ms : List Made) (end : End) → lines ≤ longest_text
+    → last_after too_long lines 0 0 0 q0 0 ms end ≡ last_line q0 ms (thirty_after lines end)
+last_is q0 lines ms End.complete h = rw (le-leb lines longest_text h)
+last_is q0 lines ms (End.refused n number) h = refl
 
-none : firstLine [] ≡ []
-unfolding firstLine
+none : first_line [] ≡ []
+unfolding first_line
 none = refl
 
-module _ (s : Settings) (passed : settingsNo s ≡ 0) (text : List ℕ) where
-  short-is : length text ≤ longestText → headerLine ++ rowsOn (tallyStart (fresh_of s)) longestText [] text ≡ panelListing s text
-  unfolding front checkRest checkFrom
-  short-is h =
-      rw (on-short text (tallyStart (fresh_of s)) longestText [] none h, panel-short s text h)
-      (rw (le-leb (length text) longestText h) at (listing-is s passed text))
+module _ (s : Settings) (passed : settings_no s ≡ 0) (text : List ℕ) where
+  short_is : length text ≤ longest_text → header_line ++ rows_on (tally_start (fresh_of s)) longest_text [] text ≡ panel_listing s text
+  unfolding front check_rest check_from
+  short_is h =
+      rw (on_short text (tally_start (fresh_of s)) longest_text [] none h, panel_short s text h)
+      (rw (le-leb (length text) longest_text h) at (listing_is s passed text))
 
-  long-rows : (let j = jobOfLines feedUnit s (wholeLines text) in
-      rowsThen tooLong (tallyStart (fresh_of s)) (wholeLines text)
-      ≡ rows 1 j.blocks ++ lastLine (capacityOf s) j.blocks (thirtyAfter (length (wholeLines text)) j.end))
-  unfolding tallyStart fresh_of
-  long-rows =
-      let j = jobOfLines feedUnit s (wholeLines text) in
-      let n = length (wholeLines text) in
-      lists tooLong n (wholeLines text) (tallyStart (fresh_of s)) (fresh-rests s passed) (fresh-low s passed)
-      (fresh-counts (fresh_of s)) (omega arith)
-      (whole-few text)
-      ∙ ap (λ (last : List ℕ). rows 1 j.blocks ++ last) (last-is (capacityOf s) n j.blocks j.end (whole-few text))
+  long_rows : (let j = job_of_lines feed_unit s (whole_lines text) in
+      rows_then too_long (tally_start (fresh_of s)) (whole_lines text)
+      ≡ rows 1 j.blocks ++ last_line (capacity_of s) j.blocks (thirty_after (length (whole_lines text)) j.end))
+  unfolding tally_start fresh_of
+  long_rows =
+      let j = job_of_lines feed_unit s (whole_lines text) in
+      let n = length (whole_lines text) in
+      lists too_long n (whole_lines text) (tally_start (fresh_of s)) (fresh_rests s passed) (fresh_low s passed)
+      (fresh_counts (fresh_of s)) (omega arith)
+      (whole_few text)
+      ∙ ap (λ (last : List ℕ). rows 1 j.blocks ++ last) (last_is (capacity_of s) n j.blocks j.end (whole_few text))
 
-  long-is : longestText < length text → headerLine ++ rowsOn (tallyStart (fresh_of s)) longestText [] text ≡ panelListing s text
-  unfolding front panelListing panelJob longJob wholeLines
-  long-is h =
-      rw (lt-leb (length text) longestText h)
-      (ap (λ (rest : List ℕ). headerLine ++ rest) (on-longer text (tallyStart (fresh_of s)) longestText [] none h ∙ long-rows))
+  long_is : longest_text < length text → header_line ++ rows_on (tally_start (fresh_of s)) longest_text [] text ≡ panel_listing s text
+  unfolding front panel_listing panel_job long_job whole_lines
+  long_is h =
+      rw (lt-leb (length text) longest_text h)
+      (ap (λ (rest : List ℕ). header_line ++ rest) (on_longer text (tally_start (fresh_of s)) longest_text [] none h ∙ long_rows))
 
 -- from a machine made fresh
-pub panel-is : (s : Settings) → settingsNo s ≡ 0 → Lists s (start_of (fresh_of s))
+pub panel_is : (s : Settings) → settings_no s ≡ 0 → Lists s (start_of (fresh_of s))
 unfolding rest_of start_of
-panel-is s passed scratch text = by (leb (length text) longestText) refl
+panel_is s passed scratch text = by (leb (length text) longest_text) refl
   where
-    by : (short : Bool) → leb (length text) longestText ≡ short
-        → headerLine ++ rowsOn (tallyStart (fresh_of s)) longestText [] text ≡ panelListing s text
-    by true e = short-is s passed text (leb-true (length text) longestText e)
-    by false e = long-is s passed text (leb-false (length text) longestText e)
+    by : (short : Bool) → leb (length text) longest_text ≡ short
+        → header_line ++ rows_on (tally_start (fresh_of s)) longest_text [] text ≡ panel_listing s text
+    by true e = short_is s passed text (leb-true (length text) longest_text e)
+    by false e = long_is s passed text (leb-false (length text) longest_text e)

@@ -2,9 +2,9 @@
 use Rattle.std.specs.Prelude.{◌≡◌, refl, Bool, true, false, List, [], ◌∷◌, ◌++◌, ℕ, zero, suc, ◌≤◌, eqb, length, take}
 use Rattle.std.proofs.Common.{ap, arith, length-take, eqb-true}
 use Rattle.std.proofs.Math.Seq.{take-nil}
-use Rattle.reader.specs.computed.Reader.{longestText}
-use Rattle.job.specs.Text.{inFront, lineOr, lines_of}
-use Rattle.panel.specs.Whole.{countOne, lfsIn, wholeLines}
+use Rattle.reader.specs.computed.Reader.{longest_text}
+use Rattle.job.specs.Text.{in_front, line_or, lines_of}
+use Rattle.panel.specs.Whole.{count_one, lfs_in, whole_lines}
 
 unfoldable pub ended : List (List ℕ) → List ℕ
 ended [] = []
@@ -14,42 +14,42 @@ ended (l ∷ ls) = l ++ (10 ∷ ended ls)
 pub record Parts (whole : List (List ℕ)) (bytes : List ℕ) : Type 0 where
   pub tail : List ℕ
   pub cut : bytes ≡ ended whole ++ tail
-  pub none : lfsIn tail ≡ 0
+  pub none : lfs_in tail ≡ 0
 
-in-front : (b : ℕ) → eqb b 10 ≡ false → (s : List ℕ) (k : ℕ) → lfsIn s ≡ k → (ls : List (List ℕ)) → Parts (take k ls) s
-    → Parts (take k (inFront b ls)) (b ∷ s)
-unfolding ended lfsIn
-in-front b e s zero q ls r = record { tail = b ∷ r.tail; cut = ap (λ (x : List ℕ). b ∷ x) r.cut; none = rw e r.none }
-in-front b e s (suc k) q [] r = absurd (omega (arith, q, ap lfsIn r.cut, r.none))
-in-front b e s (suc k) q (l ∷ ls) r = record { tail = r.tail; cut = ap (λ (x : List ℕ). b ∷ x) r.cut; none = r.none }
+in_front_lem : (b : ℕ) → eqb b 10 ≡ false → (s : List ℕ) (k : ℕ) → lfs_in s ≡ k → (ls : List (List ℕ)) → Parts (take k ls) s
+    → Parts (take k (in_front b ls)) (b ∷ s)
+unfolding ended lfs_in
+in_front_lem b e s zero q ls r = record { tail = b ∷ r.tail; cut = ap (λ (x : List ℕ). b ∷ x) r.cut; none = rw e r.none }
+in_front_lem b e s (suc k) q [] r = absurd (omega (arith, q, ap lfs_in r.cut, r.none))
+in_front_lem b e s (suc k) q (l ∷ ls) r = record { tail = r.tail; cut = ap (λ (x : List ℕ). b ∷ x) r.cut; none = r.none }
 
-parts : (text : List ℕ) (n : ℕ) → Parts (take (lfsIn (take n text)) (lines_of text)) (take n text)
-unfolding ended lfsIn lines_of
+parts : (text : List ℕ) (n : ℕ) → Parts (take (lfs_in (take n text)) (lines_of text)) (take n text)
+unfolding ended lfs_in lines_of
 parts [] n = rw take-nil (record { tail = []; cut = take-nil n; none = refl })
 parts (b ∷ s) zero = record { tail = []; cut = refl; none = refl }
 parts (b ∷ s) (suc n) = by (eqb b 10) refl (parts s n)
   where
-    by : (lf : Bool) → eqb b 10 ≡ lf → Parts (take (lfsIn (take n s)) (lines_of s)) (take n s)
-        → Parts (take (countOne lf (lfsIn (take n s))) (lineOr lf b (lines_of s))) (b ∷ take n s)
+    by : (lf : Bool) → eqb b 10 ≡ lf → Parts (take (lfs_in (take n s)) (lines_of s)) (take n s)
+        → Parts (take (count_one lf (lfs_in (take n s))) (line_or lf b (lines_of s))) (b ∷ take n s)
     by true e r = rw (eqb-true b 10 e) (record { tail = r.tail; cut = ap (λ (x : List ℕ). 10 ∷ x) r.cut; none = r.none })
-    by false e r = in-front b e (take n s) (lfsIn (take n s)) refl (lines_of s) r
+    by false e r = in_front_lem b e (take n s) (lfs_in (take n s)) refl (lines_of s) r
 
-pub whole-lines : (text : List ℕ) → Parts (wholeLines text) (take 65536 text)
-unfolding wholeLines
-whole-lines text = parts text 65536
+pub whole_lines_lem : (text : List ℕ) → Parts (whole_lines text) (take 65536 text)
+unfolding whole_lines
+whole_lines_lem text = parts text 65536
 
 -- ---- no more of them than bytes
 
-lfs-few : (s : List ℕ) → lfsIn s ≤ length s
-unfolding lfsIn
-lfs-few [] = omega arith
-lfs-few (b ∷ s) = by (eqb b 10) (lfs-few s)
+lfs_few : (s : List ℕ) → lfs_in s ≤ length s
+unfolding lfs_in
+lfs_few [] = omega arith
+lfs_few (b ∷ s) = by (eqb b 10) (lfs_few s)
   where
-    by : (lf : Bool) → lfsIn s ≤ length s → countOne lf (lfsIn s) ≤ suc (length s)
+    by : (lf : Bool) → lfs_in s ≤ length s → count_one lf (lfs_in s) ≤ suc (length s)
     by true h = omega arith
     by false h = omega arith
 
-pub whole-few : (text : List ℕ) → length (wholeLines text) ≤ longestText
-unfolding wholeLines
-whole-few text =
-    omega (arith, length-take (lfsIn (take 65536 text)) (lines_of text), lfs-few (take 65536 text), length-take 65536 text)
+pub whole_few : (text : List ℕ) → length (whole_lines text) ≤ longest_text
+unfolding whole_lines
+whole_few text =
+    omega (arith, length-take (lfs_in (take 65536 text)) (lines_of text), lfs_few (take 65536 text), length-take 65536 text)

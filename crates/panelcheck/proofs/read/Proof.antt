@@ -4,30 +4,30 @@ use Rattle.panelcheck.proofs.read.Statement.{statement}
 use Rattle.panelcheck.proofs.read.Tie as tie
 use native.Mathlib.Omega.{arith}
 use lib.ListN.{length-take, length-drop}
-use Rattle.panelcheck.specs.laws.Read.{reads-behind}
+use Rattle.panelcheck.specs.laws.Read.{reads_behind}
 
 sub_read : tie.Need-overflow-sub-read
 sub_read c = search rules
 
-part-read-start : tie.Need-slice-bounds-read-start
-part-read-start c = search rules
+part_read_start : tie.Need-slice-bounds-read-start
+part_read_start c = search rules
 
-part-read-end : tie.Need-slice-bounds-read-end
-part-read-end c = search rules
+part_read_end : tie.Need-slice-bounds-read-end
+part_read_end c = search rules
 
-read-requires : tie.Need-read-requires
-read-requires c κs = search rules
+read_requires : tie.Need-read-requires
+read_requires c κs = search rules
 
 same_length : tie.Need-same-length
 same_length c = search rules
 
-same-length-2 : tie.Need-same-length-2
-same-length-2 c = search rules
+same_length_2 : tie.Need-same-length-2
+same_length_2 c = search rules
 
 returns : tie.Need-returns
 returns c =
     let s = c.before.before.before.before.before.before.before.before.before.before in
-    reads-behind s.args.check s.args.scratch.now s.args.piece.now s.args.last s.args.rows.now s.args.waiting
+    reads_behind s.args.check s.args.scratch.now s.args.piece.now s.args.last s.args.rows.now s.args.waiting
     s.requires _
     (simp (length-take, length-drop) (omega arith)) c.before.before.before.before.read.ensures
 
@@ -36,9 +36,9 @@ read_spec =
     tie.close
     (tie.spec
     sub_read
-    part-read-start
-    part-read-end
-    read-requires
+    part_read_start
+    part_read_end
+    read_requires
     same_length
-    same-length-2
+    same_length_2
     returns)

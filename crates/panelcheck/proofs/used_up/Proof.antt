@@ -6,8 +6,8 @@ use Rattle.panelcheck.proofs.used_up.Tie as tie
 returns : tie.Need-returns
 returns c = search rules
 
-returns-2 : tie.Need-returns-2
-returns-2 c = rw c.if1.false
+returns_2 : tie.Need-returns-2
+returns_2 c = rw c.if1.false
 
-pub used-up-spec : {M : Type 1} → statement M
-used-up-spec = tie.close (tie.spec returns returns-2)
+pub used_up_spec : {M : Type 1} → statement M
+used_up_spec = tie.close (tie.spec returns returns_2)

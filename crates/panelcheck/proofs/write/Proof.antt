@@ -7,35 +7,35 @@ use lib.ListN.{length}
 use lib.Seq.{length-take-le}
 use borrow.Author.Tests.{leb-true}
 use Prim.Native.Nat.{◌+◌}
-use Rattle.row.specs.computed.Buffer.{lineRoom}
+use Rattle.row.specs.computed.Buffer.{line_room}
 
-has-room-requires : tie.Need-has-room-requires
-has-room-requires c κs = search rules
+has_room_requires : tie.Need-has-room-requires
+has_room_requires c κs = search rules
 
 returns : tie.Need-returns
 returns c wide =
     let s = c.before.before.before.before.args in
-    leb-true (s.waiting + lineRoom) (length s.rows.now) (sym c.before.has_room.ensures ∙ c.if2.true)
+    leb-true (s.waiting + line_room) (length s.rows.now) (sym c.before.has_room.ensures ∙ c.if2.true)
 
-slice-aggregate-put : tie.Need-slice-aggregate-put
-slice-aggregate-put c = sym (length-take-le _ _ (search rules))
+slice_aggregate_put : tie.Need-slice-aggregate-put
+slice_aggregate_put c = sym (length-take-le _ _ (search rules))
 
-put-requires : tie.Need-put-requires
-put-requires c κs = search rules
+put_requires : tie.Need-put-requires
+put_requires c κs = search rules
 
-returns-2 : tie.Need-returns-2
-returns-2 c = search rules
+returns_2 : tie.Need-returns-2
+returns_2 c = search rules
 
-returns-3 : tie.Need-returns-3
-returns-3 c = search rules
+returns_3 : tie.Need-returns-3
+returns_3 c = search rules
 
 pub write_spec : {M : Type 1} → statement M
 write_spec =
     tie.close
     (tie.spec
-    has-room-requires
+    has_room_requires
     returns
-    slice-aggregate-put
-    put-requires
-    returns-2
-    returns-3)
+    slice_aggregate_put
+    put_requires
+    returns_2
+    returns_3)

@@ -1,7 +1,7 @@
 -- The way from one position to another, axis by axis.
-use Rattle.whole.specs.computed.Sign.{differenceOf}
+use Rattle.whole.specs.computed.Sign.{difference_of}
 use Rattle.plane.specs.declared.point.Point.{Point}
 use Rattle.plane.specs.declared.point.Increments.{Increments}
 
-abbrev pub incrementsOf : (from to : Point) → Increments
-incrementsOf from to = record { x = differenceOf from.x to.x; y = differenceOf from.y to.y }
+abbrev pub increments_of : (from to : Point) → Increments
+increments_of from to = record { x = difference_of from.x to.x; y = difference_of from.y to.y }

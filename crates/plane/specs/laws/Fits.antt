@@ -2,7 +2,7 @@
 use Rattle.std.specs.Prelude.{◌-◌, ◌^◌, pos, negsuc}
 use Rattle.std.specs.Int.{w64}
 use Rattle.std.proofs.Common.{SFits}
-use Rattle.whole.specs.laws.Order.{fits-between, between-fits}
+use Rattle.whole.specs.laws.Order.{fits_between, between_fits}
 use Rattle.plane.specs.declared.point.Point.{Point}
 use Rattle.plane.specs.declared.travel.Range.{Range}
 use Rattle.plane.specs.declared.travel.Travel.{Travel}
@@ -18,13 +18,13 @@ all = record { lower = negsuc (2 ^ 63 - 1); upper = pos (2 ^ 63 - 1) }
 pub everywhere : Travel
 everywhere = record { x = all; y = all }
 
-pub inside-everywhere : (p : Point) → FitsPoint p → Bounded everywhere p
+pub inside_everywhere : (p : Point) → FitsPoint p → Bounded everywhere p
 unfolding all everywhere
-inside-everywhere p f =
-    let x = between-fits p.x f.x in
-    let y = between-fits p.y f.y in
+inside_everywhere p f =
+    let x = between_fits p.x f.x in
+    let y = between_fits p.y f.y in
     record { x = record { above = x.0; below = x.1 }; y = record { above = y.0; below = y.1 } }
 
-pub fits-point : {p : Point} → Bounded everywhere p → FitsPoint p
+pub fits_point : {p : Point} → Bounded everywhere p → FitsPoint p
 unfolding all everywhere
-fits-point {p} i = record { x = fits-between p.x i.x.above i.x.below; y = fits-between p.y i.y.above i.y.below }
+fits_point {p} i = record { x = fits_between p.x i.x.above i.x.below; y = fits_between p.y i.y.above i.y.below }

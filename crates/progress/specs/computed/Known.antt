@@ -4,12 +4,12 @@ use Rattle.encoding.specs.Words.{at}
 use Rattle.encoding.specs.computed.Words.{same_words}
 use Rattle.progress.specs.declared.known.Known.{Known}
 use Rattle.progress.specs.declared.known.DecodedKnown.{DecodedKnown}
-use Rattle.progress.specs.Known.{encodeKnown, readerOf}
+use Rattle.progress.specs.Known.{encode_known, reader_of}
 
 abbrev pub known_in : List ℤ → Known
 known_in ws = record { motion = at ws 0; feed = at ws 1 }
 
 -- Words tell what is known if they are those of what they tell. So a G above 3 and an F that is neither -1 nor one of 0 to 10^10 - 1 tell
 -- nothing.
-unfoldable pub decodeKnown : List ℤ → DecodedKnown
-decodeKnown ws = let k = readerOf (known_in ws) in record { ok = same_words ws (encodeKnown k); reader = k }
+unfoldable pub decode_known : List ℤ → DecodedKnown
+decode_known ws = let k = reader_of (known_in ws) in record { ok = same_words ws (encode_known k); reader = k }

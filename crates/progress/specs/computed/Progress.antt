@@ -3,10 +3,10 @@ use Rattle.std.specs.Prelude.{List, ℤ}
 use Rattle.bench.specs.declared.Bench.{Bench}
 use Rattle.encoding.specs.computed.Words.{same_words}
 use Rattle.progress.specs.declared.progress.DecodedProgress.{DecodedProgress}
-use Rattle.progress.specs.Progress.{encodeProgress}
-use Rattle.progress.specs.Progress.{checkIn}
+use Rattle.progress.specs.Progress.{encode_progress}
+use Rattle.progress.specs.Progress.{check_in}
 
 -- Words are a check's progress if they are those of the check that they tell. So a stage above 2, a negative count, and a G or F that tells
 -- nothing make no progress.
-unfoldable pub decodeProgress : Bench → List ℤ → DecodedProgress
-decodeProgress m ws = record { ok = same_words ws (encodeProgress (checkIn m ws)); check = checkIn m ws }
+unfoldable pub decode_progress : Bench → List ℤ → DecodedProgress
+decode_progress m ws = record { ok = same_words ws (encode_progress (check_in m ws)); check = check_in m ws }

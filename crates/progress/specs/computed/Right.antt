@@ -1,8 +1,8 @@
 -- The tests by which the code knows the words: each has a value that encoding gives.
 use Rattle.std.specs.Prelude.{Bool, ◌&&◌, pos, negsuc}
 use Rattle.plane.specs.declared.travel.Range.{Range}
-use Rattle.plane.specs.Travel.{withinOf}
-use Rattle.encoding.specs.computed.Right.{isCount}
+use Rattle.plane.specs.Travel.{within_of}
+use Rattle.encoding.specs.computed.Right.{is_count}
 use Rattle.progress.specs.declared.known.Known.{Known}
 use Rattle.progress.specs.declared.long.LongWords.{LongWords}
 use Rattle.progress.specs.declared.progress.Progress.{Progress}
@@ -19,14 +19,14 @@ feeds = record { lower = negsuc 0; upper = pos 9999999999 }
 abbrev pub highs : Range
 highs = record { lower = pos 0; upper = pos 4294967295 }
 
-unfoldable pub knownRight : Known → Bool
-knownRight k = withinOf motions k.motion && withinOf feeds k.feed
+unfoldable pub known_right : Known → Bool
+known_right k = within_of motions k.motion && within_of feeds k.feed
 
-unfoldable pub longRight : LongWords → Bool
-longRight w = isCount w.low && withinOf highs w.high
+unfoldable pub long_right : LongWords → Bool
+long_right w = is_count w.low && within_of highs w.high
 
-unfoldable pub countWordsRight : Progress → Bool
-countWordsRight p = isCount p.at && (isCount p.lines && (isCount p.blocks && (isCount p.cycles && longRight p.ticks)))
+unfoldable pub count_words_right : Progress → Bool
+count_words_right p = is_count p.at && (is_count p.lines && (is_count p.blocks && (is_count p.cycles && long_right p.ticks)))
 
-unfoldable pub progressRight : Progress → Bool
-progressRight p = withinOf stages p.stage && (knownRight p.known && countWordsRight p)
+unfoldable pub progress_right : Progress → Bool
+progress_right p = within_of stages p.stage && (known_right p.known && count_words_right p)

@@ -2,26 +2,26 @@
 use Rattle.std.specs.Prelude.{◌≡◌, refl, true, ◌+◌, ◌*◌, ◌/◌, ◌%◌, ◌^◌, ◌<◌}
 use Rattle.std.proofs.Common.{arith, lt-ltb}
 use Rattle.circle.specs.declared.plane.Turn.{Turn}
-use Rattle.bench.specs.computed.Bench.{soundOf}
+use Rattle.bench.specs.computed.Bench.{sound_of}
 use Rattle.reader.specs.declared.Motion.{Motion}
 use Rattle.reader.specs.declared.Feed.{Feed}
 use Rattle.reader.specs.declared.Reader.{Reader}
-use Rattle.reader.specs.Reader.{motionOf}
+use Rattle.reader.specs.Reader.{motion_of}
 use Rattle.job.specs.declared.Stage.{Stage}
 use Rattle.job.specs.declared.Check.{Check}
 use Rattle.job.specs.computed.Check.{FeedSmall, Reached}
 use Rattle.encoding.specs.Words.{count_of}
 use Rattle.encoding.specs.laws.Record.{count_word}
 use Rattle.encoding.specs.laws.Same.{same_self}
-use Rattle.progress.specs.laws.Long.{long-back}
-use Rattle.progress.specs.Known.{motionWord, feedWord, encodeKnown, feedRead}
-use Rattle.progress.specs.computed.Known.{decodeKnown}
-use Rattle.progress.specs.Progress.{stageWord, encodeProgress, stageOf, checkIn}
-use Rattle.progress.specs.computed.Progress.{decodeProgress}
+use Rattle.progress.specs.laws.Long.{long_back}
+use Rattle.progress.specs.Known.{motion_word, feed_word, encode_known, feed_read}
+use Rattle.progress.specs.computed.Known.{decode_known}
+use Rattle.progress.specs.Progress.{stage_word, encode_progress, stage_of, check_in}
+use Rattle.progress.specs.computed.Progress.{decode_progress}
 
 -- a check whose numbers are words
 pub record Fits (c : Check) : Type 0 where
-  pub sound : soundOf c.tally.bench ≡ true
+  pub sound : sound_of c.tally.bench ≡ true
   pub at : c.at < 2 ^ 63
   pub feed : FeedSmall c.tally.reader.feed
   pub lines : c.tally.lines < 2 ^ 63
@@ -30,20 +30,20 @@ pub record Fits (c : Check) : Type 0 where
   pub low : c.tally.ticks.low < 2 ^ 63
   pub high : c.tally.ticks.high < 2 ^ 32
 
-stage-back : (s : Stage) → stageOf (count_of (stageWord s)) ≡ s
-stage-back Stage.Header = refl
-stage-back Stage.Lines = refl
-stage-back Stage.Over = refl
+stage_back : (s : Stage) → stage_of (count_of (stage_word s)) ≡ s
+stage_back Stage.Header = refl
+stage_back Stage.Lines = refl
+stage_back Stage.Over = refl
 
-motion-back : (m : Motion) → motionOf (count_of (motionWord m)) ≡ m
-motion-back Motion.Unknown = refl
-motion-back Motion.Line = refl
-motion-back (Motion.Arc Turn.Clockwise) = refl
-motion-back (Motion.Arc Turn.Counterclockwise) = refl
+motion_back : (m : Motion) → motion_of (count_of (motion_word m)) ≡ m
+motion_back Motion.Unknown = refl
+motion_back Motion.Line = refl
+motion_back (Motion.Arc Turn.Clockwise) = refl
+motion_back (Motion.Arc Turn.Counterclockwise) = refl
 
-feed-back : (f : Feed) → FeedSmall f → feedRead (feedWord f) ≡ f
-feed-back Feed.Unknown h = refl
-feed-back (Feed.Known m t) h =
+feed_back : (f : Feed) → FeedSmall f → feed_read (feed_word f) ≡ f
+feed_back Feed.Unknown h = refl
+feed_back (Feed.Known m t) h =
     let f = m * 1000 + t in
     let whole : f / 1000 ≡ m = omega (arith, h.1) in
     let rest : f % 1000 ≡ t = omega (arith, h.1) in
@@ -51,37 +51,37 @@ feed-back (Feed.Known m t) h =
 
 -- ---- what is known
 
-pub known-decode : (k : Reader) → FeedSmall k.feed → decodeKnown (encodeKnown k) ≡ record { ok = true; reader = k }
-unfolding decodeKnown encodeKnown
-known-decode k h = rw (motion-back k.motion, feed-back k.feed h, same_self (encodeKnown k))
+pub known_decode : (k : Reader) → FeedSmall k.feed → decode_known (encode_known k) ≡ record { ok = true; reader = k }
+unfolding decode_known encode_known
+known_decode k h = rw (motion_back k.motion, feed_back k.feed h, same_self (encode_known k))
 
 -- ---- a check
 
-check-back : (c : Check) → Fits c → checkIn c.tally.bench (encodeProgress c) ≡ c
-unfolding checkIn encodeProgress
-check-back c f =
+check_back : (c : Check) → Fits c → check_in c.tally.bench (encode_progress c) ≡ c
+unfolding check_in encode_progress
+check_back c f =
     rw (
-      stage-back c.stage,
+      stage_back c.stage,
       count_word f.at,
-      motion-back c.tally.reader.motion,
-      feed-back c.tally.reader.feed f.feed,
+      motion_back c.tally.reader.motion,
+      feed_back c.tally.reader.feed f.feed,
       count_word f.lines,
       count_word f.blocks,
       count_word f.cycles,
-      long-back c.tally.ticks f.low f.high,
+      long_back c.tally.ticks f.low f.high,
     )
 
-pub progress-decode : (c : Check) → Fits c → decodeProgress c.tally.bench (encodeProgress c) ≡ record { ok = true; check = c }
-unfolding decodeProgress
-progress-decode c f = rw (check-back c f, same_self (encodeProgress c))
+pub progress_decode : (c : Check) → Fits c → decode_progress c.tally.bench (encode_progress c) ≡ record { ok = true; check = c }
+unfolding decode_progress
+progress_decode c f = rw (check_back c f, same_self (encode_progress c))
 
 -- ---- every check that a start reaches fits
 
 abbrev pub ReachedCheck : Check → Type 0
 ReachedCheck c = Reached c.at c.tally
 
-pub reached-fits : (c : Check) → ReachedCheck c → Fits c
-reached-fits c r =
+pub reached_fits : (c : Check) → ReachedCheck c → Fits c
+reached_fits c r =
     record {
       sound = r.sound;
       at = omega (arith, r.near);

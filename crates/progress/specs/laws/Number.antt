@@ -5,48 +5,48 @@ use Rattle.std.specs.Int.{w64}
 use Rattle.std.proofs.Math.Facts.{sfits_lit}
 use Rattle.whole.specs.declared.sign.SignMagnitude.{SignMagnitude}
 use Rattle.whole.specs.computed.Sign.{part_of}
-use Rattle.whole.specs.laws.Order.{◌≼◌, leZ-true, ≼-leZ}
+use Rattle.whole.specs.laws.Order.{◌≼◌, le_z_true, ≼_le_z}
 use Rattle.whole.specs.laws.Test.{both, joined}
 use Rattle.plane.specs.declared.travel.Range.{Range}
-use Rattle.plane.specs.Travel.{withinOf}
+use Rattle.plane.specs.Travel.{within_of}
 use Rattle.reader.specs.declared.Motion.{Motion}
 use Rattle.reader.specs.declared.Feed.{Feed}
 use Rattle.job.specs.declared.Stage.{Stage}
-use Rattle.encoding.specs.laws.Number.{turn-fits}
-use Rattle.progress.specs.Known.{motionWord, feedRead}
-use Rattle.progress.specs.Progress.{stageWord}
+use Rattle.encoding.specs.laws.Number.{turn_fits}
+use Rattle.progress.specs.Known.{motion_word, feed_read}
+use Rattle.progress.specs.Progress.{stage_word}
 
 -- ---- ranges
 
-pub range-to : (r : Range) (z : ℤ) → withinOf r z ≡ true → (r.lower ≼ z) × (z ≼ r.upper)
-unfolding withinOf
-range-to r z t = let b = both t in (leZ-true r.lower z b.0, leZ-true z r.upper b.1)
+pub range_to : (r : Range) (z : ℤ) → within_of r z ≡ true → (r.lower ≼ z) × (z ≼ r.upper)
+unfolding within_of
+range_to r z t = let b = both t in (le_z_true r.lower z b.0, le_z_true z r.upper b.1)
 
-pub range-of : (r : Range) (z : ℤ) → r.lower ≼ z → z ≼ r.upper → withinOf r z ≡ true
-unfolding withinOf
-range-of r z low high = joined (≼-leZ r.lower z low) (≼-leZ z r.upper high)
+pub range_of : (r : Range) (z : ℤ) → r.lower ≼ z → z ≼ r.upper → within_of r z ≡ true
+unfolding within_of
+range_of r z low high = joined (≼_le_z r.lower z low) (≼_le_z z r.upper high)
 
 -- ---- words
 
-pub stage-fits : (s : Stage) → SFits w64 (stageWord s)
-stage-fits Stage.Header = sfits_lit tt
-stage-fits Stage.Lines = sfits_lit tt
-stage-fits Stage.Over = sfits_lit tt
+pub stage_fits : (s : Stage) → SFits w64 (stage_word s)
+stage_fits Stage.Header = sfits_lit tt
+stage_fits Stage.Lines = sfits_lit tt
+stage_fits Stage.Over = sfits_lit tt
 
-pub motion-fits : (m : Motion) → SFits w64 (motionWord m)
-motion-fits Motion.Unknown = sfits_lit tt
-motion-fits Motion.Line = sfits_lit tt
-motion-fits (Motion.Arc turn) = turn-fits turn
+pub motion_fits : (m : Motion) → SFits w64 (motion_word m)
+motion_fits Motion.Unknown = sfits_lit tt
+motion_fits Motion.Line = sfits_lit tt
+motion_fits (Motion.Arc turn) = turn_fits turn
 
-pub feed-none : (z : ℤ) {p : SignMagnitude} → p ≡ part_of z → p.negative ≡ true → Feed.Unknown ≡ feedRead z
-feed-none (pos n) e t = absurd (true≢false (sym t ∙ ap (λ (p : SignMagnitude). p.negative) e))
-feed-none (negsuc n) e t = refl
+pub feed_none : (z : ℤ) {p : SignMagnitude} → p ≡ part_of z → p.negative ≡ true → Feed.Unknown ≡ feed_read z
+feed_none (pos n) e t = absurd (true≢false (sym t ∙ ap (λ (p : SignMagnitude). p.negative) e))
+feed_none (negsuc n) e t = refl
 
 -- a feed of so many thousandths
-abbrev pub feedIn : (f : ℕ) → Feed
-feedIn f = Feed.Known (f / 1000) (f % 1000)
+abbrev pub feed_in : (f : ℕ) → Feed
+feed_in f = Feed.Known (f / 1000) (f % 1000)
 
-pub feed-some : (z : ℤ) {p : SignMagnitude} → p ≡ part_of z → p.negative ≡ false
-    → cond (ltb p.magnitude (10 ^ 10)) (feedIn p.magnitude) Feed.Unknown ≡ feedRead z
-feed-some (pos n) e t = ap (λ (p : SignMagnitude). cond (ltb p.magnitude (10 ^ 10)) (feedIn p.magnitude) Feed.Unknown) e
-feed-some (negsuc n) e t = absurd (true≢false (sym (ap (λ (p : SignMagnitude). p.negative) e) ∙ t))
+pub feed_some : (z : ℤ) {p : SignMagnitude} → p ≡ part_of z → p.negative ≡ false
+    → cond (ltb p.magnitude (10 ^ 10)) (feed_in p.magnitude) Feed.Unknown ≡ feed_read z
+feed_some (pos n) e t = ap (λ (p : SignMagnitude). cond (ltb p.magnitude (10 ^ 10)) (feed_in p.magnitude) Feed.Unknown) e
+feed_some (negsuc n) e t = absurd (true≢false (sym (ap (λ (p : SignMagnitude). p.negative) e) ∙ t))

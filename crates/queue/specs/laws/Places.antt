@@ -5,7 +5,7 @@ use Rattle.std.proofs.lemmas.List.{length-map}
 use Rattle.std.proofs.Math.Seq.{drop-nil}
 use Rattle.queue.specs.declared.Waiting.{Waiting}
 use Rattle.queue.specs.declared.Queue.{Queue}
-use Rattle.queue.specs.Queue.{blank, poppedOf}
+use Rattle.queue.specs.Queue.{blank, popped_of}
 
 -- an array's length, from what the checker knows of a parameter: `search (unmap, needs)`
 pub unmap : (X Y : Type 0) (f : X → Y) (l : List X) (n : ℕ) → length (map f l) ≡ n → length l ≡ n
@@ -18,22 +18,22 @@ shifted (suc j) [] = []
 shifted (suc j) (x ∷ []) = x ∷ []
 shifted (suc j) (x ∷ y ∷ l) = y ∷ shifted j (y ∷ l)
 
-shift-step : {A : Type 0} (l : List A) (j : ℕ) (d : A) → suc j < length l
+shift_step : {A : Type 0} (l : List A) (j : ℕ) (d : A) → suc j < length l
     → set (shifted j l) j (get_or (shifted j l) (suc j) d) ≡ shifted (suc j) l
 unfolding shifted
-shift-step [] j d h = absurd (not-suc-le-zero h)
-shift-step (x ∷ []) j d h = absurd (not-suc-le-zero (le_of_suc-le-suc h))
-shift-step (x ∷ y ∷ l) zero d h = refl
-shift-step (x ∷ y ∷ l) (suc j) d h = ap (λ r. y ∷ r) (shift-step (y ∷ l) j d (le_of_suc-le-suc h))
+shift_step [] j d h = absurd (not-suc-le-zero h)
+shift_step (x ∷ []) j d h = absurd (not-suc-le-zero (le_of_suc-le-suc h))
+shift_step (x ∷ y ∷ l) zero d h = refl
+shift_step (x ∷ y ∷ l) (suc j) d h = ap (λ r. y ∷ r) (shift_step (y ∷ l) j d (le_of_suc-le-suc h))
 
 -- all of them moved, and the last place made d
-shift-end : {A : Type 0} (l : List A) (j : ℕ) (d : A) → length l ≡ suc j → set (shifted j l) j d ≡ drop 1 l ++ (d ∷ [])
+shift_end : {A : Type 0} (l : List A) (j : ℕ) (d : A) → length l ≡ suc j → set (shifted j l) j d ≡ drop 1 l ++ (d ∷ [])
 unfolding shifted
-shift-end [] j d e = absurd (omega arith)
-shift-end (x ∷ []) zero d e = refl
-shift-end (x ∷ []) (suc j) d e = absurd (omega arith)
-shift-end (x ∷ y ∷ l) zero d e = absurd (omega arith)
-shift-end (x ∷ y ∷ l) (suc j) d e = ap (λ r. y ∷ r) (shift-end (y ∷ l) j d (omega arith))
+shift_end [] j d e = absurd (omega arith)
+shift_end (x ∷ []) zero d e = refl
+shift_end (x ∷ []) (suc j) d e = absurd (omega arith)
+shift_end (x ∷ y ∷ l) zero d e = absurd (omega arith)
+shift_end (x ∷ y ∷ l) (suc j) d e = ap (λ r. y ∷ r) (shift_end (y ∷ l) j d (omega arith))
 
 -- ---- a queue whose first i places have moved
 
@@ -44,13 +44,13 @@ pub pop_step : (q₀ q : Queue) (i : ℕ) → i < 15 → length q₀.blocks ≡ 
     → ◌≡◌ {A = Queue} (record { blocks = set q.blocks i (get_or q.blocks (i + 1) blank); len = q.len }) (partly (i + 1) q₀)
 pop_step q₀ q i h l e =
     rw (e, add-one)
-    (ap (λ (bs : List Waiting). record { blocks = bs; len = q₀.len }) (shift-step q₀.blocks i blank (omega (arith, l))))
+    (ap (λ (bs : List Waiting). record { blocks = bs; len = q₀.len }) (shift_step q₀.blocks i blank (omega (arith, l))))
 
-pub pop-end : (q₀ q : Queue) (w : Waiting) → w ≡ blank → length q₀.blocks ≡ 16 → q ≡ partly 15 q₀
-    → ◌≡◌ {A = Queue} (record { blocks = set q.blocks 15 w; len = q.len - 1 }) (poppedOf q₀)
-unfolding poppedOf
-pop-end q₀ q w blanked l e =
-    rw (e, blanked) (ap (λ (bs : List Waiting). record { blocks = bs; len = q₀.len - 1 }) (shift-end q₀.blocks 15 blank l))
+pub pop_end : (q₀ q : Queue) (w : Waiting) → w ≡ blank → length q₀.blocks ≡ 16 → q ≡ partly 15 q₀
+    → ◌≡◌ {A = Queue} (record { blocks = set q.blocks 15 w; len = q.len - 1 }) (popped_of q₀)
+unfolding popped_of
+pop_end q₀ q w blanked l e =
+    rw (e, blanked) (ap (λ (bs : List Waiting). record { blocks = bs; len = q₀.len - 1 }) (shift_end q₀.blocks 15 blank l))
 
 -- ---- the places of those that wait, from i on
 

@@ -1,9 +1,9 @@
 -- 01, Questions, "Job text": one line of a job, read at a bench.
 use Rattle.std.specs.Prelude.{cond, List, ℕ, length}
-use Rattle.words.specs.computed.Meaning.{meaningOf}
+use Rattle.words.specs.computed.Meaning.{meaning_of}
 use Rattle.bench.specs.declared.Bench.{Bench}
 use Rattle.bench.specs.declared.Answer.{Answer}
-use Rattle.bench.specs.computed.Bench.{soundOf}
+use Rattle.bench.specs.computed.Bench.{sound_of}
 use Rattle.bench.specs.computed.Calls.{load_of}
 use Rattle.reader.specs.declared.Reader.{Reader}
 use Rattle.reader.specs.declared.asked.ToLoad.{ToLoad}
@@ -30,8 +30,8 @@ takes k k' m (ToLoad.Refused number) = reads (Read.Refused number) k m
 abbrev pub taken_of : (before : Reader) → Bench → Asked → ReadLine
 taken_of k m a = takes k a.reader m a.asks
 
--- "Any call on a record: is it sound? 9." The next block starts at the point. `meaningOf` is the one answer about the bytes that the
+-- "Any call on a record: is it sound? 9." The next block starts at the point. `meaning_of` is the one answer about the bytes that the
 -- grammar allows.
-unfoldable pub readLineOf : Reader → Bench → (bytes : List ℕ) → ReadLine
-readLineOf k m bytes =
-    cond (soundOf m) (taken_of k m (asked_of m.settings.scale k m.at (length bytes) (meaningOf bytes))) (reads (Read.Refused 9) k m)
+unfoldable pub read_line_of : Reader → Bench → (bytes : List ℕ) → ReadLine
+read_line_of k m bytes =
+    cond (sound_of m) (taken_of k m (asked_of m.settings.scale k m.at (length bytes) (meaning_of bytes))) (reads (Read.Refused 9) k m)

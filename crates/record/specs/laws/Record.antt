@@ -11,23 +11,23 @@ use Rattle.queue.specs.Queue.{places, blank}
 use Rattle.machine.specs.declared.Machine.{Machine}
 use Rattle.encoding.specs.Words.{word_of, count_of}
 use Rattle.encoding.specs.laws.Same.{same_true, same_self}
-use Rattle.encoding.specs.laws.Record.{Small, count_word, mark-back, work-back}
-use Rattle.record.specs.Words.{encodeOf, over}
-use Rattle.record.specs.computed.Words.{placesIn, queueIn, benchIn, machineIn, isRecord}
-use Rattle.record.specs.laws.Places.{AllSmall, places-back}
+use Rattle.encoding.specs.laws.Record.{Small, count_word, mark_back, work_back}
+use Rattle.record.specs.Words.{encode_of, over}
+use Rattle.record.specs.computed.Words.{places_in, queue_in, bench_in, machine_in, is_record}
+use Rattle.record.specs.laws.Places.{AllSmall, places_back}
 
 -- ---- from words to a machine and back
 
-pub record-words : (ws : List ℤ) → isRecord ws ≡ true → over (encodeOf (machineIn ws)) ws ≡ ws
-unfolding isRecord
-record-words ws t =
-    let n = length (encodeOf (machineIn ws)) in
-    ap (λ (l : List ℤ). l ++ drop n ws) (sym (same_true (take n ws) (encodeOf (machineIn ws)) t)) ∙ take-append-drop n ws
+pub record_words : (ws : List ℤ) → is_record ws ≡ true → over (encode_of (machine_in ws)) ws ≡ ws
+unfolding is_record
+record_words ws t =
+    let n = length (encode_of (machine_in ws)) in
+    ap (λ (l : List ℤ). l ++ drop n ws) (sym (same_true (take n ws) (encode_of (machine_in ws)) t)) ∙ take-append-drop n ws
 
-pub words-record : (ws : List ℤ) → over (encodeOf (machineIn ws)) ws ≡ ws → isRecord ws ≡ true
-unfolding isRecord
-words-record ws e =
-    let own = encodeOf (machineIn ws) in
+pub words_record : (ws : List ℤ) → over (encode_of (machine_in ws)) ws ≡ ws → is_record ws ≡ true
+unfolding is_record
+words_record ws e =
+    let own = encode_of (machine_in ws) in
     rw (ap (take (length own)) (sym e) ∙ take-append_seam own (drop (length own) ws)) (same_self own)
 
 -- ---- from a machine to words and back
@@ -47,37 +47,37 @@ pub record MachineSmall (m : Machine) : Type 0 where
 
 module _ (m : Machine) (s : MachineSmall m) (ws : List ℤ) where
   abbrev then : List ℤ
-  then = over (encodeOf m) ws
+  then = over (encode_of m) ws
 
-  bench-back : benchIn then ≡ m.bench
-  unfolding benchIn encodeOf
-  bench-back =
+  bench_back : bench_in then ≡ m.bench
+  unfolding bench_in encode_of
+  bench_back =
       rw (
         count_word s.scale,
         count_word s.clock,
-        mark-back m.bench.held,
+        mark_back m.bench.held,
         count_word s.remainder,
-        work-back m.bench.work
+        work_back m.bench.work
             s.work,
       )
 
   abbrev len : ℕ
   len = m.queue.len
 
-  queue-back : queueIn then len ≡ m.queue
-  unfolding encodeOf
-  queue-back =
+  queue_back : queue_in then len ≡ m.queue
+  unfolding encode_of
+  queue_back =
       ap (λ (l : List Waiting). record { blocks = l ++ replicate (16 - len) blank; len = len })
-      (ap (placesIn then 0) many ∙ places-back (places m.queue) s.waiting then 0 (drop (length (encodeOf m)) ws) refl)
+      (ap (places_in then 0) many ∙ places_back (places m.queue) s.waiting then 0 (drop (length (encode_of m)) ws) refl)
       ∙ ap (λ (l : List Waiting). record { blocks = places m.queue ++ l; len = len }) (sym s.blanks)
       ∙ ap (λ (l : List Waiting). record { blocks = l; len = len }) (take-append-drop len m.queue.blocks)
     where
       many : min len 16 ≡ length (places m.queue)
       many = omega (arith, s.most, s.sixteen, length-take-le len m.queue.blocks (omega (arith, s.most, s.sixteen)))
 
-  len-back : count_of (word_of len) ≡ len
-  len-back = count_word (omega (arith, s.most))
+  len_back : count_of (word_of len) ≡ len
+  len_back = count_word (omega (arith, s.most))
 
-  pub machine-back : machineIn then ≡ m
-  unfolding machineIn encodeOf
-  machine-back = rw (bench-back, count_word s.root, count_word s.left, len-back, queue-back)
+  pub machine_back : machine_in then ≡ m
+  unfolding machine_in encode_of
+  machine_back = rw (bench_back, count_word s.root, count_word s.left, len_back, queue_back)

@@ -5,68 +5,68 @@ use Rattle.std.proofs.Math.Path.{ap}
 use Rattle.plane.specs.declared.point.Point.{Point}
 use Rattle.plane.specs.declared.travel.Travel.{Travel}
 use Rattle.queue.specs.declared.TakenOff.{TakenOff}
-use Rattle.queue.specs.laws.Test.{soundWith}
+use Rattle.queue.specs.laws.Test.{sound_with}
 use Rattle.work.specs.declared.Work.{Work}
-use Rattle.work.specs.Work.{isNothing, end_of}
-use Rattle.settings.specs.Settings.{capacityOf}
+use Rattle.work.specs.Work.{is_nothing, end_of}
+use Rattle.settings.specs.Settings.{capacity_of}
 use Rattle.bench.specs.declared.Bench.{Bench}
-use Rattle.bench.specs.computed.Bench.{soundOf as benchSound}
-use Rattle.machine.specs.computed.Machine.{waitingRight}
-use Rattle.machine.specs.computed.Asked.{workOff}
-use Rattle.machine.specs.laws.Right.{wrong-work, none-waiting, idle-waiting, busy-waiting}
+use Rattle.bench.specs.computed.Bench.{sound_of as bench_sound}
+use Rattle.machine.specs.computed.Machine.{waiting_right}
+use Rattle.machine.specs.computed.Asked.{work_off}
+use Rattle.machine.specs.laws.Right.{wrong_work, none_waiting, idle_waiting, busy_waiting}
 use Rattle.encoding.specs.Words.{at, count_of}
-use Rattle.record.specs.computed.Words.{lenIn, queueIn, benchIn, machineIn, soundWords}
-use Rattle.record.specs.computed.Right.{isFront, areBlocks}
-use Rattle.record.specs.laws.Places.{queue-sixteen}
+use Rattle.record.specs.computed.Words.{len_in, queue_in, bench_in, machine_in, sound_words}
+use Rattle.record.specs.computed.Right.{is_front, are_blocks}
+use Rattle.record.specs.laws.Places.{queue_sixteen}
 use Rattle.record.specs.laws.Right.{none, record_is}
 
 -- ---- root, figure and queue
 
-module _ (ws : List ℤ) (len q0 : ℕ) (t : Travel) (p : Point) (w : Work) (root left : ℕ) {r : TakenOff} (e : r ≡ workOff p w root left) where
+module _ (ws : List ℤ) (len q0 : ℕ) (t : Travel) (p : Point) (w : Work) (root left : ℕ) {r : TakenOff} (e : r ≡ work_off p w root left) where
   -- the words of those that wait, and what waits
   abbrev right : Bool
-  right = areBlocks ws 0 (min len 16) && waitingRight q0 t p w root left (queueIn ws len)
+  right = are_blocks ws 0 (min len 16) && waiting_right q0 t p w root left (queue_in ws len)
 
-  not_right : waitingRight q0 t p w root left (queueIn ws len) ≡ false → right ≡ false
-  not_right other = rw other (none (areBlocks ws 0 (min len 16)))
+  not_right : waiting_right q0 t p w root left (queue_in ws len) ≡ false → right ≡ false
+  not_right other = rw other (none (are_blocks ws 0 (min len 16)))
 
-  pub work-wrong : r.right ≡ false → right ≡ false
-  work-wrong other = not_right (wrong-work q0 t p w root left (queueIn ws len) e other)
+  pub work_wrong : r.right ≡ false → right ≡ false
+  work_wrong other = not_right (wrong_work q0 t p w root left (queue_in ws len) e other)
 
   module _ (yes : r.right ≡ true) where
     pub none_right : len ≡ 0 → eqb r.left 0 ≡ right
-    unfolding areBlocks
+    unfolding are_blocks
     none_right zero =
-        none-waiting q0 t p w root left (queueIn ws len) e yes (queue-sixteen ws len) zero
-        ∙ ap (λ (n : ℕ). areBlocks ws 0 (min n 16) && waitingRight q0 t p w root left (queueIn ws len)) (sym zero)
+        none_waiting q0 t p w root left (queue_in ws len) e yes (queue_sixteen ws len) zero
+        ∙ ap (λ (n : ℕ). are_blocks ws 0 (min n 16) && waiting_right q0 t p w root left (queue_in ws len)) (sym zero)
 
-    pub idle-wrong : (len ≡ 0 → ⊥) → isNothing w ≡ true → right ≡ false
-    idle-wrong some idle = not_right (idle-waiting q0 t p w root left (queueIn ws len) e yes some idle)
+    pub idle_wrong : (len ≡ 0 → ⊥) → is_nothing w ≡ true → right ≡ false
+    idle_wrong some idle = not_right (idle_waiting q0 t p w root left (queue_in ws len) e yes some idle)
 
-    pub busy-right : isNothing w ≡ false
-        → (areBlocks ws 0 (min len 16) && soundWith q0 t (end_of p w) r.left (queueIn ws len)) ≡ right
-    busy-right busy = ap (λ (b : Bool). areBlocks ws 0 (min len 16) && b) (busy-waiting q0 t p w root left (queueIn ws len) e yes busy)
+    pub busy_right : is_nothing w ≡ false
+        → (are_blocks ws 0 (min len 16) && sound_with q0 t (end_of p w) r.left (queue_in ws len)) ≡ right
+    busy_right busy = ap (λ (b : Bool). are_blocks ws 0 (min len 16) && b) (busy_waiting q0 t p w root left (queue_in ws len) e yes busy)
 
 -- ---- all of it
 
 module _ (ws : List ℤ) (long : length ws ≡ 134) where
   abbrev waiting : Bench → Bool
   waiting k =
-      waitingRight (capacityOf k.settings) k.settings.travel k.at k.work (count_of (at ws 19)) (count_of (at ws 20))
-      (queueIn ws (lenIn ws))
+      waiting_right (capacity_of k.settings) k.settings.travel k.at k.work (count_of (at ws 19)) (count_of (at ws 20))
+      (queue_in ws (len_in ws))
 
   abbrev blocks : Bool
-  blocks = areBlocks ws 0 (min (lenIn ws) 16)
+  blocks = are_blocks ws 0 (min (len_in ws) 16)
 
-  sound-is : soundWords ws ≡ ((isFront ws && blocks) && (benchSound (benchIn ws) && waiting (benchIn ws)))
-  unfolding soundWords machineIn
-  sound-is = ap (λ (b : Bool). b && (benchSound (benchIn ws) && waiting (benchIn ws))) (record_is ws long)
+  sound_is : sound_words ws ≡ ((is_front ws && blocks) && (bench_sound (bench_in ws) && waiting (bench_in ws)))
+  unfolding sound_words machine_in
+  sound_is = ap (λ (b : Bool). b && (bench_sound (bench_in ws) && waiting (bench_in ws))) (record_is ws long)
 
-  pub front-wrong : isFront ws ≡ false → soundWords ws ≡ false
-  front-wrong other = sound-is ∙ rw other
+  pub front_wrong : is_front ws ≡ false → sound_words ws ≡ false
+  front_wrong other = sound_is ∙ rw other
 
-  pub bench-wrong : benchSound (benchIn ws) ≡ false → soundWords ws ≡ false
-  bench-wrong other = sound-is ∙ rw other (none (isFront ws && blocks))
+  pub bench_wrong : bench_sound (bench_in ws) ≡ false → sound_words ws ≡ false
+  bench_wrong other = sound_is ∙ rw other (none (is_front ws && blocks))
 
-  pub waiting-is : isFront ws ≡ true → benchSound (benchIn ws) ≡ true → (blocks && waiting (benchIn ws)) ≡ soundWords ws
-  waiting-is front bench = sym (sound-is ∙ rw (front, bench))
+  pub waiting_is : is_front ws ≡ true → bench_sound (bench_in ws) ≡ true → (blocks && waiting (bench_in ws)) ≡ sound_words ws
+  waiting_is front bench = sym (sound_is ∙ rw (front, bench))

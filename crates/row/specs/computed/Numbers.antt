@@ -2,32 +2,32 @@
 use Rattle.std.specs.Prelude.{ℕ, ◌+◌, ◌*◌, Bool, cond, List, [], ◌∷◌, leb, ℤ, length, ◌≤◌}
 use Rattle.row.specs.declared.lines.Place.{Place}
 use Rattle.row.specs.declared.lines.Place.TheVariants.{Next, NoRoom}
-use Rattle.row.specs.Decimal.{signedDecimal}
+use Rattle.row.specs.Decimal.{signed_decimal}
 use Rattle.row.specs.Lines.{line}
 use Rattle.row.specs.computed.Buffer.{placed}
 use Rattle.row.specs.computed.Puts.{Puts}
 
-abbrev pub numberFields : List ℤ → List (List ℕ)
-numberFields [] = []
-numberFields (v ∷ vs) = signedDecimal v ∷ numberFields vs
+abbrev pub number_fields : List ℤ → List (List ℕ)
+number_fields [] = []
+number_fields (v ∷ vs) = signed_decimal v ∷ number_fields vs
 
 -- one blank between, and LF after the last
-abbrev pub numbersLine : List ℤ → List ℕ
-numbersLine vs = line (numberFields vs)
+abbrev pub numbers_line : List ℤ → List ℕ
+numbers_line vs = line (number_fields vs)
 
 -- 22 bytes from the place on for each number, with its sign and the byte after it, and once more
-abbrev pub hasRoomFor : (count : ℕ) (buffer : List ℕ) (at : ℕ) → Bool
-hasRoomFor count buffer at = leb (at + 22 * (count + 1)) (length buffer)
+abbrev pub has_room_for : (count : ℕ) (buffer : List ℕ) (at : ℕ) → Bool
+has_room_for count buffer at = leb (at + 22 * (count + 1)) (length buffer)
 
 -- with room the line is placed; else the buffer is as it was
-abbrev pub bufferWith : List ℤ → (buffer : List ℕ) (at : ℕ) → List ℕ
-bufferWith vs buffer at = cond (hasRoomFor (length vs) buffer at) (placed (numbersLine vs) buffer at) buffer
+abbrev pub buffer_with : List ℤ → (buffer : List ℕ) (at : ℕ) → List ℕ
+buffer_with vs buffer at = cond (has_room_for (length vs) buffer at) (placed (numbers_line vs) buffer at) buffer
 
-abbrev pub placeWith : List ℤ → (buffer : List ℕ) (at : ℕ) → Place
-placeWith vs buffer at = cond (hasRoomFor (length vs) buffer at) (Next (at + length (numbersLine vs))) NoRoom
+abbrev pub place_with : List ℤ → (buffer : List ℕ) (at : ℕ) → Place
+place_with vs buffer at = cond (has_room_for (length vs) buffer at) (Next (at + length (numbers_line vs))) NoRoom
 
 abbrev pub PutsNumbers : List ℤ → (old : List ℕ) (at : ℕ) (new : List ℕ) (next : ℕ) → Type 0
-PutsNumbers vs old at new next = Puts (numbersLine vs) (22 * length vs) old at new next
+PutsNumbers vs old at new next = Puts (numbers_line vs) (22 * length vs) old at new next
 
 -- the place after a line lies in the buffer, or is its end
 abbrev pub EndsIn : (buffer : List ℕ) → Place → Type 0

@@ -3,8 +3,8 @@ use Rattle.std.specs.Prelude.{ℕ, suc, ◌+◌, ◌*◌, ◌≤◌, ◌<◌, �
 use Rattle.std.proofs.Common.{sym, ap, ◌∙◌, append_assoc, arith, drop_of_length-le, drop-cons, le-leb}
 use Rattle.std.proofs.lemmas.Bool.{lt-leb}
 use Rattle.row.specs.declared.lines.Place.TheVariants.{Next, NoRoom}
-use Rattle.row.specs.Decimal.{signedDecimal}
-use Rattle.row.specs.computed.Numbers.{numbersLine, bufferWith, placeWith}
+use Rattle.row.specs.Decimal.{signed_decimal}
+use Rattle.row.specs.computed.Numbers.{numbers_line, buffer_with, place_with}
 use Rattle.row.specs.computed.Puts.{Puts}
 use Rattle.row.specs.laws.Puts.{◌then◌, at_most, puts_none}
 use Rattle.row.specs.computed.Numbers.{PutsNumbers}
@@ -13,7 +13,7 @@ use Rattle.row.specs.computed.Numbers.{PutsNumbers}
 pub record Written (vs : List ℤ) (old : List ℕ) (at i : ℕ) (new : List ℕ) (next : ℕ) : Type 0 where
   pub front : List ℕ
   pub puts : Puts front (22 * i) old at new next
-  pub rest : front ++ numbersLine (drop i vs) ≡ numbersLine vs
+  pub rest : front ++ numbers_line (drop i vs) ≡ numbers_line vs
   pub some : i < length vs
 
 pub written_none : (vs : List ℤ) (old : List ℕ) (at : ℕ) → 0 < length vs → at ≤ length old → Written vs old at 0 old at
@@ -24,14 +24,14 @@ number_at vs i = get_or vs i (pos 0)
 
 module _ {vs : List ℤ} {old new : List ℕ} {at i next : ℕ} (w : Written vs old at i new next) {out : List ℕ} {after : ℕ} where
   -- one more, which is not the last
-  pub written-more : i + 1 < length vs → Puts (signedDecimal (number_at vs i) ++ (32 ∷ [])) 22 new next out after
+  pub written_more : i + 1 < length vs → Puts (signed_decimal (number_at vs i) ++ (32 ∷ [])) 22 new next out after
       → Written vs old at (i + 1) out after
-  written-more more p =
-      let piece = signedDecimal (number_at vs i) ++ (32 ∷ []) in
+  written_more more p =
+      let piece = signed_decimal (number_at vs i) ++ (32 ∷ []) in
       let one : i + 1 ≡ suc i = omega arith in
       let two = drop-cons vs (suc i) (pos 0) (omega arith) in
-      let cut : numbersLine (drop i vs) ≡ piece ++ numbersLine (drop (i + 1) vs) =
-      ap numbersLine (drop-cons vs i (pos 0) w.some) ∙ rw (one, two) in
+      let cut : numbers_line (drop i vs) ≡ piece ++ numbers_line (drop (i + 1) vs) =
+      ap numbers_line (drop-cons vs i (pos 0) w.some) ∙ rw (one, two) in
       record {
         front = w.front ++ piece;
         puts = at_most (w.puts then p) (omega arith);
@@ -39,28 +39,28 @@ module _ {vs : List ℤ} {old new : List ℕ} {at i next : ℕ} (w : Written vs 
         some = more;
       }
 
-  pub written_last : i + 1 ≡ length vs → Puts (signedDecimal (number_at vs i) ++ (10 ∷ [])) 22 new next out after
+  pub written_last : i + 1 ≡ length vs → Puts (signed_decimal (number_at vs i) ++ (10 ∷ [])) 22 new next out after
       → PutsNumbers vs old at out after
   written_last last p =
       let none : drop (suc i) vs ≡ [] = drop_of_length-le vs {i = suc i} (omega arith) in
-      let cut : numbersLine (drop i vs) ≡ signedDecimal (number_at vs i) ++ (10 ∷ []) =
-      ap numbersLine (drop-cons vs i (pos 0) w.some) ∙ rw none in
+      let cut : numbers_line (drop i vs) ≡ signed_decimal (number_at vs i) ++ (10 ∷ []) =
+      ap numbers_line (drop-cons vs i (pos 0) w.some) ∙ rw none in
       rw (← (sym (ap (λ (s : List ℕ). w.front ++ s) cut) ∙ w.rest)) (at_most (w.puts then p) (omega arith))
 
 -- ---- a whole line
 
 module _ (vs : List ℤ) (old : List ℕ) (at : ℕ) where
-  pub with-room-for : {new : List ℕ} {next k : ℕ} → at + 22 * (length vs + 1) ≤ length old → Puts (numbersLine vs) k old at new next
-      → (new ≡ bufferWith vs old at) × ((Next next ≡ placeWith vs old at) × (next ≤ length old))
-  with-room-for h p = rw (le-leb (at + 22 * (length vs + 1)) (length old) h) (p.buffer, (ap Next p.place, p.within))
+  pub with_room_for : {new : List ℕ} {next k : ℕ} → at + 22 * (length vs + 1) ≤ length old → Puts (numbers_line vs) k old at new next
+      → (new ≡ buffer_with vs old at) × ((Next next ≡ place_with vs old at) × (next ≤ length old))
+  with_room_for h p = rw (le-leb (at + 22 * (length vs + 1)) (length old) h) (p.buffer, (ap Next p.place, p.within))
 
-  pub without-room-for : length old < at + 22 * (length vs + 1)
-      → (old ≡ bufferWith vs old at) × ((NoRoom ≡ placeWith vs old at) × Unit {0})
-  without-room-for h = rw (lt-leb (at + 22 * (length vs + 1)) (length old) h) (refl, (refl, tt))
+  pub without_room_for : length old < at + 22 * (length vs + 1)
+      → (old ≡ buffer_with vs old at) × ((NoRoom ≡ place_with vs old at) × Unit {0})
+  without_room_for h = rw (lt-leb (at + 22 * (length vs + 1)) (length old) h) (refl, (refl, tt))
 
   -- the LF of no numbers
-  pub no-numbers : {new : List ℕ} {next : ℕ} → length vs ≡ 0 → Puts (10 ∷ []) 1 old at new next → Puts (numbersLine vs) 1 old at new next
-  no-numbers none p = rw (none_left vs none) p
+  pub no_numbers : {new : List ℕ} {next : ℕ} → length vs ≡ 0 → Puts (10 ∷ []) 1 old at new next → Puts (numbers_line vs) 1 old at new next
+  no_numbers none p = rw (none_left vs none) p
     where
       none_left : (us : List ℤ) → length us ≡ 0 → us ≡ []
       none_left [] e = refl

@@ -5,8 +5,8 @@ use Rattle.std.proofs.Math.Seq.{paste, paste-zero, take-length, append_snoc, tak
 use Rattle.std.proofs.lemmas.List.{set_split, set-append_left, take-set-le}
 use Rattle.std.proofs.lemmas.Bool.{lt-leb}
 use Rattle.row.specs.declared.lines.Place.TheVariants.{Next, NoRoom}
-use Rattle.row.specs.computed.Buffer.{lineRoom, placed, bufferAfter, placeAfter}
-use Rattle.row.specs.laws.Buffer.{placed-length, placed-join}
+use Rattle.row.specs.computed.Buffer.{line_room, placed, buffer_after, place_after}
+use Rattle.row.specs.laws.Buffer.{placed_length, placed_join}
 use Rattle.row.specs.computed.Puts.{Puts}
 
 -- a line is written piece by piece
@@ -15,7 +15,7 @@ pub ◌then◌ : {xs ys a b c : List ℕ} {i j m k l : ℕ} → Puts xs k a i b 
 ◌then◌ {xs} {ys} {a} {b} {c} {i} {j} {m} p q =
     let h : i + length xs ≤ length a = omega (arith, p.place, p.within) in
     record {
-      buffer = q.buffer ∙ rw (p.buffer, p.place) (placed-join xs a i h ys);
+      buffer = q.buffer ∙ rw (p.buffer, p.place) (placed_join xs a i h ys);
       place = simp length-append (omega (arith, p.place, q.place));
       most = omega (arith, p.most, q.most);
       within = omega (arith, q.within, p.len);
@@ -25,9 +25,9 @@ pub ◌then◌ : {xs ys a b c : List ℕ} {i j m k l : ℕ} → Puts xs k a i b 
 pub at_most : {xs a b : List ℕ} {i j k l : ℕ} → Puts xs k a i b j → k ≤ l → Puts xs l a i b j
 at_most p h = record { buffer = p.buffer; place = p.place; most = omega (arith, p.most); within = p.within; len = p.len }
 
-pub puts-byte : (old : List ℕ) (at b : ℕ) → at < length old → Puts (b ∷ []) 1 old at (set old at b) (at + 1)
+pub puts_byte : (old : List ℕ) (at b : ℕ) → at < length old → Puts (b ∷ []) 1 old at (set old at b) (at + 1)
 unfolding placed
-puts-byte old at b h = record {
+puts_byte old at b h = record {
   buffer = rw (add-one, set_split old at b h, append_snoc);
   place = refl;
   most = omega arith;
@@ -41,10 +41,10 @@ unfolding placed
 puts_none old at h = record { buffer = paste-zero old at []; place = omega arith; most = omega arith; within = h; len = refl }
 
 -- a byte before a text that stands there already
-pub puts-before : {text old new : List ℕ} {k i next : ℕ} (at b : ℕ) → i ≡ at + 1 → Puts text k old i new next
+pub puts_before : {text old new : List ℕ} {k i next : ℕ} (at b : ℕ) → i ≡ at + 1 → Puts text k old i new next
     → Puts (b ∷ text) (suc k) old at (set new at b) next
 unfolding placed
-puts-before {text} {old} {new} {k} {i} at b e p =
+puts_before {text} {old} {new} {k} {i} at b e p =
     let h : at < length old = omega (arith, p.place, p.within) in
     let inside : at < length (take i old) = rw (length-take-le i old (omega (arith, p.place, p.within))) (omega arith) in
     let front : set (take i old) at b ≡ take at old ++ (b ∷ []) =
@@ -59,10 +59,10 @@ puts-before {text} {old} {new} {k} {i} at b e p =
     }
 
 -- a line over a byte that was stored in its first place
-pub puts-over : {line old new : List ℕ} {k next : ℕ} (at b : ℕ) → 0 < length line → Puts line k (set old at b) at new next
+pub puts_over : {line old new : List ℕ} {k next : ℕ} (at b : ℕ) → 0 < length line → Puts line k (set old at b) at new next
     → Puts line k old at new next
 unfolding placed
-puts-over {line} {old} at b some p = record {
+puts_over {line} {old} at b some p = record {
   buffer = p.buffer ∙ rw (take-set-le at old at b (le_refl at), drop-set-lt (at + length line) old at b (omega arith));
   place = p.place;
   most = p.most;
@@ -71,19 +71,19 @@ puts-over {line} {old} at b some p = record {
 }
 
 -- a text, once all of it is copied
-pub puts-text : (s old new : List ℕ) (at i : ℕ) → at + length s ≤ length old → i ≡ length s → new ≡ paste old at s i
+pub puts_text : (s old new : List ℕ) (at i : ℕ) → at + length s ≤ length old → i ≡ length s → new ≡ paste old at s i
     → Puts s (length s) old at new (at + length s)
 unfolding placed
-puts-text s old new at i h e copied =
+puts_text s old new at i h e copied =
     let same : new ≡ placed s old at = copied ∙ rw (e, take-length) in
-    record { buffer = same; place = refl; most = omega arith; within = h; len = rw same (placed-length s old at h) }
+    record { buffer = same; place = refl; most = omega arith; within = h; len = rw same (placed_length s old at h) }
 
 -- ---- a whole line
 
 module _ (old : List ℕ) (at : ℕ) where
-  pub with-room : {line new : List ℕ} {next k : ℕ} → at + lineRoom ≤ length old → Puts line k old at new next
-      → (new ≡ bufferAfter line old at) × (Next next ≡ placeAfter line old at)
-  with-room h p = rw (le-leb (at + lineRoom) (length old) h) (p.buffer, ap Next p.place)
+  pub with_room : {line new : List ℕ} {next k : ℕ} → at + line_room ≤ length old → Puts line k old at new next
+      → (new ≡ buffer_after line old at) × (Next next ≡ place_after line old at)
+  with_room h p = rw (le-leb (at + line_room) (length old) h) (p.buffer, ap Next p.place)
 
-  pub without-room : (line : List ℕ) → length old < at + lineRoom → (old ≡ bufferAfter line old at) × (NoRoom ≡ placeAfter line old at)
-  without-room line h = rw (lt-leb (at + lineRoom) (length old) h) (refl, refl)
+  pub without_room : (line : List ℕ) → length old < at + line_room → (old ≡ buffer_after line old at) × (NoRoom ≡ place_after line old at)
+  without_room line h = rw (lt-leb (at + line_room) (length old) h) (refl, refl)

@@ -7,8 +7,8 @@ pub record Same (most s t : ℕ) : Type 0 where
   pub same : min (suc most) s ≡ min (suc most) t
 
 -- so many ticks, few enough for the product, do not reach this due
-unfoldable pub fallsShort : (due added r ticks : ℕ) → Bool
-fallsShort due a r ticks = ltb ticks 10000000 && ltb (r + ticks * a) due
+unfoldable pub falls_short : (due added r ticks : ℕ) → Bool
+falls_short due a r ticks = ltb ticks 10000000 && ltb (r + ticks * a) due
 
-abbrev pub longerOf : (from to : Point) → ℕ
-longerOf from to = max (nat_abs (to.x -ℤ from.x)) (nat_abs (to.y -ℤ from.y))
+abbrev pub longer_of : (from to : Point) → ℕ
+longer_of from to = max (nat_abs (to.x -ℤ from.x)) (nat_abs (to.y -ℤ from.y))

@@ -11,29 +11,29 @@ unfoldable pub gap_of : (due a r : ℕ) → Gap
 gap_of due a r = let g = (due - 1 - r) / a in record { ticks = g; remainder = r + g * a + a - due }
 
 -- a due by what a tick adds, and what is over
-unfoldable pub dividedOf : (due a : ℕ) → Divided
-dividedOf due a = record { whole = due / a; over = due - due / a * a }
+unfoldable pub divided_of : (due a : ℕ) → Divided
+divided_of due a = record { whole = due / a; over = due - due / a * a }
 
 -- a gap that is counted from d ticks earlier
 abbrev pub later : (d : ℕ) → Gap → Gap
 later d g = record { ticks = d + g.ticks; remainder = g.remainder }
 
 -- the gap after a gap's cycle, to a cycle of this due
-unfoldable pub nextGap : (due a : ℕ) → Gap → Gap
-nextGap due a g = later (g.ticks + 1) (gap_of due a g.remainder)
+unfoldable pub next_gap : (due a : ℕ) → Gap → Gap
+next_gap due a g = later (g.ticks + 1) (gap_of due a g.remainder)
 
 -- the remainder after n ticks, none of which does the gap's cycle: the feeds from there to the cycle are taken off again
-unfoldable pub remainderAt : (due a : ℕ) → Gap → (n : ℕ) → ℕ
-remainderAt due a g n = g.remainder + due - (g.ticks + 1 - n) * a
+unfoldable pub remainder_at : (due a : ℕ) → Gap → (n : ℕ) → ℕ
+remainder_at due a g n = g.remainder + due - (g.ticks + 1 - n) * a
 
 -- n where a is below b, else 0; and a number chosen by the move
-abbrev pub ifLess : (a b n : ℕ) → ℕ
-ifLess a b n = cond (ltb a b) n 0
+abbrev pub if_less : (a b n : ℕ) → ℕ
+if_less a b n = cond (ltb a b) n 0
 
-abbrev pub byMove : Move → (straight diagonal : ℕ) → ℕ
-byMove Rise straight diagonal = straight
-byMove Slant straight diagonal = diagonal
-byMove Fall straight diagonal = straight
+abbrev pub by_move : Move → (straight diagonal : ℕ) → ℕ
+by_move Rise straight diagonal = straight
+by_move Slant straight diagonal = diagonal
+by_move Fall straight diagonal = straight
 
 -- what `remainder_at` asks: n ticks are no more than lead to the cycle, and the sums fit
 pub record Before (due a : ℕ) (g : Gap) (n : ℕ) : Type 0 where
@@ -47,11 +47,11 @@ pub record ArcGap (q0 a : ℕ) (straight diagonal : Divided) (g : Gap) : Type 0 
   pub some : 1 ≤ a
   pub most : a ≤ 1000 * q0
   pub capacity : q0 ≤ 1200000000
-  pub is-straight : straight ≡ dividedOf (1000 * q0) a
-  pub is-diagonal : diagonal ≡ dividedOf (1414 * q0) a
+  pub is_straight : straight ≡ divided_of (1000 * q0) a
+  pub is_diagonal : diagonal ≡ divided_of (1414 * q0) a
   pub rest : g.remainder ≤ 1696800000000
   pub early : g.ticks + 4000000000000 < 2 ^ 64
 
 -- a buffer with its first n bytes made 0
-unfoldable pub clearedOf : (n : ℕ) (out : List ℕ) → List ℕ
-clearedOf n out = replicate n 0 ++ drop n out
+unfoldable pub cleared_of : (n : ℕ) (out : List ℕ) → List ℕ
+cleared_of n out = replicate n 0 ++ drop n out

@@ -5,31 +5,31 @@ use Rattle.std.proofs.Common.{ap₂, ◌∙◌, lt_of_mul-lt-mul_right, le_antis
 use Rattle.std.proofs.Math.Nat.{lt-div-mul-add}
 use Rattle.circle.specs.declared.step.Move.{Move}
 use Rattle.circle.specs.declared.step.Move.TheVariants.{Rise, Slant, Fall}
-use Rattle.circle.specs.computed.Charge.{moveCharge}
+use Rattle.circle.specs.computed.Charge.{move_charge}
 use Rattle.divider.specs.laws.Last.{Due}
 use Rattle.work.specs.computed.Sound.{Feed}
 use Rattle.run.specs.declared.gap.Gap.{Gap}
 use Rattle.run.specs.declared.gap.Divided.{Divided}
-use Rattle.run.specs.computed.Gap.{gap_of, dividedOf, later, nextGap, ifLess, byMove}
+use Rattle.run.specs.computed.Gap.{gap_of, divided_of, later, next_gap, if_less, by_move}
 
 -- the gap is the divider's
 abbrev pub DueGap : (due a r : ℕ) → Gap → Type 0
 DueGap due a r g = Due due a r g.ticks g.remainder
 
-pub gap-due : (due a r : ℕ) → 1 ≤ a → DueGap due a r (gap_of due a r)
+pub gap_due : (due a r : ℕ) → 1 ≤ a → DueGap due a r (gap_of due a r)
 unfolding gap_of
-gap-due due a r some =
+gap_due due a r some =
     let least = div-mul-le_self (due - 1 - r) a in
     let most = lt-div-mul-add {a = due - 1 - r} some in
     record { before = λ h. omega (arith, mul-le-mul h some); leaves = omega arith }
 
 -- it is no longer than the due
-pub gap-most : (due a r : ℕ) → 1 ≤ a → (gap_of due a r).ticks ≤ due
+pub gap_most : (due a r : ℕ) → 1 ≤ a → (gap_of due a r).ticks ≤ due
 unfolding gap_of
-gap-most due a r some = omega (arith, div-mul-le_self (due - 1 - r) a, mul-le-mul_left ((due - 1 - r) / a) some)
+gap_most due a r some = omega (arith, div-mul-le_self (due - 1 - r) a, mul-le-mul_left ((due - 1 - r) / a) some)
 
-pub due-unique : {due a r : ℕ} {g h : Gap} → DueGap due a r g → DueGap due a r h → g ≡ h
-due-unique {due} {a} {r} {g} {h} p q = same ticks
+pub due_unique : {due a r : ℕ} {g h : Gap} → DueGap due a r g → DueGap due a r h → g ≡ h
+due_unique {due} {a} {r} {g} {h} p q = same ticks
   where
     not_after : (x y : ℕ) → (1 ≤ x → r + x * a < due) → due ≤ r + y * a + a → x ≤ y
     not_after zero y early late = omega arith
@@ -47,8 +47,8 @@ due-unique {due} {a} {r} {g} {h} p q = same ticks
         λ i. record { ticks = e i; remainder = rest i }
 
 -- a cycle leaves a sound remainder: M is 1,414 × q0
-pub gap-sound : {due a r : ℕ} {g : Gap} (M : ℕ) → a ≤ due → due ≤ M → r < M → DueGap due a r g → (r + g.ticks * a < M) × (g.remainder < M)
-gap-sound {due} {a} {r} {g} M l m h d = by g.ticks d.before d.leaves
+pub gap_sound : {due a r : ℕ} {g : Gap} (M : ℕ) → a ≤ due → due ≤ M → r < M → DueGap due a r g → (r + g.ticks * a < M) × (g.remainder < M)
+gap_sound {due} {a} {r} {g} M l m h d = by g.ticks d.before d.leaves
   where
     by : (t : ℕ) → (1 ≤ t → r + t * a < due) → due + g.remainder ≡ r + t * a + a → (r + t * a < M) × (g.remainder < M)
     by zero b e = omega arith
@@ -62,8 +62,8 @@ pub record Parts (due a : ℕ) (d : Divided) : Type 0 where
   pub all : due ≡ d.whole * a + d.over
   pub below : d.over < a
 
-pub parts : {due a : ℕ} {d : Divided} → Feed due a → d ≡ dividedOf due a → Parts due a d
-unfolding dividedOf
+pub parts : {due a : ℕ} {d : Divided} → Feed due a → d ≡ divided_of due a → Parts due a d
+unfolding divided_of
 parts {due} {a} k e =
     let least = div-mul-le_self due a in
     let most = lt-div-mul-add {a = due} k.some in
@@ -75,76 +75,76 @@ parts {due} {a} k e =
     })
 
 -- where the remainder is a tick's sum or more, by a division
-pub next-over : (due a : ℕ) (g : Gap) {x : Gap} → x ≡ gap_of due a g.remainder
-    → record { ticks = g.ticks + 1 + x.ticks; remainder = x.remainder } ≡ nextGap due a g
-unfolding nextGap
-next-over due a g e = ap (later (g.ticks + 1)) e
+pub next_over : (due a : ℕ) (g : Gap) {x : Gap} → x ≡ gap_of due a g.remainder
+    → record { ticks = g.ticks + 1 + x.ticks; remainder = x.remainder } ≡ next_gap due a g
+unfolding next_gap
+next_over due a g e = ap (later (g.ticks + 1)) e
 
 module _ {due a : ℕ} {d : Divided} (k : Feed due a) (w : Parts due a d) where
-  pub whole-most : d.whole ≤ due
-  whole-most = omega (arith, w.all, mul-le-mul_left d.whole k.some)
+  pub whole_most : d.whole ≤ due
+  whole_most = omega (arith, w.all, mul-le-mul_left d.whole k.some)
 
   module _ (g : Gap) (below : g.remainder < a) where
-    gap_is : {next : Gap} → DueGap due a g.remainder next → later (g.ticks + 1) next ≡ nextGap due a g
-    unfolding nextGap
-    gap_is x = ap (later (g.ticks + 1)) (due-unique x (gap-due due a g.remainder k.some))
+    gap_is : {next : Gap} → DueGap due a g.remainder next → later (g.ticks + 1) next ≡ next_gap due a g
+    unfolding next_gap
+    gap_is x = ap (later (g.ticks + 1)) (due_unique x (gap_due due a g.remainder k.some))
 
-    pub next-less : d.over ≤ g.remainder
-        → record { ticks = g.ticks + d.whole; remainder = g.remainder - d.over } ≡ nextGap due a g
-    next-less h =
+    pub next_less : d.over ≤ g.remainder
+        → record { ticks = g.ticks + d.whole; remainder = g.remainder - d.over } ≡ next_gap due a g
+    next_less h =
         let one : d.whole ≡ d.whole - 1 + 1 = omega (arith, w.some) in
         let feeds = ap (λ (x : ℕ). x * a) one in
         ap (λ (t : ℕ). record { ticks = t; remainder = g.remainder - d.over }) (omega arith)
         ∙ gap_is {next = record { ticks = d.whole - 1; remainder = g.remainder - d.over }}
         (record { before = λ m. omega (arith, w.all); leaves = omega (arith, w.all) })
 
-    pub next-whole : g.remainder < d.over
-        → record { ticks = g.ticks + 1 + d.whole; remainder = g.remainder + a - d.over } ≡ nextGap due a g
-    next-whole h = gap_is (record { before = λ m. omega (arith, w.all); leaves = omega (arith, w.below, w.all) })
+    pub next_whole : g.remainder < d.over
+        → record { ticks = g.ticks + 1 + d.whole; remainder = g.remainder + a - d.over } ≡ next_gap due a g
+    next_whole h = gap_is (record { before = λ m. omega (arith, w.all); leaves = omega (arith, w.below, w.all) })
 
     -- both at once
-    pub next-either : record {
-      ticks = g.ticks + d.whole + ifLess g.remainder d.over 1;
-      remainder = g.remainder + ifLess g.remainder d.over a - d.over;
-    } ≡ nextGap due a g
-    next-either = by (ltb g.remainder d.over) refl
+    pub next_either : record {
+      ticks = g.ticks + d.whole + if_less g.remainder d.over 1;
+      remainder = g.remainder + if_less g.remainder d.over a - d.over;
+    } ≡ next_gap due a g
+    next_either = by (ltb g.remainder d.over) refl
       where
         by : (t : Bool) → ltb g.remainder d.over ≡ t
-            → record { ticks = g.ticks + d.whole + cond t 1 0; remainder = g.remainder + cond t a 0 - d.over } ≡ nextGap due a g
+            → record { ticks = g.ticks + d.whole + cond t 1 0; remainder = g.remainder + cond t a 0 - d.over } ≡ next_gap due a g
         by true e =
             let ticks : g.ticks + d.whole + 1 ≡ g.ticks + 1 + d.whole = omega arith in
             ap (λ (n : ℕ). record { ticks = n; remainder = g.remainder + a - d.over }) ticks
-            ∙ next-whole (ltb-true g.remainder d.over e)
+            ∙ next_whole (ltb-true g.remainder d.over e)
         by false e =
             let ticks : g.ticks + d.whole + 0 ≡ g.ticks + d.whole = omega arith in
             let rest : g.remainder + 0 - d.over ≡ g.remainder - d.over = omega arith in
-            ap₂ (λ (n r : ℕ). record { ticks = n; remainder = r }) ticks rest ∙ next-less (ltb-false g.remainder d.over e)
+            ap₂ (λ (n r : ℕ). record { ticks = n; remainder = r }) ticks rest ∙ next_less (ltb-false g.remainder d.over e)
 
     -- and no more is taken off than there is
-    pub over-fits : d.over ≤ g.remainder + ifLess g.remainder d.over a
-    over-fits = by (ltb g.remainder d.over) refl
+    pub over_fits : d.over ≤ g.remainder + if_less g.remainder d.over a
+    over_fits = by (ltb g.remainder d.over) refl
       where
         by : (t : Bool) → ltb g.remainder d.over ≡ t → d.over ≤ g.remainder + cond t a 0
         by true e = omega (arith, w.below)
         by false e = omega (arith, ltb-false g.remainder d.over e)
 
-pub if-less-most : (a b n : ℕ) → ifLess a b n ≤ n
-if-less-most a b n = by (ltb a b)
+pub if_less_most : (a b n : ℕ) → if_less a b n ≤ n
+if_less_most a b n = by (ltb a b)
   where
     by : (t : Bool) → cond t n 0 ≤ n
     by true = omega arith
     by false = omega arith
 
 -- the divided due of a move
-pub by-move-is : (q0 a : ℕ) {straight diagonal : Divided} (m : Move) → straight ≡ dividedOf (1000 * q0) a
-    → diagonal ≡ dividedOf (1414 * q0) a
-    → record { whole = byMove m straight.whole diagonal.whole; over = byMove m straight.over diagonal.over }
-    ≡ dividedOf (moveCharge m * q0) a
-by-move-is q0 a Rise e f = e
-by-move-is q0 a Slant e f = f
-by-move-is q0 a Fall e f = e
+pub by_move_is : (q0 a : ℕ) {straight diagonal : Divided} (m : Move) → straight ≡ divided_of (1000 * q0) a
+    → diagonal ≡ divided_of (1414 * q0) a
+    → record { whole = by_move m straight.whole diagonal.whole; over = by_move m straight.over diagonal.over }
+    ≡ divided_of (move_charge m * q0) a
+by_move_is q0 a Rise e f = e
+by_move_is q0 a Slant e f = f
+by_move_is q0 a Fall e f = e
 
-pub move-due : (q0 : ℕ) (m : Move) → (1000 * q0 ≤ moveCharge m * q0) × (moveCharge m * q0 ≤ 1414 * q0)
-move-due q0 Rise = omega arith
-move-due q0 Slant = omega arith
-move-due q0 Fall = omega arith
+pub move_due : (q0 : ℕ) (m : Move) → (1000 * q0 ≤ move_charge m * q0) × (move_charge m * q0 ≤ 1414 * q0)
+move_due q0 Rise = omega arith
+move_due q0 Slant = omega arith
+move_due q0 Fall = omega arith

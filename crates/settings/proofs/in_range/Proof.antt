@@ -6,8 +6,8 @@ use Rattle.settings.proofs.in_range.Tie as tie
 returns : tie.Need-returns
 returns c = simp (lt-leb _ _ c.if1.true)
 
-returns-2 : tie.Need-returns-2
-returns-2 c = simp (le-leb _ _ c.if1.false)
+returns_2 : tie.Need-returns-2
+returns_2 c = simp (le-leb _ _ c.if1.false)
 
-pub in-range-spec : {M : Type 1} → statement M
-in-range-spec = tie.close (tie.spec returns returns-2)
+pub in_range_spec : {M : Type 1} → statement M
+in_range_spec = tie.close (tie.spec returns returns_2)

@@ -9,13 +9,13 @@ use Rattle.run.specs.computed.Run.{written}
 use Rattle.bench.specs.declared.Bench.{Bench}
 use Rattle.bench.specs.declared.Ran.{Ran}
 use Rattle.bench.specs.computed.Run.{run_of}
-use Rattle.bench.specs.laws.Run.{ticks-are}
+use Rattle.bench.specs.laws.Run.{ticks_are}
 use Rattle.job.specs.computed.Check.{enough}
-use Rattle.job.specs.laws.Fill.{less-to-come}
+use Rattle.job.specs.laws.Fill.{less_to_come}
 use Rattle.stream.specs.declared.Stream.{Stream}
 use Rattle.stream.specs.declared.Filled.{Filled}
-use Rattle.stream.specs.computed.Stream.{linesBytes, rest_of, atMachine, NextLine, Fills}
-use Rattle.stream.specs.laws.Pieces.{pieces, no-tick, run_fits, nothing_left}
+use Rattle.stream.specs.computed.Stream.{lines_bytes, rest_of, at_machine, NextLine, Fills}
+use Rattle.stream.specs.laws.Pieces.{pieces, no_tick_lem, run_fits, nothing_left}
 
 -- lines that made no tick: of the stream that began as t, with the buffer as old
 pub record Reading (t : Stream) (text old new : List ℕ) (stream : Stream) : Type 0 where
@@ -29,8 +29,8 @@ fill_none t text old none = record { bytes = refl; later = refl; room = omega ar
 
 module _ {t : Stream} {text old new : List ℕ} {stream : Stream} (g : Reading t text old new stream) where
   -- all is handed out
-  pub fill-over : stream.over ≡ true → Fills t text old (record { len = 0; stream = stream }) new
-  fill-over over =
+  pub fill_over : stream.over ≡ true → Fills t text old (record { len = 0; stream = stream }) new
+  fill_over over =
       record { bytes = g.rest; later = g.same; room = omega arith; onward = λ room going. absurd (true≢false (sym over ∙ going)) }
 
   module _ {x : Ran} {after : List ℕ} (going : stream.over ≡ false) (ran : x ≡ (run_of stream.bench enough (length new)).ran)
@@ -39,14 +39,14 @@ module _ {t : Stream} {text old new : List ℕ} {stream : Stream} (g : Reading t
     bytes = (run_of stream.bench enough (length new)).bytes
 
     abbrev lines : Bench → List ℕ
-    lines m = linesBytes m stream.reader stream.at text
+    lines m = lines_bytes m stream.reader stream.at text
 
     many : x.ticks ≡ length bytes
-    many = ap (λ (r : Ran). r.ticks) ran ∙ ticks-are stream.bench enough (length new)
+    many = ap (λ (r : Ran). r.ticks) ran ∙ ticks_are stream.bench enough (length new)
 
-    pub fill-some : 0 < x.ticks → Fills t text old (record { len = x.ticks; stream = atMachine stream x.bench }) after
+    pub fill_some : 0 < x.ticks → Fills t text old (record { len = x.ticks; stream = at_machine stream x.bench }) after
     unfolding rest_of written
-    fill-some some =
+    fill_some some =
         let p = pieces stream.bench (length new) lines in
         let b : length bytes ≤ length old = omega (arith, run_fits stream.bench (length new), ap length g.same) in
         record {
@@ -56,11 +56,11 @@ module _ {t : Stream} {text old new : List ℕ} {stream : Stream} (g : Reading t
           onward = λ room on. some;
         }
 
-    pub read-on : x.ticks ≤ 0 → {next : Stream} → NextLine stream text next → Reading t text old after next
+    pub read_on_lem : x.ticks ≤ 0 → {next : Stream} → NextLine stream text next → Reading t text old after next
     unfolding rest_of written
-    read-on none n =
+    read_on_lem none n =
         let zero : (run_of stream.bench enough (length new)).ran.ticks ≡ 0 = sym (ap (λ (r : Ran). r.ticks) ran) ∙ omega arith in
-        let s = no-tick stream.bench (length new) (omega (arith, g.room, ap length g.same)) zero in
+        let s = no_tick_lem stream.bench (length new) (omega (arith, g.room, ap length g.same)) zero in
         record {
           rest = n.rest ∙ sym (nothing_left stream.bench lines s) ∙ rw going at g.rest;
           same = (rw (s enough (length new)).0 at wrote) ∙ g.same;
@@ -69,12 +69,12 @@ module _ {t : Stream} {text old new : List ℕ} {stream : Stream} (g : Reading t
 
 -- ---- for programs that fill a buffer until all is handed out
 
-abbrev pub toCome : Stream → (text : List ℕ) → ℕ
-toCome t text = cond t.over 0 (suc (length (rest_of t text)))
+abbrev pub to_come : Stream → (text : List ℕ) → ℕ
+to_come t text = cond t.over 0 (suc (length (rest_of t text)))
 
-pub fill-less : {t : Stream} {text old new : List ℕ} {f : Filled} → Fills t text old f new → 1 ≤ length old → length new ≡ length old
+pub fill_less : {t : Stream} {text old new : List ℕ} {f : Filled} → Fills t text old f new → 1 ≤ length old → length new ≡ length old
     → t.over ≡ false
-    → toCome f.stream text < toCome t text
-fill-less {t} {text} {new = new} {f = f} fill room long going =
-    subst (λ (over : Bool). toCome f.stream text < cond over 0 (suc (length (rest_of t text)))) (sym going)
-    (less-to-come f.len new (rest_of f.stream text) f.stream.over fill.bytes (omega (arith, fill.room)) (fill.onward room))
+    → to_come f.stream text < to_come t text
+fill_less {t} {text} {new = new} {f = f} fill room long going =
+    subst (λ (over : Bool). to_come f.stream text < cond over 0 (suc (length (rest_of t text)))) (sym going)
+    (less_to_come f.len new (rest_of f.stream text) f.stream.over fill.bytes (omega (arith, fill.room)) (fill.onward room))

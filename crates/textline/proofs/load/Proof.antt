@@ -4,29 +4,29 @@ use mathlib.Core.Path.{◌∙◌}
 use Rattle.textline.proofs.load.Statement.{statement}
 use Rattle.textline.proofs.load.Tie as tie
 
-load-requires : tie.Need-load-requires
-load-requires c κs = search rules
+load_requires : tie.Need-load-requires
+load_requires c κs = search rules
 
 enum_told : tie.Need-enum-told
 enum_told c = search rules
 
-enum-known-answer : tie.Need-enum-known-answer
-enum-known-answer c = search rules
+enum_known_answer : tie.Need-enum-known-answer
+enum_known_answer c = search rules
 
-enum-known-answer-2 : tie.Need-enum-known-answer-2
-enum-known-answer-2 c = search rules
+enum_known_answer_2 : tie.Need-enum-known-answer-2
+enum_known_answer_2 c = search rules
 
-refused-requires : tie.Need-refused-requires
-refused-requires c κs = search rules
+refused_requires : tie.Need-refused-requires
+refused_requires c κs = search rules
 
 returns : tie.Need-returns
 returns c = rw (← c.before.before.before.load.ensures, c.enum_told.given.1)
 
-returns-2 : tie.Need-returns-2
-returns-2 c = rw (← c.before.before.before.before.load.ensures, c.before.answer.given.1)
+returns_2 : tie.Need-returns-2
+returns_2 c = rw (← c.before.before.before.before.load.ensures, c.before.answer.given.1)
 
-returns-3 : tie.Need-returns-3
-returns-3 c =
+returns_3 : tie.Need-returns-3
+returns_3 c =
     let a = c.before.before in
     c.refused.ensures ∙ rw (← a.before.before.before.load.ensures, a.answer2.given.1)
 
@@ -34,11 +34,11 @@ pub load_spec : {M : Type 1} → statement M
 load_spec =
     tie.close
     (tie.spec
-    load-requires
+    load_requires
     enum_told
-    enum-known-answer
-    enum-known-answer-2
-    refused-requires
+    enum_known_answer
+    enum_known_answer_2
+    refused_requires
     returns
-    returns-2
-    returns-3)
+    returns_2
+    returns_3)

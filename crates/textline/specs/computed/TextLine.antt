@@ -1,9 +1,9 @@
 -- 01, Questions, "Job text": one line of a job, read at a machine.
 use Rattle.std.specs.Prelude.{cond, List, ℕ, length}
-use Rattle.words.specs.computed.Meaning.{meaningOf}
+use Rattle.words.specs.computed.Meaning.{meaning_of}
 use Rattle.bench.specs.declared.Answer.{Answer}
 use Rattle.machine.specs.declared.Machine.{Machine}
-use Rattle.machine.specs.computed.Machine.{soundOf}
+use Rattle.machine.specs.computed.Machine.{sound_of}
 use Rattle.machine.specs.Machine.{start_of}
 use Rattle.machine.specs.computed.Calls.{load_of}
 use Rattle.reader.specs.declared.Reader.{Reader}
@@ -32,10 +32,10 @@ abbrev pub taken_of : (before : Reader) → Machine → Asked → ReadLine
 taken_of k m a = takes k a.reader m a.asks
 
 -- "Any call on a record: is it sound? 9." 02 §3: "what a text line leaves out, start from the end of the last waiting block, else of the
--- block in work, else from the point; a straight text line to that place makes no block." `meaningOf` is the one answer about the bytes
+-- block in work, else from the point; a straight text line to that place makes no block." `meaning_of` is the one answer about the bytes
 -- that the grammar allows.
-unfoldable pub readLineOf : Reader → Machine → (bytes : List ℕ) → ReadLine
-readLineOf k m bytes =
+unfoldable pub read_line_of : Reader → Machine → (bytes : List ℕ) → ReadLine
+read_line_of k m bytes =
     let start = start_of m.bench m.queue in
-    cond (soundOf m) (taken_of k m (asked_of m.bench.settings.scale k start (length bytes) (meaningOf bytes)))
+    cond (sound_of m) (taken_of k m (asked_of m.bench.settings.scale k start (length bytes) (meaning_of bytes)))
     (reads (Read.Refused 9) k m)

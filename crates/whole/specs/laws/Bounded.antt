@@ -4,7 +4,7 @@ use Rattle.std.specs.Prelude.{◌≡◌, Bool, ◌&&◌, ℕ, ◌+◌, ◌*◌, 
 use Rattle.std.proofs.Common.{le_refl, mul-le-mul, lt_of_le_of_lt, arith, ltb→lt, SFits, to_z, of_z, to_z-of_z}
 use Rattle.std.specs.Int.{w64}
 use Rattle.std.proofs.Math.Facts.{and_yes}
-use Rattle.whole.specs.laws.Order.{abs-add, abs-sub, abs-mul, abs-fits}
+use Rattle.whole.specs.laws.Order.{abs_add, abs_sub, abs_mul, abs_fits}
 
 infixl 20 ◌⊞◌ ◌⊟◌
 infixl 21 ◌⊠◌
@@ -46,12 +46,12 @@ small (e ⊠ f) = ltb (bound e * bound f) (2 ^ 63) && (small e && small f)
 pub bounded : (e : Code) → nat_abs (means e) ≤ bound e
 bounded (at z m h) = h
 bounded (lit n) = le_refl n
-bounded (e ⊞ f) = omega (arith, abs-add (means e) (means f), bounded e, bounded f)
-bounded (e ⊟ f) = omega (arith, abs-sub (means e) (means f), bounded e, bounded f)
-bounded (e ⊠ f) = rw abs-mul (mul-le-mul (bounded e) (bounded f))
+bounded (e ⊞ f) = omega (arith, abs_add (means e) (means f), bounded e, bounded f)
+bounded (e ⊟ f) = omega (arith, abs_sub (means e) (means f), bounded e, bounded f)
+bounded (e ⊠ f) = rw abs_mul (mul-le-mul (bounded e) (bounded f))
 
 pub under : (e : Code) → T (ltb (bound e) (2 ^ 63)) → SFits w64 (means e)
-under e t = abs-fits (means e) (lt_of_le_of_lt (bounded e) (ltb→lt (bound e) (2 ^ 63) t))
+under e t = abs_fits (means e) (lt_of_le_of_lt (bounded e) (ltb→lt (bound e) (2 ^ 63) t))
 
 -- the test of a compound, taken apart: its own bound, and its two sides
 apart : (own left right : Bool) → T (own && (left && right)) → T own × T left × T right

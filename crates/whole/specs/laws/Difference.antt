@@ -70,9 +70,9 @@ pub size : {z : ℤ} {p n : ℕ} → Difference z p n → nat_abs z ≤ p + n
 size {z = pos a} h = omega arith
 size {z = negsuc a} h = omega arith
 
-pub size-up : {z : ℤ} {p n : ℕ} → Difference z p n → n ≤ p → nat_abs z + n ≡ p
-size-up {z = pos a} h l = omega arith
-size-up {z = negsuc a} h l = absurd (omega arith)
+pub size_up : {z : ℤ} {p n : ℕ} → Difference z p n → n ≤ p → nat_abs z + n ≡ p
+size_up {z = pos a} h l = omega arith
+size_up {z = negsuc a} h l = absurd (omega arith)
 
 -- ---- expressions
 

@@ -7,11 +7,11 @@ use Rattle.std.proofs.Math.Decide.{dec_le}
 pub square_le : {m n : ℕ} → m ≤ n → m * m ≤ n * n
 square_le h = mul-le-mul h h
 
-pub square-lt : (m n : ℕ) → m * m < n * n → m < n
-square-lt m n h = lt_of_not-le (λ g. not-le_of_lt h (square_le g))
+pub square_lt : (m n : ℕ) → m * m < n * n → m < n
+square_lt m n h = lt_of_not-le (λ g. not-le_of_lt h (square_le g))
 
-pub root-le : (m n : ℕ) → m * m ≤ n * n → m ≤ n
-root-le m n h = by (dec_le m n)
+pub root_le : (m n : ℕ) → m * m ≤ n * n → m ≤ n
+root_le m n h = by (dec_le m n)
   where
     step : n < m → m ≤ n
     step g = omega (arith, mul-le-mul g g)
@@ -21,8 +21,8 @@ root-le m n h = by (dec_le m n)
     by (no f) = step (lt_of_not-le f)
 
 -- one number further on
-pub next-square : {m n : ℕ} → m < n → m * m + m + n ≤ n * n
-next-square {m} {n} h = let d = le_dest h in omega (arith, ap (λ (t : ℕ). t * t) d.1, ap (λ (t : ℕ). m * t) d.1)
+pub next_square : {m n : ℕ} → m < n → m * m + m + n ≤ n * n
+next_square {m} {n} h = let d = le_dest h in omega (arith, ap (λ (t : ℕ). t * t) d.1, ap (λ (t : ℕ). m * t) d.1)
 
 -- twice a product is at most the sum of the two squares
 pub products : (a b : ℕ) → 2 * (a * b) ≤ a * a + b * b

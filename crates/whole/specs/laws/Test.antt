@@ -1,10 +1,10 @@
 -- Tests joined by `&&`, taken apart and put together; the test of equality.
 use Rattle.std.specs.Prelude.{◌≡◌, refl, Bool, true, false, ◌&&◌, T, eqb, ℤ, pos, negsuc, ◌+ℤ◌, ◌-ℤ◌}
 use Rattle.std.proofs.Common.{sym, ap, subst, arith, eqb-true, eq-eqb, SFits, of_z}
-use Rattle.whole.specs.Equal.{equalZ}
+use Rattle.whole.specs.Equal.{equal_z}
 use Rattle.whole.specs.laws.Difference.{ring, var, ◌⊕◌, ◌⊖◌}
 use Rattle.std.specs.Int.{w64}
-use Rattle.whole.specs.laws.Order.{bits-equal}
+use Rattle.whole.specs.laws.Order.{bits_equal}
 
 pub both : {a b : Bool} → (a && b) ≡ true → (a ≡ true) × (b ≡ true)
 both {a = true} {b = true} e = (refl, refl)
@@ -19,15 +19,15 @@ pub refuted : (t : Bool) → (t ≡ true → ⊥) → t ≡ false
 refuted true f = absurd (f refl)
 refuted false f = refl
 
-pub equal-true : (x y : ℤ) → equalZ x y ≡ true → x ≡ y
-equal-true (pos a) (pos b) e = ap pos (eqb-true a b e)
-equal-true (pos a) (negsuc b) e = absurd (subst T (sym e) tt)
-equal-true (negsuc a) (pos b) e = absurd (subst T (sym e) tt)
-equal-true (negsuc a) (negsuc b) e = ap negsuc (eqb-true a b e)
+pub equal_true : (x y : ℤ) → equal_z x y ≡ true → x ≡ y
+equal_true (pos a) (pos b) e = ap pos (eqb-true a b e)
+equal_true (pos a) (negsuc b) e = absurd (subst T (sym e) tt)
+equal_true (negsuc a) (pos b) e = absurd (subst T (sym e) tt)
+equal_true (negsuc a) (negsuc b) e = ap negsuc (eqb-true a b e)
 
-pub equal-same : (x : ℤ) → equalZ x x ≡ true
-equal-same (pos a) = eq-eqb a a refl
-equal-same (negsuc a) = eq-eqb a a refl
+pub equal_same : (x : ℤ) → equal_z x x ≡ true
+equal_same (pos a) = eq-eqb a a refl
+equal_same (negsuc a) = eq-eqb a a refl
 
 -- two tests that imply one another are the same
 pub same_test : {a b : Bool} → (a ≡ true → b ≡ true) → (b ≡ true → a ≡ true) → a ≡ b
@@ -37,21 +37,21 @@ same_test {a = false} {b = true} f g = g refl
 same_test {a = false} {b = false} f g = refl
 
 -- from a place further on
-pub equal-moved : (v s m : ℤ) → equalZ (v -ℤ s) m ≡ equalZ v (s +ℤ m)
-equal-moved v s m = same_test to from
+pub equal_moved : (v s m : ℤ) → equal_z (v -ℤ s) m ≡ equal_z v (s +ℤ m)
+equal_moved v s m = same_test to from
   where
-    to : equalZ (v -ℤ s) m ≡ true → equalZ v (s +ℤ m) ≡ true
-    to e = rw (← equal-true (v -ℤ s) m e, ring (var s ⊕ (var v ⊖ var s)) (var v) (omega arith)) (equal-same v)
+    to : equal_z (v -ℤ s) m ≡ true → equal_z v (s +ℤ m) ≡ true
+    to e = rw (← equal_true (v -ℤ s) m e, ring (var s ⊕ (var v ⊖ var s)) (var v) (omega arith)) (equal_same v)
 
-    from : equalZ v (s +ℤ m) ≡ true → equalZ (v -ℤ s) m ≡ true
-    from e = rw (equal-true v (s +ℤ m) e, ring (var s ⊕ var m ⊖ var s) (var m) (omega arith)) (equal-same m)
+    from : equal_z v (s +ℤ m) ≡ true → equal_z (v -ℤ s) m ≡ true
+    from e = rw (equal_true v (s +ℤ m) e, ring (var s ⊕ var m ⊖ var s) (var m) (omega arith)) (equal_same m)
 
 -- `==` on signed numbers compares their bits
-pub equal-bits : {x y : ℤ} → SFits w64 x → SFits w64 y → eqb (of_z w64 x) (of_z w64 y) ≡ equalZ x y
-equal-bits {x} {y} fx fy = same_test to from
+pub equal_bits : {x y : ℤ} → SFits w64 x → SFits w64 y → eqb (of_z w64 x) (of_z w64 y) ≡ equal_z x y
+equal_bits {x} {y} fx fy = same_test to from
   where
-    to : eqb (of_z w64 x) (of_z w64 y) ≡ true → equalZ x y ≡ true
-    to e = rw (bits-equal fx fy (eqb-true _ _ e)) (equal-same y)
+    to : eqb (of_z w64 x) (of_z w64 y) ≡ true → equal_z x y ≡ true
+    to e = rw (bits_equal fx fy (eqb-true _ _ e)) (equal_same y)
 
-    from : equalZ x y ≡ true → eqb (of_z w64 x) (of_z w64 y) ≡ true
-    from e = eq-eqb _ _ (ap (of_z w64) (equal-true x y e))
+    from : equal_z x y ≡ true → eqb (of_z w64 x) (of_z w64 y) ≡ true
+    from e = eq-eqb _ _ (ap (of_z w64) (equal_true x y e))

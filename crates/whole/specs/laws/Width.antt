@@ -4,11 +4,11 @@ use Rattle.std.proofs.Common.{◌∙◌, ap, pow-suc, lt_of_not-le, lt_of_lt_of_
 use Rattle.std.proofs.Math.Decide.{dec_le}
 use Rattle.std.specs.Int.Count.{count_leading_zeros}
 use Rattle.std.proofs.lemmas.Nat.{leading_length}
-use Rattle.whole.specs.Root.{nearestRoot}
+use Rattle.whole.specs.Root.{nearest_root}
 use Rattle.whole.specs.Width.{width_of}
-use Rattle.whole.specs.laws.First.{Least, unique, first-least}
-use Rattle.whole.specs.laws.Root.{nearest-above, nearest-least, nearest-over}
-use Rattle.whole.specs.laws.Squares.{square-lt}
+use Rattle.whole.specs.laws.First.{Least, unique, first_least}
+use Rattle.whole.specs.laws.Root.{nearest_above, nearest_least, nearest_over}
+use Rattle.whole.specs.laws.Squares.{square_lt}
 
 below_power : (n : ℕ) → n < 2 ^ n
 below_power zero = omega arith
@@ -16,7 +16,7 @@ below_power (suc n) = omega (arith, below_power n, pow-suc 2 n)
 
 first_width : (n : ℕ) → Least (λ w. ltb n (2 ^ w)) (width_of n)
 unfolding width_of
-first_width n = first-least (λ w. ltb n (2 ^ w)) n 0 (lt→ltb n _ (omega (arith, below_power n, ap (λ (t : ℕ). 2 ^ t) (zero-add n))))
+first_width n = first_least (λ w. ltb n (2 ^ w)) n 0 (lt→ltb n _ (omega (arith, below_power n, ap (λ (t : ℕ). 2 ^ t) (zero-add n))))
     (λ j t. omega arith)
 
 -- a width that holds n, and of which half the numbers are too few
@@ -33,20 +33,20 @@ width_is {n} {w} holds needed =
         by (no f) = absurd (omega (arith, pow_mono (lt_of_not-le f), pow-suc 2 k))
 
 -- in a word of `bits` bits
-pub width-by-zeros : (bits n : ℕ) → n < 2 ^ bits → bits - count_leading_zeros bits n ≡ width_of n
-width-by-zeros bits n h =
+pub width_by_zeros : (bits n : ℕ) → n < 2 ^ bits → bits - count_leading_zeros bits n ≡ width_of n
+width_by_zeros bits n h =
     let l = leading_length bits n h in
     let same : bits - count_leading_zeros bits n ≡ l.0 = omega (arith, l.1) in
     same ∙ width_is l.2 l.3
 
-pub width-holds : (n : ℕ) → n < 2 ^ width_of n
-width-holds n = ltb→lt n _ (first_width n).passes
+pub width_holds : (n : ℕ) → n < 2 ^ width_of n
+width_holds n = ltb→lt n _ (first_width n).passes
 
-pub width-least : (n w : ℕ) → n < 2 ^ w → width_of n ≤ w
-width-least n w h = (first_width n).least w (lt→ltb n (2 ^ w) h)
+pub width_least : (n w : ℕ) → n < 2 ^ w → width_of n ≤ w
+width_least n w h = (first_width n).least w (lt→ltb n (2 ^ w) h)
 
-pub width-needed : (n : ℕ) → 2 ^ width_of n ≤ 2 * n + 1
-width-needed n = let l = leading_length n n (below_power n) in rw (← width_is l.2 l.3) l.3
+pub width_needed : (n : ℕ) → 2 ^ width_of n ≤ 2 * n + 1
+width_needed n = let l = leading_length n n (below_power n) in rw (← width_is l.2 l.3) l.3
 
 -- ---- the width of the nearest root, by one product: half that of n, rounded up, or one more
 
@@ -55,24 +55,24 @@ before zero = refl
 before (suc t) = let e : suc t - 1 ≡ t = omega arith in rw e (omega arith)
 
 module _ (n half : ℕ) (is : half ≡ (width_of n + 1) / 2) where
-  below-square : n < 2 ^ half * 2 ^ half
-  below-square = lt_of_lt_of_le (width-holds n) (rw (← pow-add 2 half half) (pow_mono (omega arith)))
+  below_square : n < 2 ^ half * 2 ^ half
+  below_square = lt_of_lt_of_le (width_holds n) (rw (← pow-add 2 half half) (pow_mono (omega arith)))
 
-  square-needed : 2 ^ half * 2 ^ half ≤ 4 * n + 2
-  square-needed =
+  square_needed : 2 ^ half * 2 ^ half ≤ 4 * n + 2
+  square_needed =
       rw (← pow-add 2 half half)
-      (le_trans (pow_mono {i = half + half} {j = suc (width_of n)} (omega arith)) (omega (arith, pow-suc 2 (width_of n), width-needed n)))
+      (le_trans (pow_mono {i = half + half} {j = suc (width_of n)} (omega arith)) (omega (arith, pow-suc 2 (width_of n), width_needed n)))
 
-  half-needed : 2 ^ half ≤ 2 * nearestRoot n + 1
-  half-needed = omega (arith, square-lt (2 ^ half) (2 * nearestRoot n + 2) (omega (arith, square-needed, nearest-above n)))
+  half_needed : 2 ^ half ≤ 2 * nearest_root n + 1
+  half_needed = omega (arith, square_lt (2 ^ half) (2 * nearest_root n + 2) (omega (arith, square_needed, nearest_above n)))
 
-  pub root-width-half : n ≤ (2 ^ half - 1) * 2 ^ half → half ≡ width_of (nearestRoot n)
-  root-width-half h =
-      let small = nearest-least n (2 ^ half - 1) (omega (arith, before (2 ^ half))) in
-      width_is (omega (arith, pow_pos half)) half-needed
+  pub root_width_half : n ≤ (2 ^ half - 1) * 2 ^ half → half ≡ width_of (nearest_root n)
+  root_width_half h =
+      let small = nearest_least n (2 ^ half - 1) (omega (arith, before (2 ^ half))) in
+      width_is (omega (arith, pow_pos half)) half_needed
 
-  pub root-width-more : (2 ^ half - 1) * 2 ^ half < n → half + 1 ≡ width_of (nearestRoot n)
-  root-width-more h =
-      let large = nearest-over n (2 ^ half - 1) (omega (arith, before (2 ^ half))) in
-      let small = nearest-least n (2 ^ half) (omega (arith, below-square)) in
+  pub root_width_more : (2 ^ half - 1) * 2 ^ half < n → half + 1 ≡ width_of (nearest_root n)
+  root_width_more h =
+      let large = nearest_over n (2 ^ half - 1) (omega (arith, before (2 ^ half))) in
+      let small = nearest_least n (2 ^ half) (omega (arith, below_square)) in
       rw (add-one half) (width_is (rw (pow-suc 2 half) (omega (arith, pow_pos half))) (rw (pow-suc 2 half) (omega arith)))

@@ -4,40 +4,40 @@ use Rattle.letters.specs.declared.letter.Letter.{Letter}
 use Rattle.letters.specs.declared.letter.Named.{Named}
 use Rattle.letters.specs.declared.letter.Named.TheVariants.{Is, Other}
 use Rattle.letters.specs.declared.word.Words.{Words}
-use Rattle.letters.specs.Letter.{takesSign, takesPoint}
+use Rattle.letters.specs.Letter.{takes_sign, takes_point}
 use Rattle.letters.specs.Word.{one_word}
-use Rattle.letters.specs.computed.Scan.{letterOf, noWords}
+use Rattle.letters.specs.computed.Scan.{letter_of, no_words}
 use Rattle.letters.specs.laws.Scan.{put_of}
 use Rattle.words.specs.declared.digits.Digits.{Digits}
 use Rattle.words.specs.declared.number.Sign.{Sign}
 use Rattle.words.specs.declared.number.Amount.{Amount}
 use Rattle.words.specs.declared.number.Number.{Number}
 use Rattle.words.specs.declared.line.Line.{Line}
-use Rattle.words.specs.Meaning.{answer_of, notWords}
+use Rattle.words.specs.Meaning.{answer_of, not_words}
 
 -- ---- digits
 
 -- after its last byte a line has a blank more
-abbrev pub firstByte : List ℕ → ℕ
-firstByte [] = 32
-firstByte (b ∷ s) = b
+abbrev pub first_byte : List ℕ → ℕ
+first_byte [] = 32
+first_byte (b ∷ s) = b
 
-abbrev pub isDigit : ℕ → Bool
-isDigit b = cond (ltb b 48) false (leb b 57)
+abbrev pub is_digit : ℕ → Bool
+is_digit b = cond (ltb b 48) false (leb b 57)
 
 abbrev pub digits : (value count : ℕ) → Digits
 digits v k = record { value = v; count = k }
 
-abbrev pub pushOf : Digits → ℕ → Digits
-pushOf d b = digits (d.value * 10 + (b - 48)) (d.count + 1)
+abbrev pub push_of : Digits → ℕ → Digits
+push_of d b = digits (d.value * 10 + (b - 48)) (d.count + 1)
 
 -- the digits that the bytes begin with, after those of d, until there are so many
-abbrev pub moreDigits : (most : ℕ) → Digits → List ℕ → Digits
-moreDigits most d [] = d
-moreDigits most d (b ∷ s) = let more = moreDigits most (pushOf d b) s in cond (isDigit b && ltb d.count most) more d
+abbrev pub more_digits : (most : ℕ) → Digits → List ℕ → Digits
+more_digits most d [] = d
+more_digits most d (b ∷ s) = let more = more_digits most (push_of d b) s in cond (is_digit b && ltb d.count most) more d
 
-abbrev pub digitsOf : (most value : ℕ) → List ℕ → Digits
-digitsOf most v s = moreDigits most (digits v 0) s
+abbrev pub digits_of : (most value : ℕ) → List ℕ → Digits
+digits_of most v s = more_digits most (digits v 0) s
 
 -- ---- the number of a word
 
@@ -51,29 +51,29 @@ abbrev pub amount : (right : Bool) (value bytes : ℕ) → Amount
 amount r v k = record { right = r; value = v; bytes = k }
 
 -- the digits w, a point, and the digits d
-abbrev pub pointedOf : (w d : Digits) → Amount
-pointedOf w d = amount (leb 1 d.count) (d.value * 10 ^ (3 - d.count)) (w.count + 1 + d.count)
+abbrev pub pointed_of : (w d : Digits) → Amount
+pointed_of w d = amount (leb 1 d.count) (d.value * 10 ^ (3 - d.count)) (w.count + 1 + d.count)
 
 -- fine: in thousandths, with a point or without
-abbrev pub amountAfter : (fine : Bool) → Digits → (rest : List ℕ) → Amount
-amountAfter false w s = amount true w.value w.count
-amountAfter true w s =
-    cond (eqb (firstByte s) 46) (pointedOf w (digitsOf 3 w.value (drop 1 s))) (amount true (w.value * 1000) w.count)
+abbrev pub amount_after : (fine : Bool) → Digits → (rest : List ℕ) → Amount
+amount_after false w s = amount true w.value w.count
+amount_after true w s =
+    cond (eqb (first_byte s) 46) (pointed_of w (digits_of 3 w.value (drop 1 s))) (amount true (w.value * 1000) w.count)
 
-abbrev pub amountWith : (fine : Bool) → Digits → List ℕ → Amount
-amountWith fine w s = cond (ltb w.count 1) (amount false 0 0) (amountAfter fine w (drop w.count s))
+abbrev pub amount_with : (fine : Bool) → Digits → List ℕ → Amount
+amount_with fine w s = cond (ltb w.count 1) (amount false 0 0) (amount_after fine w (drop w.count s))
 
-abbrev pub amountOf : (fine : Bool) → List ℕ → Amount
-amountOf fine s = amountWith fine (digitsOf 7 0 s) s
+abbrev pub amount_of : (fine : Bool) → List ℕ → Amount
+amount_of fine s = amount_with fine (digits_of 7 0 s) s
 
 abbrev pub with_sign : Sign → Amount → Number
 with_sign g m = record { right = m.right; negative = g.negative; magnitude = m.value; bytes = g.bytes + m.bytes }
 
-abbrev pub numberAfter : (fine : Bool) → Sign → List ℕ → Number
-numberAfter fine g s = with_sign g (amountOf fine (drop g.bytes s))
+abbrev pub number_after : (fine : Bool) → Sign → List ℕ → Number
+number_after fine g s = with_sign g (amount_of fine (drop g.bytes s))
 
 abbrev pub number_of : Letter → List ℕ → Number
-number_of l s = numberAfter (takesPoint l) (sign_of (takesSign l) (firstByte s)) s
+number_of l s = number_after (takes_point l) (sign_of (takes_sign l) (first_byte s)) s
 
 -- ---- a line
 
@@ -82,38 +82,38 @@ pub data NextItem : Type 0 where
   on : (skip : ℕ) → Words → NextItem
   stop : NextItem
 
-abbrev pub numberNext : Words → Letter → Number → NextItem
-numberNext ws l n = cond n.right (on n.bytes (put_of ws l (one_word n.negative n.magnitude))) stop
+abbrev pub number_next : Words → Letter → Number → NextItem
+number_next ws l n = cond n.right (on n.bytes (put_of ws l (one_word n.negative n.magnitude))) stop
 
-abbrev pub letterNext : Words → Named → List ℕ → NextItem
-letterNext ws (Is l) s = numberNext ws l (number_of l s)
-letterNext ws Other s = stop
+abbrev pub letter_next : Words → Named → List ℕ → NextItem
+letter_next ws (Is l) s = number_next ws l (number_of l s)
+letter_next ws Other s = stop
 
-abbrev pub nextItem : Words → ℕ → List ℕ → NextItem
-nextItem ws b s = cond (eqb b 32) (on 0 ws) (letterNext ws (letterOf b) s)
+abbrev pub next_item : Words → ℕ → List ℕ → NextItem
+next_item ws b s = cond (eqb b 32) (on 0 ws) (letter_next ws (letter_of b) s)
 
 abbrev pub follow : NextItem → (ℕ → Words → Line) → Line
 follow (on k ws) scan = scan k ws
-follow stop scan = notWords
+follow stop scan = not_words
 
 -- the answer from an item's begin on, after bytes that are skipped since a word has them
-abbrev pub scanOf : (skip : ℕ) → Words → List ℕ → Line
-scanOf k ws [] = answer_of true ws
-scanOf zero ws (b ∷ s) = follow (nextItem ws b s) (λ k w. scanOf k w s)
-scanOf (suc k) ws (b ∷ s) = scanOf k ws s
+abbrev pub scan_of : (skip : ℕ) → Words → List ℕ → Line
+scan_of k ws [] = answer_of true ws
+scan_of zero ws (b ∷ s) = follow (next_item ws b s) (λ k w. scan_of k w s)
+scan_of (suc k) ws (b ∷ s) = scan_of k ws s
 
-unfoldable pub scanLine : List ℕ → Line
-scanLine bytes = scanOf 0 noWords bytes
+unfoldable pub scan_line : List ℕ → Line
+scan_line bytes = scan_of 0 no_words bytes
 
 -- ---- the first line of a text, at its LF or at the text's end: crate `job` proves that it is the first of the lines
 
-abbrev pub untilLf : (lf : Bool) (b : ℕ) → List ℕ → List ℕ
-untilLf true b l = []
-untilLf false b l = b ∷ l
+abbrev pub until_lf : (lf : Bool) (b : ℕ) → List ℕ → List ℕ
+until_lf true b l = []
+until_lf false b l = b ∷ l
 
-unfoldable pub firstLine : List ℕ → List ℕ
-firstLine [] = []
-firstLine (b ∷ s) = untilLf (eqb b 10) b (firstLine s)
+unfoldable pub first_line : List ℕ → List ℕ
+first_line [] = []
+first_line (b ∷ s) = until_lf (eqb b 10) b (first_line s)
 
 -- ---- what keeps the numbers in range
 

@@ -4,9 +4,9 @@ use Rattle.std.specs.Bool.{beq}
 use Rattle.letters.specs.declared.letter.Letter.{Letter}
 use Rattle.letters.specs.declared.letter.Letter.TheVariants.{N, G, F, X, Y, I, J}
 use Rattle.letters.specs.declared.word.Word.{Word}
-use Rattle.letters.specs.Word.{missingWord, one_word, wordsBy}
+use Rattle.letters.specs.Word.{missing_word, one_word, words_by}
 use Rattle.words.specs.Meaning.{answer_of}
-use Rattle.words.specs.computed.Scan.{scanLine}
+use Rattle.words.specs.computed.Scan.{scan_line}
 
 pub record Example : Type 0 where
   pub text : List ℕ
@@ -43,25 +43,25 @@ examples =
 
 abbrev agree : List Example → Bool
 agree [] = true
-agree (e ∷ es) = beq (scanLine e.text).formed e.formed && agree es
+agree (e ∷ es) = beq (scan_line e.text).formed e.formed && agree es
 
-pub examples-agree : agree examples ≡ true
-unfolding scanLine
-examples-agree = refl
+pub examples_agree : agree examples ≡ true
+unfolding scan_line
+examples_agree = refl
 
 -- N20 G01 X20 Y40 F100
-abbrev pub firstLine : List ℕ
-firstLine = 78 ∷ 50 ∷ 48 ∷ 32 ∷ 71 ∷ 48 ∷ 49 ∷ 32 ∷ 88 ∷ 50 ∷ 48 ∷ 32 ∷ 89 ∷ 52 ∷ 48 ∷ 32 ∷ 70 ∷ 49 ∷ 48 ∷ 48 ∷ []
+abbrev pub first_line : List ℕ
+first_line = 78 ∷ 50 ∷ 48 ∷ 32 ∷ 71 ∷ 48 ∷ 49 ∷ 32 ∷ 88 ∷ 50 ∷ 48 ∷ 32 ∷ 89 ∷ 52 ∷ 48 ∷ 32 ∷ 70 ∷ 49 ∷ 48 ∷ 48 ∷ []
 
-abbrev firstWords : Letter → Word
-firstWords N = one_word false 20
-firstWords G = one_word false 1
-firstWords F = one_word false 100_000
-firstWords X = one_word false 20_000
-firstWords Y = one_word false 40_000
-firstWords I = missingWord
-firstWords J = missingWord
+abbrev first_words : Letter → Word
+first_words N = one_word false 20
+first_words G = one_word false 1
+first_words F = one_word false 100_000
+first_words X = one_word false 20_000
+first_words Y = one_word false 40_000
+first_words I = missing_word
+first_words J = missing_word
 
-pub first-line : scanLine firstLine ≡ answer_of true (wordsBy firstWords)
-unfolding scanLine
-first-line = refl
+pub first_line_lem : scan_line first_line ≡ answer_of true (words_by first_words)
+unfolding scan_line
+first_line_lem = refl

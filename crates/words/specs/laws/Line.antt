@@ -7,106 +7,106 @@ use Rattle.letters.specs.declared.letter.Letter.TheVariants.{N, G, F, X, Y, I, J
 use Rattle.letters.specs.declared.letter.Named.{Named}
 use Rattle.letters.specs.declared.letter.Named.TheVariants.{Is, Other}
 use Rattle.letters.specs.declared.word.Words.{Words}
-use Rattle.letters.specs.Letter.{letterByte}
+use Rattle.letters.specs.Letter.{letter_byte}
 use Rattle.letters.specs.Word.{one_word}
-use Rattle.letters.specs.computed.Scan.{letterOf}
+use Rattle.letters.specs.computed.Scan.{letter_of}
 use Rattle.letters.specs.laws.Scan.{put_of}
-use Rattle.letters.specs.laws.Letter.{letter-of, letter-byte}
+use Rattle.letters.specs.laws.Letter.{letter_of_lem, letter_byte_lem}
 use Rattle.words.specs.declared.line.Line.{Line}
-use Rattle.words.specs.Grammar.{Item, blank, word, lineText, RightLine, LineOfWords}
-use Rattle.words.specs.Meaning.{isMinus, magnitudeOf, answer_of, notWords}
-use Rattle.words.specs.computed.Scan.{number_of, NextItem, on, nextItem, numberNext, follow, scanOf}
-use Rattle.words.specs.laws.Number.{NumberEnds, numberText, number_read, number_in}
+use Rattle.words.specs.Grammar.{Item, blank, word, line_text, RightLine, LineOfWords}
+use Rattle.words.specs.Meaning.{is_minus, magnitude_of, answer_of, not_words}
+use Rattle.words.specs.computed.Scan.{number_of, NextItem, on, next_item, number_next, follow, scan_of}
+use Rattle.words.specs.laws.Number.{NumberEnds, number_text, number_read, number_in}
 use Rattle.words.specs.laws.Words.{gather}
 
 -- the answer where the bytes s are left
-abbrev pub goOn : List ℕ → NextItem → Line
-goOn s x = follow x (λ k ws. scanOf k ws s)
+abbrev pub go_on : List ℕ → NextItem → Line
+go_on s x = follow x (λ k ws. scan_of k ws s)
 
-pub scan-skip : (k : ℕ) (ws : Words) (s : List ℕ) → scanOf k ws s ≡ scanOf 0 ws (drop k s)
-scan-skip zero ws s = refl
-scan-skip (suc k) ws [] = refl
-scan-skip (suc k) ws (b ∷ s) = scan-skip k ws s
+pub scan_skip : (k : ℕ) (ws : Words) (s : List ℕ) → scan_of k ws s ≡ scan_of 0 ws (drop k s)
+scan_skip zero ws s = refl
+scan_skip (suc k) ws [] = refl
+scan_skip (suc k) ws (b ∷ s) = scan_skip k ws s
 
 -- ---- right items are read
 
-letter-ends : (l : Letter) (s : List ℕ) → NumberEnds (letterByte l ∷ s)
-letter-ends N s = record { digit = refl; point = refl }
-letter-ends G s = record { digit = refl; point = refl }
-letter-ends F s = record { digit = refl; point = refl }
-letter-ends X s = record { digit = refl; point = refl }
-letter-ends Y s = record { digit = refl; point = refl }
-letter-ends I s = record { digit = refl; point = refl }
-letter-ends J s = record { digit = refl; point = refl }
+letter_ends : (l : Letter) (s : List ℕ) → NumberEnds (letter_byte l ∷ s)
+letter_ends N s = record { digit = refl; point = refl }
+letter_ends G s = record { digit = refl; point = refl }
+letter_ends F s = record { digit = refl; point = refl }
+letter_ends X s = record { digit = refl; point = refl }
+letter_ends Y s = record { digit = refl; point = refl }
+letter_ends I s = record { digit = refl; point = refl }
+letter_ends J s = record { digit = refl; point = refl }
 
-end-of-lines : (is : List Item) → NumberEnds (lineText is)
-end-of-lines [] = record { digit = refl; point = refl }
-end-of-lines (blank ∷ is) = record { digit = refl; point = refl }
-end-of-lines (word l sg w f ∷ is) = letter-ends l _
+end_of_lines : (is : List Item) → NumberEnds (line_text is)
+end_of_lines [] = record { digit = refl; point = refl }
+end_of_lines (blank ∷ is) = record { digit = refl; point = refl }
+end_of_lines (word l sg w f ∷ is) = letter_ends l _
 
-no-blank : (l : Letter) → eqb (letterByte l) 32 ≡ false
-no-blank N = refl
-no-blank G = refl
-no-blank F = refl
-no-blank X = refl
-no-blank Y = refl
-no-blank I = refl
-no-blank J = refl
+no_blank : (l : Letter) → eqb (letter_byte l) 32 ≡ false
+no_blank N = refl
+no_blank G = refl
+no_blank F = refl
+no_blank X = refl
+no_blank Y = refl
+no_blank I = refl
+no_blank J = refl
 
-pub items-read : (is : List Item) (ws : Words) → RightLine is → scanOf 0 ws (lineText is) ≡ answer_of true (gather ws is)
-items-read [] ws r = refl
-items-read (blank ∷ is) ws r = items-read is ws r.1
-items-read (word l sg w f ∷ is) ws r =
-    let t = numberText sg w f in
-    let after = put_of ws l (one_word (isMinus sg) (magnitudeOf l w f)) in
-    let n = number_read l sg w f (lineText is) r.0 (end-of-lines is) in
-    let e : nextItem ws (letterByte l) (t ++ lineText is) ≡ on (length t) after = rw (no-blank l, letter-of l) (ap (numberNext ws l) n) in
-    ap (goOn (t ++ lineText is)) e
-    ∙ scan-skip (length t) after (t ++ lineText is)
-    ∙ rw (drop-append_seam t (lineText is)) (items-read is after r.1)
+pub items_read : (is : List Item) (ws : Words) → RightLine is → scan_of 0 ws (line_text is) ≡ answer_of true (gather ws is)
+items_read [] ws r = refl
+items_read (blank ∷ is) ws r = items_read is ws r.1
+items_read (word l sg w f ∷ is) ws r =
+    let t = number_text sg w f in
+    let after = put_of ws l (one_word (is_minus sg) (magnitude_of l w f)) in
+    let n = number_read l sg w f (line_text is) r.0 (end_of_lines is) in
+    let e : next_item ws (letter_byte l) (t ++ line_text is) ≡ on (length t) after = rw (no_blank l, letter_of_lem l) (ap (number_next ws l) n) in
+    ap (go_on (t ++ line_text is)) e
+    ∙ scan_skip (length t) after (t ++ line_text is)
+    ∙ rw (drop-append_seam t (line_text is)) (items_read is after r.1)
 
 -- ---- what is accepted are right items
 
 -- an answer about the bytes s: a line of words, or not
 abbrev pub Answered : List ℕ → Line → Type 0
-Answered s r = (LineOfWords s × (r.formed ≡ true)) ⊎ (r ≡ notWords)
+Answered s r = (LineOfWords s × (r.formed ≡ true)) ⊎ (r ≡ not_words)
 
-with-more : {s t : List ℕ} {r : Line} → (LineOfWords s → LineOfWords t) → Answered s r → Answered t r
-with-more f (inl a) = inl (f a.0, a.1)
-with-more f (inr e) = inr e
+with_more : {s t : List ℕ} {r : Line} → (LineOfWords s → LineOfWords t) → Answered s r → Answered t r
+with_more f (inl a) = inl (f a.0, a.1)
+with_more f (inr e) = inr e
 
 empty : LineOfWords []
 empty = record { items = []; right = tt; text = refl }
 
-more-blank : (s : List ℕ) → LineOfWords s → LineOfWords (32 ∷ s)
-more-blank s r = record { items = blank ∷ r.items; right = (tt, r.right); text = ap (λ (v : List ℕ). 32 ∷ v) r.text }
+more_blank : (s : List ℕ) → LineOfWords s → LineOfWords (32 ∷ s)
+more_blank s r = record { items = blank ∷ r.items; right = (tt, r.right); text = ap (λ (v : List ℕ). 32 ∷ v) r.text }
 
-more-word : (l : Letter) (s : List ℕ) → (number_of l s).right ≡ true → LineOfWords (drop (number_of l s).bytes s)
-    → LineOfWords (letterByte l ∷ s)
-more-word l s h r =
+more_word : (l : Letter) (s : List ℕ) → (number_of l s).right ≡ true → LineOfWords (drop (number_of l s).bytes s)
+    → LineOfWords (letter_byte l ∷ s)
+more_word l s h r =
     let n = number_in l s h in
     record {
       items = word l n.sg n.w n.f ∷ r.items;
       right = (n.right, r.right);
-      text = ap (λ (v : List ℕ). letterByte l ∷ v) (rw r.text n.text);
+      text = ap (λ (v : List ℕ). letter_byte l ∷ v) (rw r.text n.text);
     }
 
-module _ (ws : Words) (b : ℕ) (s : List ℕ) (known : (k : ℕ) (v : Words) → Answered (drop k s) (scanOf k v s)) where
-  word-answered : (l : Letter) (right : Bool) → (number_of l s).right ≡ right
-      → Answered (letterByte l ∷ s) (goOn s (numberNext ws l (number_of l s)))
-  word-answered l true e = rw e (with-more (more-word l s e) (known _ _))
-  word-answered l false e = inr (rw e)
+module _ (ws : Words) (b : ℕ) (s : List ℕ) (known : (k : ℕ) (v : Words) → Answered (drop k s) (scan_of k v s)) where
+  word_answered : (l : Letter) (right : Bool) → (number_of l s).right ≡ right
+      → Answered (letter_byte l ∷ s) (go_on s (number_next ws l (number_of l s)))
+  word_answered l true e = rw e (with_more (more_word l s e) (known _ _))
+  word_answered l false e = inr (rw e)
 
-  named-answered : (n : Named) → letterOf b ≡ n → eqb b 32 ≡ false → Answered (b ∷ s) (goOn s (nextItem ws b s))
-  named-answered (Is l) e g = rw (g, e) (rw (letter-byte b l e) (word-answered l (number_of l s).right refl))
-  named-answered Other e g = inr (rw (g, e))
+  named_answered : (n : Named) → letter_of b ≡ n → eqb b 32 ≡ false → Answered (b ∷ s) (go_on s (next_item ws b s))
+  named_answered (Is l) e g = rw (g, e) (rw (letter_byte_lem b l e) (word_answered l (number_of l s).right refl))
+  named_answered Other e g = inr (rw (g, e))
 
-  next-answered : (x : Bool) → eqb b 32 ≡ x → Answered (b ∷ s) (goOn s (nextItem ws b s))
-  next-answered true e = rw e (rw (eqb-true b 32 e) (with-more (more-blank s) (known 0 ws)))
-  next-answered false e = named-answered (letterOf b) refl e
+  next_answered : (x : Bool) → eqb b 32 ≡ x → Answered (b ∷ s) (go_on s (next_item ws b s))
+  next_answered true e = rw e (rw (eqb-true b 32 e) (with_more (more_blank s) (known 0 ws)))
+  next_answered false e = named_answered (letter_of b) refl e
 
-pub answered : (k : ℕ) (ws : Words) (s : List ℕ) → Answered (drop k s) (scanOf k ws s)
+pub answered : (k : ℕ) (ws : Words) (s : List ℕ) → Answered (drop k s) (scan_of k ws s)
 answered zero ws [] = inl (empty, refl)
 answered (suc k) ws [] = inl (empty, refl)
-answered zero ws (b ∷ s) = next-answered ws b s (λ k v. answered k v s) (eqb b 32) refl
+answered zero ws (b ∷ s) = next_answered ws b s (λ k v. answered k v s) (eqb b 32) refl
 answered (suc k) ws (b ∷ s) = answered k ws s

@@ -4,108 +4,108 @@ use Rattle.std.proofs.Common.{sym, ap, ◌∙◌, append_assoc, arith, length-ap
 use Rattle.std.proofs.lemmas.Bool.{false≢true}
 use Rattle.std.proofs.Math.Seq.{drop-append_seam}
 use Rattle.letters.specs.declared.letter.Letter.{Letter}
-use Rattle.letters.specs.Letter.{takesSign, takesPoint}
+use Rattle.letters.specs.Letter.{takes_sign, takes_point}
 use Rattle.words.specs.declared.digits.Digits.{Digits}
 use Rattle.words.specs.declared.number.Sign.{Sign as SignRead}
 use Rattle.words.specs.declared.number.Number.{Number}
-use Rattle.words.specs.Grammar.{Sign, unsigned, plus, minus, signText, digitsText, decimalsText}
+use Rattle.words.specs.Grammar.{Sign, unsigned, plus, minus, sign_text, digits_text, decimals_text}
 use Rattle.words.specs.Grammar.{AllDigits, SignRight, PointRight, RightWord}
-use Rattle.words.specs.Meaning.{number, magnitudeOf, isMinus}
-use Rattle.words.specs.computed.Scan.{firstByte, isDigit, digits, digitsOf, sign, sign_of}
-use Rattle.words.specs.computed.Scan.{amount, pointedOf, amountAfter, amountWith, amountOf, with_sign, numberAfter, number_of}
-use Rattle.words.specs.laws.Digits.{digits_in, digits-read, in-thousandths}
+use Rattle.words.specs.Meaning.{number, magnitude_of, is_minus}
+use Rattle.words.specs.computed.Scan.{first_byte, is_digit, digits, digits_of, sign, sign_of}
+use Rattle.words.specs.computed.Scan.{amount, pointed_of, amount_after, amount_with, amount_of, with_sign, number_after, number_of}
+use Rattle.words.specs.laws.Digits.{digits_in_lem, digits_read, in_thousandths}
 
 -- ---- what is written is read
 
 -- the text of a word after its letter
-abbrev pub numberText : Sign → (whole decimals : List ℕ) → List ℕ
-numberText sg w f = signText sg ++ (digitsText w ++ decimalsText f)
+abbrev pub number_text : Sign → (whole decimals : List ℕ) → List ℕ
+number_text sg w f = sign_text sg ++ (digits_text w ++ decimals_text f)
 
 -- what follows a number is no part of it
 pub record NumberEnds (s : List ℕ) : Type 0 where
-  pub digit : isDigit (firstByte s) ≡ false
-  pub point : eqb (firstByte s) 46 ≡ false
+  pub digit : is_digit (first_byte s) ≡ false
+  pub point : eqb (first_byte s) 46 ≡ false
 
-digits-length : (ds : List ℕ) → length (digitsText ds) ≡ length ds
-digits-length [] = refl
-digits-length (d ∷ ds) = rw (digits-length ds)
+digits_length : (ds : List ℕ) → length (digits_text ds) ≡ length ds
+digits_length [] = refl
+digits_length (d ∷ ds) = rw (digits_length ds)
 
-amount-same : {v v' k k' : ℕ} → v ≡ v' → k ≡ k' → amount true v k ≡ amount true v' k'
-amount-same p q = cc
+amount_same : {v v' k k' : ℕ} → v ≡ v' → k ≡ k' → amount true v k ≡ amount true v' k'
+amount_same p q = cc
 
 -- the magnitude of digits that write n and of decimals, in units of the letter
-abbrev inUnits : (fine : Bool) → ℕ → (decimals : List ℕ) → ℕ
-inUnits fine n f = n * cond fine 1000 1 + number f * 10 ^ (3 - length f)
+abbrev in_units : (fine : Bool) → ℕ → (decimals : List ℕ) → ℕ
+in_units fine n f = n * cond fine 1000 1 + number f * 10 ^ (3 - length f)
 
-pointed-read : (n k : ℕ) (f s : List ℕ) → 1 ≤ length f → AllDigits f → length f ≤ 3 → NumberEnds s
-    → pointedOf (digits n k) (digitsOf 3 n (digitsText f ++ s)) ≡ amount true (inUnits true n f) (k + (1 + length f))
-pointed-read n k f s some a few end =
-    rw (digits-read 3 n f s a few end.digit, le-leb 1 (length f) some) (amount-same (in-thousandths n f few) (omega arith))
+pointed_read : (n k : ℕ) (f s : List ℕ) → 1 ≤ length f → AllDigits f → length f ≤ 3 → NumberEnds s
+    → pointed_of (digits n k) (digits_of 3 n (digits_text f ++ s)) ≡ amount true (in_units true n f) (k + (1 + length f))
+pointed_read n k f s some a few end =
+    rw (digits_read 3 n f s a few end.digit, le-leb 1 (length f) some) (amount_same (in_thousandths n f few) (omega arith))
 
 after_read : (fine : Bool) (n k : ℕ) (f s : List ℕ) → AllDigits f → length f ≤ 3 → PointRight fine f → NumberEnds s
-    → amountAfter fine (digits n k) (decimalsText f ++ s) ≡ amount true (inUnits fine n f) (k + length (decimalsText f))
-after_read false n k f s a few p end = rw p (amount-same (omega arith) (omega arith))
-after_read true n k [] s a few p end = rw end.point (amount-same (omega arith) (omega arith))
+    → amount_after fine (digits n k) (decimals_text f ++ s) ≡ amount true (in_units fine n f) (k + length (decimals_text f))
+after_read false n k f s a few p end = rw p (amount_same (omega arith) (omega arith))
+after_read true n k [] s a few p end = rw end.point (amount_same (omega arith) (omega arith))
 after_read true n k (d ∷ f) s a few p end =
-    pointed-read n k (d ∷ f) s (omega arith) a few end ∙ amount-same refl (rw (digits-length f) (omega arith))
+    pointed_read n k (d ∷ f) s (omega arith) a few end ∙ amount_same refl (rw (digits_length f) (omega arith))
 
-no_digit : (f s : List ℕ) → NumberEnds s → isDigit (firstByte (decimalsText f ++ s)) ≡ false
+no_digit : (f s : List ℕ) → NumberEnds s → is_digit (first_byte (decimals_text f ++ s)) ≡ false
 no_digit [] s end = end.digit
 no_digit (d ∷ f) s end = refl
 
-amount-read : (l : Letter) (sg : Sign) (w f s : List ℕ) → RightWord l sg w f → NumberEnds s
-    → amountOf (takesPoint l) (digitsText w ++ (decimalsText f ++ s))
-    ≡ amount true (magnitudeOf l w f) (length (digitsText w ++ decimalsText f))
-amount-read l sg w f s r end =
-    let fine = takesPoint l in
-    let t = decimalsText f ++ s in
-    let e = digits-read 7 0 w t r.digits r.most (no_digit f s end) in
-    let g : drop (length w) (digitsText w ++ t) ≡ t = rw (← digits-length w) (drop-append_seam (digitsText w) t) in
-    ap (λ (d : Digits). amountWith fine d (digitsText w ++ t)) e
+amount_read : (l : Letter) (sg : Sign) (w f s : List ℕ) → RightWord l sg w f → NumberEnds s
+    → amount_of (takes_point l) (digits_text w ++ (decimals_text f ++ s))
+    ≡ amount true (magnitude_of l w f) (length (digits_text w ++ decimals_text f))
+amount_read l sg w f s r end =
+    let fine = takes_point l in
+    let t = decimals_text f ++ s in
+    let e = digits_read 7 0 w t r.digits r.most (no_digit f s end) in
+    let g : drop (length w) (digits_text w ++ t) ≡ t = rw (← digits_length w) (drop-append_seam (digits_text w) t) in
+    ap (λ (d : Digits). amount_with fine d (digits_text w ++ t)) e
     ∙ rw (le-ltb (length w) 1 r.some, g)
     (after_read fine (0 * 10 ^ length w + number w) (length w) f s r.decimals r.places r.point end
-    ∙ amount-same (omega arith) (sym (length-append (digitsText w) (decimalsText f) ∙ rw (digits-length w))))
+    ∙ amount_same (omega arith) (sym (length-append (digits_text w) (decimals_text f) ∙ rw (digits_length w))))
 
-has-sign : (takes : Bool) (sg : Sign) → SignRight takes sg → (sg ≡ unsigned → ⊥) → takes ≡ true
-has-sign true sg r some = refl
-has-sign false sg r some = absurd (some r)
+has_sign : (takes : Bool) (sg : Sign) → SignRight takes sg → (sg ≡ unsigned → ⊥) → takes ≡ true
+has_sign true sg r some = refl
+has_sign false sg r some = absurd (some r)
 
 no_sign : (takes : Bool) (d : ℕ) → sign_of takes (48 + d) ≡ sign false 0
 no_sign true d = rw (ne_eqb (48 + d) 45 (λ e. omega arith), ne_eqb (48 + d) 43 (λ e. omega arith))
 no_sign false d = refl
 
 sign_read : (takes : Bool) (sg : Sign) (w s : List ℕ) → SignRight takes sg → 1 ≤ length w
-    → sign_of takes (firstByte (signText sg ++ (digitsText w ++ s))) ≡ sign (isMinus sg) (length (signText sg))
+    → sign_of takes (first_byte (sign_text sg ++ (digits_text w ++ s))) ≡ sign (is_minus sg) (length (sign_text sg))
 sign_read takes sg [] s r some = absurd (omega arith)
 sign_read takes unsigned (d ∷ w) s r some = no_sign takes d
-sign_read takes plus (d ∷ w) s r some = rw (has-sign takes plus r (λ e. let y : ◌≡◌ {A = ℕ} 0 1 = cc e in omega arith))
-sign_read takes minus (d ∷ w) s r some = rw (has-sign takes minus r (λ e. let y : ◌≡◌ {A = ℕ} 0 1 = cc e in omega arith))
+sign_read takes plus (d ∷ w) s r some = rw (has_sign takes plus r (λ e. let y : ◌≡◌ {A = ℕ} 0 1 = cc e in omega arith))
+sign_read takes minus (d ∷ w) s r some = rw (has_sign takes minus r (λ e. let y : ◌≡◌ {A = ℕ} 0 1 = cc e in omega arith))
 
 -- the number of a right word
-abbrev pub rightNumber : Letter → Sign → (whole decimals : List ℕ) → Number
-rightNumber l sg w f = record { right = true; negative = isMinus sg; magnitude = magnitudeOf l w f; bytes = length (numberText sg w f) }
+abbrev pub right_number : Letter → Sign → (whole decimals : List ℕ) → Number
+right_number l sg w f = record { right = true; negative = is_minus sg; magnitude = magnitude_of l w f; bytes = length (number_text sg w f) }
 
 pub number_read : (l : Letter) (sg : Sign) (w f s : List ℕ) → RightWord l sg w f → NumberEnds s
-    → number_of l (numberText sg w f ++ s) ≡ rightNumber l sg w f
+    → number_of l (number_text sg w f ++ s) ≡ right_number l sg w f
 number_read l sg w f s r end =
-    let t = digitsText w ++ (decimalsText f ++ s) in
-    let e = sign_read (takesSign l) sg w (decimalsText f ++ s) r.sign r.some in
+    let t = digits_text w ++ (decimals_text f ++ s) in
+    let e = sign_read (takes_sign l) sg w (decimals_text f ++ s) r.sign r.some in
     simp append_assoc
-    (ap (λ (g : SignRead). numberAfter (takesPoint l) g (signText sg ++ t)) e
-    ∙ rw (drop-append_seam (signText sg) t, length-append (signText sg) (digitsText w ++ decimalsText f))
-    (ap (with_sign (sign (isMinus sg) (length (signText sg)))) (amount-read l sg w f s r end)))
+    (ap (λ (g : SignRead). number_after (takes_point l) g (sign_text sg ++ t)) e
+    ∙ rw (drop-append_seam (sign_text sg) t, length-append (sign_text sg) (digits_text w ++ decimals_text f))
+    (ap (with_sign (sign (is_minus sg) (length (sign_text sg)))) (amount_read l sg w f s r end)))
 
 -- ---- what is read is written
 
 record SignIn (takes : Bool) (s : List ℕ) : Type 0 where
   sg : Sign
   right : SignRight takes sg
-  text : signText sg ++ drop (sign_of takes (firstByte s)).bytes s ≡ s
+  text : sign_text sg ++ drop (sign_of takes (first_byte s)).bytes s ≡ s
 
-sign-in : (takes : Bool) (s : List ℕ) → SignIn takes s
-sign-in false s = record { sg = unsigned; right = refl; text = refl }
-sign-in true [] = record { sg = unsigned; right = tt; text = refl }
-sign-in true (b ∷ s) = by (eqb b 45) refl (eqb b 43) refl
+sign_in : (takes : Bool) (s : List ℕ) → SignIn takes s
+sign_in false s = record { sg = unsigned; right = refl; text = refl }
+sign_in true [] = record { sg = unsigned; right = tt; text = refl }
+sign_in true (b ∷ s) = by (eqb b 45) refl (eqb b 43) refl
   where
     by : (x : Bool) → eqb b 45 ≡ x → (y : Bool) → eqb b 43 ≡ y → SignIn true (b ∷ s)
     by true e y g = record { sg = minus; right = tt; text = rw e (rw (eqb-true b 45 e)) }
@@ -118,43 +118,43 @@ record AfterIn (fine : Bool) (w : Digits) (s : List ℕ) : Type 0 where
   digits : AllDigits f
   few : length f ≤ 3
   point : PointRight fine f
-  bytes : (amountAfter fine w s).bytes ≡ w.count + length (decimalsText f)
-  text : decimalsText f ++ drop (length (decimalsText f)) s ≡ s
+  bytes : (amount_after fine w s).bytes ≡ w.count + length (decimals_text f)
+  text : decimals_text f ++ drop (length (decimals_text f)) s ≡ s
 
-no-point : (fine : Bool) → PointRight fine []
-no-point true = tt
-no-point false = refl
+no_point : (fine : Bool) → PointRight fine []
+no_point true = tt
+no_point false = refl
 
-no-decimals : (fine : Bool) (w : Digits) (s : List ℕ) → (amountAfter fine w s).bytes ≡ w.count → AfterIn fine w s
-no-decimals fine w s e = record { f = []; digits = tt; few = omega arith; point = no-point fine; bytes = rw e (omega arith); text = refl }
+no_decimals : (fine : Bool) (w : Digits) (s : List ℕ) → (amount_after fine w s).bytes ≡ w.count → AfterIn fine w s
+no_decimals fine w s e = record { f = []; digits = tt; few = omega arith; point = no_point fine; bytes = rw e (omega arith); text = refl }
 
-pointed-in : (w : Digits) (s : List ℕ) → leb 1 (digitsOf 3 w.value s).count ≡ true → AfterIn true w (46 ∷ s)
-pointed-in w s h = let r = digits_in 3 (digits w.value 0) s (omega arith) in by r.list r.digits r.count r.few r.text
+pointed_in : (w : Digits) (s : List ℕ) → leb 1 (digits_of 3 w.value s).count ≡ true → AfterIn true w (46 ∷ s)
+pointed_in w s h = let r = digits_in_lem 3 (digits w.value 0) s (omega arith) in by r.list r.digits r.count r.few r.text
   where
-    by : (f : List ℕ) → AllDigits f → (digitsOf 3 w.value s).count ≡ 0 + length f → 0 + length f ≤ 3
-        → digitsText f ++ drop (length f) s ≡ s → AfterIn true w (46 ∷ s)
-    by [] a k few text = absurd (omega (arith, leb-true 1 (digitsOf 3 w.value s).count h))
+    by : (f : List ℕ) → AllDigits f → (digits_of 3 w.value s).count ≡ 0 + length f → 0 + length f ≤ 3
+        → digits_text f ++ drop (length f) s ≡ s → AfterIn true w (46 ∷ s)
+    by [] a k few text = absurd (omega (arith, leb-true 1 (digits_of 3 w.value s).count h))
     by (d ∷ f) a k few text =
         record {
           f = d ∷ f;
           digits = a;
           few = omega arith;
           point = tt;
-          bytes = rw (k, digits-length f) (omega arith);
-          text = ap (λ (x : List ℕ). 46 ∷ x) (ap (λ (n : ℕ). digitsText (d ∷ f) ++ drop n s) (digits-length (d ∷ f)) ∙ text);
+          bytes = rw (k, digits_length f) (omega arith);
+          text = ap (λ (x : List ℕ). 46 ∷ x) (ap (λ (n : ℕ). digits_text (d ∷ f) ++ drop n s) (digits_length (d ∷ f)) ∙ text);
         }
 
-point-in : (w : Digits) (s : List ℕ) → (amountAfter true w s).right ≡ true → AfterIn true w s
-point-in w [] h = no-decimals true w [] refl
-point-in w (b ∷ s) h = by (eqb b 46) refl
+point_in : (w : Digits) (s : List ℕ) → (amount_after true w s).right ≡ true → AfterIn true w s
+point_in w [] h = no_decimals true w [] refl
+point_in w (b ∷ s) h = by (eqb b 46) refl
   where
     by : (x : Bool) → eqb b 46 ≡ x → AfterIn true w (b ∷ s)
-    by true e = let q = eqb-true b 46 e in rw q (pointed-in w s (rw q at h))
-    by false e = no-decimals true w (b ∷ s) (rw e)
+    by true e = let q = eqb-true b 46 e in rw q (pointed_in w s (rw q at h))
+    by false e = no_decimals true w (b ∷ s) (rw e)
 
-after-in : (fine : Bool) (w : Digits) (s : List ℕ) → (amountAfter fine w s).right ≡ true → AfterIn fine w s
-after-in true w s h = point-in w s h
-after-in false w s h = no-decimals false w s refl
+after_in : (fine : Bool) (w : Digits) (s : List ℕ) → (amount_after fine w s).right ≡ true → AfterIn fine w s
+after_in true w s h = point_in w s h
+after_in false w s h = no_decimals false w s refl
 
 record AmountIn (fine : Bool) (s : List ℕ) : Type 0 where
   w : List ℕ
@@ -165,18 +165,18 @@ record AmountIn (fine : Bool) (s : List ℕ) : Type 0 where
   digits : AllDigits w
   decimals : AllDigits f
   point : PointRight fine f
-  text : (digitsText w ++ decimalsText f) ++ drop (amountOf fine s).bytes s ≡ s
+  text : (digits_text w ++ decimals_text f) ++ drop (amount_of fine s).bytes s ≡ s
 
-amount-in : (fine : Bool) (s : List ℕ) → (amountOf fine s).right ≡ true → AmountIn fine s
-amount-in fine s h = by (ltb (digitsOf 7 0 s).count 1) refl
+amount_in : (fine : Bool) (s : List ℕ) → (amount_of fine s).right ≡ true → AmountIn fine s
+amount_in fine s h = by (ltb (digits_of 7 0 s).count 1) refl
   where
-    by : (x : Bool) → ltb (digitsOf 7 0 s).count 1 ≡ x → AmountIn fine s
+    by : (x : Bool) → ltb (digits_of 7 0 s).count 1 ≡ x → AmountIn fine s
     by true e = absurd (false≢true (rw e at h))
     by false e =
-        let d = digitsOf 7 0 s in
-        let r = digits_in 7 (digits 0 0) s (omega arith) in
+        let d = digits_of 7 0 s in
+        let r = digits_in_lem 7 (digits 0 0) s (omega arith) in
         let k : d.count ≡ length r.list = r.count ∙ omega arith in
-        let q = after-in fine d (drop d.count s) (rw e at h) in
+        let q = after_in fine d (drop d.count s) (rw e at h) in
         record {
           w = r.list;
           f = q.f;
@@ -186,7 +186,7 @@ amount-in fine s h = by (ltb (digitsOf 7 0 s).count 1) refl
           digits = r.digits;
           decimals = q.digits;
           point = q.point;
-          text = rw (e, q.bytes, ← drop-drop (length (decimalsText q.f)) d.count s, append_assoc, q.text, k) r.text;
+          text = rw (e, q.bytes, ← drop-drop (length (decimals_text q.f)) d.count s, append_assoc, q.text, k) r.text;
         }
 
 pub record NumberIn (l : Letter) (s : List ℕ) : Type 0 where
@@ -194,14 +194,14 @@ pub record NumberIn (l : Letter) (s : List ℕ) : Type 0 where
   pub w : List ℕ
   pub f : List ℕ
   pub right : RightWord l sg w f
-  pub text : numberText sg w f ++ drop (number_of l s).bytes s ≡ s
+  pub text : number_text sg w f ++ drop (number_of l s).bytes s ≡ s
 
 pub number_in : (l : Letter) (s : List ℕ) → (number_of l s).right ≡ true → NumberIn l s
 number_in l s h =
-    let g = sign_of (takesSign l) (firstByte s) in
-    let a = sign-in (takesSign l) s in
+    let g = sign_of (takes_sign l) (first_byte s) in
+    let a = sign_in (takes_sign l) s in
     let t = drop g.bytes s in
-    let r = amount-in (takesPoint l) t h in
+    let r = amount_in (takes_point l) t h in
     record {
       sg = a.sg;
       w = r.w;
@@ -215,5 +215,5 @@ number_in l s h =
         sign = a.right;
         point = r.point;
       };
-      text = rw (← drop-drop (amountOf (takesPoint l) t).bytes g.bytes s, append_assoc (signText a.sg), r.text) a.text;
+      text = rw (← drop-drop (amount_of (takes_point l) t).bytes g.bytes s, append_assoc (sign_text a.sg), r.text) a.text;
     }

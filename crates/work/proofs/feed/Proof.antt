@@ -2,55 +2,55 @@
 use borrow.Author.Rules.{rules}
 use native.Mathlib.Nat.{mul-le-mul}
 use native.Mathlib.Omega.{arith}
-use Rattle.work.specs.laws.Charge.{charge-range, fed-low}
+use Rattle.work.specs.laws.Charge.{charge_range, fed_low}
 use Rattle.work.proofs.feed.Statement.{statement}
 use Rattle.work.proofs.feed.Tie as tie
 
-feed-number-requires : tie.Need-feed-number-requires
-feed-number-requires c κs = search rules
+feed_number_requires : tie.Need-feed-number-requires
+feed_number_requires c κs = search rules
 
-mul-added : tie.Need-overflow-mul-added
-mul-added c = search rules
+mul_added : tie.Need-overflow-mul-added
+mul_added c = search rules
 
-add-sum : tie.Need-overflow-add-sum
-add-sum c = search rules
+add_sum : tie.Need-overflow-add-sum
+add_sum c = search rules
 
-mul-if1 : tie.Need-overflow-mul-if1
-mul-if1 c = search rules
+mul_if1 : tie.Need-overflow-mul-if1
+mul_if1 c = search rules
 
 returns : tie.Need-returns
 returns c =
     let n = c.before in
     let s = n.before.args in
-    rw n.feed-number.ensures (fed-low s.capacity s.at s.remainder s.work (rw n.feed-number.ensures at c.if1.true))
+    rw n.feed-number.ensures (fed_low s.capacity s.at s.remainder s.work (rw n.feed-number.ensures at c.if1.true))
 
-charge-requires : tie.Need-charge-requires
-charge-requires c κs = search rules
+charge_requires : tie.Need-charge-requires
+charge_requires c κs = search rules
 
-mul-add-feed : tie.Need-overflow-mul-add-feed
-mul-add-feed c =
+mul_add_feed : tie.Need-overflow-mul-add-feed
+mul_add_feed c =
     let s = c.before.before.before in
-    rw c.charge.ensures (omega (arith, mul-le-mul (charge-range s.args.at s.args.work).1 s.requires.1))
+    rw c.charge.ensures (omega (arith, mul-le-mul (charge_range s.args.at s.args.work).1 s.requires.1))
 
-add-feed-requires : tie.Need-add-feed-requires
-add-feed-requires c κs = search rules
+add_feed_requires : tie.Need-add-feed-requires
+add_feed_requires c κs = search rules
 
-returns-2 : tie.Need-returns-2
-returns-2 c =
+returns_2 : tie.Need-returns-2
+returns_2 c =
     let h = c.before in
     let n = h.before.before in
-    rw (h.charge.ensures, n.feed-number.ensures) at c.add-feed.ensures
+    rw (h.charge.ensures, n.feed-number.ensures) at c.add_feed.ensures
 
-pub feed-spec : {M : Type 1} → statement M
-feed-spec =
+pub feed_spec : {M : Type 1} → statement M
+feed_spec =
     tie.close
     (tie.spec
-    feed-number-requires
-    mul-added
-    add-sum
-    mul-if1
+    feed_number_requires
+    mul_added
+    add_sum
+    mul_if1
     returns
-    charge-requires
-    mul-add-feed
-    add-feed-requires
-    returns-2)
+    charge_requires
+    mul_add_feed
+    add_feed_requires
+    returns_2)

@@ -5,50 +5,50 @@ use mathlib.Core.Bool.{true≢false}
 use native.Mathlib.Omega.{arith}
 use borrow.Author.Tests.{not-true, not-false}
 use Rattle.whole.specs.laws.Test.{refuted, same_test}
-use Rattle.plane.specs.laws.Travel.{inside, inside-test}
-use Rattle.line.specs.laws.Work.{line-at, line-test}
-use Rattle.work.specs.laws.Sound.{line-work, line-sound}
+use Rattle.plane.specs.laws.Travel.{inside, inside_test_lem}
+use Rattle.line.specs.laws.Work.{line_at_lem, line_test}
+use Rattle.work.specs.laws.Sound.{line_work, line_sound_lem}
 use Rattle.work.proofs.line_sound.Statement.{statement}
 use Rattle.work.proofs.line_sound.Tie as tie
 
-inside-requires : tie.Need-inside-requires
-inside-requires c κs = search rules
+inside_requires : tie.Need-inside-requires
+inside_requires c κs = search rules
 
 returns : tie.Need-returns
 returns c = sym (refuted _ (λ e. true≢false
-    (sym (inside-test (line-work e).start) ∙ sym c.before.inside.ensures ∙ not-true _ c.if1.true)))
+    (sym (inside_test_lem (line_work e).start) ∙ sym c.before.inside.ensures ∙ not-true _ c.if1.true)))
 
-inside-requires-2 : tie.Need-inside-requires-2
-inside-requires-2 c κs = search rules
+inside_requires_2 : tie.Need-inside-requires-2
+inside_requires_2 c κs = search rules
 
-returns-2 : tie.Need-returns-2
-returns-2 c = sym (refuted _ (λ e. true≢false
-    (sym (inside-test (line-work e).end) ∙ sym c.before.inside2.ensures ∙ not-true _ c.if2.true)))
+returns_2 : tie.Need-returns-2
+returns_2 c = sym (refuted _ (λ e. true≢false
+    (sym (inside_test_lem (line_work e).end) ∙ sym c.before.inside2.ensures ∙ not-true _ c.if2.true)))
 
-returns-3 : tie.Need-returns-3
-returns-3 c = sym (refuted _ (λ e. let f = (line-work e).feed in omega (arith, f.some)))
+returns_3 : tie.Need-returns-3
+returns_3 c = sym (refuted _ (λ e. let f = (line_work e).feed in omega (arith, f.some)))
 
-returns-4 : tie.Need-returns-4
-returns-4 c = sym (refuted _ (λ e. let f = (line-work e).feed in omega (arith, f.most)))
+returns_4 : tie.Need-returns-4
+returns_4 c = sym (refuted _ (λ e. let f = (line_work e).feed in omega (arith, f.most)))
 
-is-at-requires : tie.Need-is-at-requires
-is-at-requires c κs = search rules
+is_at_requires : tie.Need-is-at-requires
+is_at_requires c κs = search rules
 
-returns-5 : tie.Need-returns-5
-returns-5 c =
+returns_5 : tie.Need-returns-5
+returns_5 c =
     let e4 = c.before in
     let e3 = e4.before.before in
     let e2 = e3.before.before in
     let e1 = e2.before.before in
     c.is_at.ensures
-    ∙ same_test (λ t. line-sound (record {
+    ∙ same_test (λ t. line_sound_lem (record {
       start = inside (sym e1.before.inside.ensures ∙ not-false _ e1.if1.false);
       end = inside (sym e2.before.inside2.ensures ∙ not-false _ e2.if2.false);
       feed = record { some = e3.if3.false; most = e4.if4.false };
-      line = line-at t;
-    })) (λ t. line-test (line-work t).line)
+      line = line_at_lem t;
+    })) (λ t. line_test (line_work t).line)
 
-pub line-sound-spec : {M : Type 1} → statement M
-line-sound-spec =
+pub line_sound_spec : {M : Type 1} → statement M
+line_sound_spec =
     tie.close
-    (tie.spec inside-requires returns inside-requires-2 returns-2 returns-3 returns-4 is-at-requires returns-5)
+    (tie.spec inside_requires returns inside_requires_2 returns_2 returns_3 returns_4 is_at_requires returns_5)

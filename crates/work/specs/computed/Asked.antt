@@ -6,9 +6,9 @@ use Rattle.line.specs.computed.Line.{short_of, line_at}
 use Rattle.arc.specs.computed.Arc.{StandsOnArc}
 use Rattle.block.specs.declared.Block.{Block}
 use Rattle.block.specs.declared.Path.{Path}
-use Rattle.block.specs.Questions.{offsetRight}
+use Rattle.block.specs.Questions.{offset_right}
 use Rattle.work.specs.declared.Work.{Work}
-use Rattle.work.specs.Work.{addedOf}
+use Rattle.work.specs.Work.{added_of}
 
 -- a cycle: a line or an arc, at its point
 abbrev pub Cycling : (at : Point) → Work → Type 0
@@ -18,9 +18,9 @@ Cycling at (Work.Arc a) = StandsOnArc a at
 
 -- a tick: that too, and a sum that fits
 abbrev pub Ready : (at : Point) (remainder : ℕ) → Work → Type 0
-Ready at r w = Cycling at w × (r + addedOf w < 2 ^ 64)
+Ready at r w = Cycling at w × (r + added_of w < 2 ^ 64)
 
 -- a block that comes into work: increments and offsets that the products hold
 abbrev pub Loadable : (start : Point) → Block → Path → Type 0
 Loadable start b Path.Line = short_of start b.end ≡ true
-Loadable start b (Path.Arc turn centre) = Near 1000000 start × (offsetRight centre ≡ true)
+Loadable start b (Path.Arc turn centre) = Near 1000000 start × (offset_right centre ≡ true)

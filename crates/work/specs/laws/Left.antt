@@ -6,27 +6,27 @@ use Rattle.whole.specs.laws.Test.{both}
 use Rattle.plane.specs.declared.point.Point.{Point}
 use Rattle.plane.specs.declared.travel.Travel.{Travel}
 use Rattle.plane.specs.laws.Travel.{Bounded}
-use Rattle.circle.specs.laws.Circle.{on-circle-to}
-use Rattle.line.specs.Line.{incrementX, incrementY, lineCycles}
-use Rattle.line.specs.laws.Cycles.{cycles-bound}
-use Rattle.arc.specs.Centre.{seenFrom}
-use Rattle.arc.specs.laws.Work.{end-inside as arc-end-inside}
-use Rattle.arc.specs.laws.Step.{cycles-bounds}
+use Rattle.circle.specs.laws.Circle.{on_circle_to}
+use Rattle.line.specs.Line.{increment_x, increment_y, line_cycles}
+use Rattle.line.specs.laws.Cycles.{cycles_bound}
+use Rattle.arc.specs.Centre.{seen_from}
+use Rattle.arc.specs.laws.Work.{end_inside as arc_end_inside}
+use Rattle.arc.specs.laws.Step.{cycles_bounds}
 use Rattle.block.specs.declared.Block.{Block}
 use Rattle.block.specs.declared.Path.{Path}
-use Rattle.block.specs.Block.{arcOf, cyclesAlong, blockCycles}
-use Rattle.block.specs.Chain.{rootAlong, rootOf}
+use Rattle.block.specs.Block.{arc_of, cycles_along, block_cycles}
+use Rattle.block.specs.Chain.{root_along, root_of}
 use Rattle.block.specs.computed.Chain.{Accepted}
-use Rattle.block.specs.laws.Accepted.{path-ready, Ready}
+use Rattle.block.specs.laws.Accepted.{path_ready, Ready}
 use Rattle.work.specs.declared.Work.{Work}
-use Rattle.work.specs.Work.{isNothing, cyclesLeft, end_of, workAlong, begunOf}
-use Rattle.work.specs.computed.Work.{workSound}
+use Rattle.work.specs.Work.{is_nothing, cycles_left, end_of, work_along, begun_of}
+use Rattle.work.specs.computed.Work.{work_sound}
 use Rattle.work.specs.computed.Asked.{Loadable}
 use Rattle.work.specs.computed.Rest.{Countable, Rooted}
-use Rattle.work.specs.Work.{rootIn}
-use Rattle.work.specs.laws.Sound.{line-work, arc-work}
+use Rattle.work.specs.Work.{root_in}
+use Rattle.work.specs.laws.Sound.{line_work, arc_work}
 
-pub nothing_is : (w : Work) → isNothing w ≡ true → w ≡ Work.Nothing
+pub nothing_is : (w : Work) → is_nothing w ≡ true → w ≡ Work.Nothing
 nothing_is Work.Nothing e = refl
 nothing_is (Work.Line l) e = absurd (subst T (sym e) tt)
 nothing_is (Work.Arc a) e = absurd (subst T (sym e) tt)
@@ -35,83 +35,83 @@ nothing_is (Work.Arc a) e = absurd (subst T (sym e) tt)
 pub rooted : (at : Point) (w : Work) → Countable at w → Rooted w
 rooted at Work.Nothing c = tt
 rooted at (Work.Line l) c = tt
-rooted at (Work.Arc a) c = (on-circle-to a.square (seenFrom a.centre at) c.on).bound
+rooted at (Work.Arc a) c = (on_circle_to a.square (seen_from a.centre at) c.on).bound
 
 module _ (q0 : ℕ) (t : Travel) (at : Point) where
-  pub end-inside : (w : Work) → Bounded t at → workSound q0 t at w ≡ true → Bounded t (end_of at w)
-  unfolding workSound
-  end-inside Work.Nothing here e = here
-  end-inside (Work.Line l) here e = (line-work e).end
-  end-inside (Work.Arc a) here e = arc-end-inside (arc-work e).arc
+  pub end_inside : (w : Work) → Bounded t at → work_sound q0 t at w ≡ true → Bounded t (end_of at w)
+  unfolding work_sound
+  end_inside Work.Nothing here e = here
+  end_inside (Work.Line l) here e = (line_work e).end
+  end_inside (Work.Arc a) here e = arc_end_inside (arc_work e).arc
 
-  pub left-most : (w : Work) → workSound q0 t at w ≡ true → cyclesLeft at w ≤ 8000000
-  unfolding workSound
-  left-most Work.Nothing e = omega arith
-  left-most (Work.Line l) e =
-      let d = (line-work e).line.drawing in
-      omega (arith, d.own, cycles-bound l.start l.end d.short-x d.short-y)
-  left-most (Work.Arc a) e = let w = (arc-work e).arc in (cycles-bounds a at (record { on = w.on; end_on = w.end_on })).1
+  pub left_most : (w : Work) → work_sound q0 t at w ≡ true → cycles_left at w ≤ 8000000
+  unfolding work_sound
+  left_most Work.Nothing e = omega arith
+  left_most (Work.Line l) e =
+      let d = (line_work e).line.drawing in
+      omega (arith, d.own, cycles_bound l.start l.end d.short_x d.short_y)
+  left_most (Work.Arc a) e = let w = (arc_work e).arc in (cycles_bounds a at (record { on = w.on; end_on = w.end_on })).1
 
 -- ---- a block newly in work
 
-along-left : (start : Point) (b : Block) (p : Path) → cyclesLeft start (workAlong start b p) ≡ cyclesAlong start b p
-along-left start b Path.Line = by (lineCycles start b.end)
+along_left : (start : Point) (b : Block) (p : Path) → cycles_left start (work_along start b p) ≡ cycles_along start b p
+along_left start b Path.Line = by (line_cycles start b.end)
   where
     by : (n : ℕ) → n - 0 ≡ n
     by n = omega arith
-along-left start b (Path.Arc turn centre) = refl
+along_left start b (Path.Arc turn centre) = refl
 
-along-end : (start : Point) (b : Block) (p : Path) → end_of start (workAlong start b p) ≡ b.end
-unfolding arcOf
-along-end start b Path.Line = refl
-along-end start b (Path.Arc turn centre) = refl
+along_end : (start : Point) (b : Block) (p : Path) → end_of start (work_along start b p) ≡ b.end
+unfolding arc_of
+along_end start b Path.Line = refl
+along_end start b (Path.Arc turn centre) = refl
 
-along-root : (start : Point) (b : Block) (p : Path) → rootIn (workAlong start b p) ≡ rootAlong start b p
-unfolding arcOf
-along-root start b Path.Line = refl
-along-root start b (Path.Arc turn centre) = refl
+along_root : (start : Point) (b : Block) (p : Path) → root_in (work_along start b p) ≡ root_along start b p
+unfolding arc_of
+along_root start b Path.Line = refl
+along_root start b (Path.Arc turn centre) = refl
 
-along-busy : (start : Point) (b : Block) (p : Path) → isNothing (workAlong start b p) ≡ false
-along-busy start b Path.Line = refl
-along-busy start b (Path.Arc turn centre) = refl
+along_busy : (start : Point) (b : Block) (p : Path) → is_nothing (work_along start b p) ≡ false
+along_busy start b Path.Line = refl
+along_busy start b (Path.Arc turn centre) = refl
 
 module _ (start : Point) (b : Block) where
-  pub begun-left : cyclesLeft start (begunOf start b).work ≡ blockCycles start b
-  unfolding begunOf blockCycles
-  begun-left = along-left start b b.path
+  pub begun_left : cycles_left start (begun_of start b).work ≡ block_cycles start b
+  unfolding begun_of block_cycles
+  begun_left = along_left start b b.path
 
-  pub begun-end : end_of start (begunOf start b).work ≡ b.end
-  unfolding begunOf
-  begun-end = along-end start b b.path
+  pub begun_end : end_of start (begun_of start b).work ≡ b.end
+  unfolding begun_of
+  begun_end = along_end start b b.path
 
-  pub begun-root : rootIn (begunOf start b).work ≡ rootOf start b
-  unfolding begunOf rootOf
-  begun-root = along-root start b b.path
+  pub begun_root : root_in (begun_of start b).work ≡ root_of start b
+  unfolding begun_of root_of
+  begun_root = along_root start b b.path
 
-  pub begun-busy : isNothing (begunOf start b).work ≡ false
-  unfolding begunOf
-  begun-busy = along-busy start b b.path
+  pub begun_busy : is_nothing (begun_of start b).work ≡ false
+  unfolding begun_of
+  begun_busy = along_busy start b b.path
 
 -- what the code asks of an accepted block
 module _ {start : Point} {b : Block} (a : Accepted start b) where
   abbrev Asked : Path → Type 0
-  Asked p = Loadable start b p × Countable start (workAlong start b p)
+  Asked p = Loadable start b p × Countable start (work_along start b p)
 
   asked : Asked b.path
-  asked = by b.path (path-ready a)
+  asked = by b.path (path_ready a)
     where
       by : (p : Path) → Ready start b p → Asked p
       by Path.Line r =
-          let x = nat_abs (incrementX start b.end) in
-          let y = nat_abs (incrementY start b.end) in
+          let x = nat_abs (increment_x start b.end) in
+          let y = nat_abs (increment_y start b.end) in
           let s = both {a = leb x 2000000} {b = leb y 2000000} r in
-          let most = cycles-bound start b.end (leb-true x 2000000 s.0) (leb-true y 2000000 s.1) in
+          let most = cycles_bound start b.end (leb-true x 2000000 s.0) (leb-true y 2000000 s.1) in
           (r, (omega arith, omega (arith, most)))
       by (Path.Arc turn centre) r = ((r.0, r.1), r.2)
 
-  pub accepted-loadable : Loadable start b b.path
-  accepted-loadable = asked.0
+  pub accepted_loadable : Loadable start b b.path
+  accepted_loadable = asked.0
 
-  pub begun-countable : Countable start (begunOf start b).work
-  unfolding begunOf
-  begun-countable = asked.1
+  pub begun_countable : Countable start (begun_of start b).work
+  unfolding begun_of
+  begun_countable = asked.1

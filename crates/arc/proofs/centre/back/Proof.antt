@@ -10,13 +10,13 @@ module _ (s : tie.Start) where
   abbrev y : Code
   y = at s.args.centre.y 2000000 s.pre.0.y ⊞ at s.args.seen.y 4000000 s.pre.1.y
 
-add-t3 : tie.Need-overflow-add-t3
-add-t3 c =
+add_t3 : tie.Need-overflow-add-t3
+add_t3 c =
     let s = c.before.before.before.before in
     adds (at s.args.centre.x 2000000 s.requires.0.x) (at s.args.seen.x 4000000 s.requires.1.x) tt
 
-add-t4 : tie.Need-overflow-add-t4
-add-t4 c =
+add_t4 : tie.Need-overflow-add-t4
+add_t4 c =
     let s = c.before.before.before.before.before.before.before.before in
     adds (at s.args.centre.y 2000000 s.requires.0.y) (at s.args.seen.y 4000000 s.requires.1.y) tt
 
@@ -25,5 +25,5 @@ returns c =
     let s = c.before.before.before.before.before.before.before.before in
     λ i. record { x = exact (x s) tt i; y = exact (y s) tt i }
 
-pub back-spec : {M : Type 1} → statement M
-back-spec = tie.close (tie.spec add-t3 add-t4 returns)
+pub back_spec : {M : Type 1} → statement M
+back_spec = tie.close (tie.spec add_t3 add_t4 returns)

@@ -11,30 +11,30 @@ module _ (s : tie.Start) where
   y = at s.args.centre.y 2000000 s.pre.0.y
 
   abbrev right : Code
-  right = at s.args.travel.x.upper 1000000 s.pre.1.x-upper
+  right = at s.args.travel.x.upper 1000000 s.pre.1.x_upper
 
   abbrev up : Code
-  up = at s.args.travel.y.upper 1000000 s.pre.1.y-upper
+  up = at s.args.travel.y.upper 1000000 s.pre.1.y_upper
 
   abbrev left : Code
-  left = at s.args.travel.x.lower 1000000 s.pre.1.x-lower
+  left = at s.args.travel.x.lower 1000000 s.pre.1.x_lower
 
   abbrev down : Code
-  down = at s.args.travel.y.lower 1000000 s.pre.1.y-lower
+  down = at s.args.travel.y.lower 1000000 s.pre.1.y_lower
 
-sub-t5 : tie.Need-overflow-sub-t5
-sub-t5 c = let s = c.before.before.before.before.before.before in subs (right s) (x s) tt
+sub_t5 : tie.Need-overflow-sub-t5
+sub_t5 c = let s = c.before.before.before.before.before.before in subs (right s) (x s) tt
 
-sub-t6 : tie.Need-overflow-sub-t6
-sub-t6 c = let s = c.before.before.before.before.before.before.before.before.before.before in subs (up s) (y s) tt
+sub_t6 : tie.Need-overflow-sub-t6
+sub_t6 c = let s = c.before.before.before.before.before.before.before.before.before.before in subs (up s) (y s) tt
 
-sub-t7 : tie.Need-overflow-sub-t7
-sub-t7 c =
+sub_t7 : tie.Need-overflow-sub-t7
+sub_t7 c =
     let s = c.before.before.before.before.before.before.before.before.before.before.before.before.before.before in
     subs (x s) (left s) tt
 
-sub-t8 : tie.Need-overflow-sub-t8
-sub-t8 c =
+sub_t8 : tie.Need-overflow-sub-t8
+sub_t8 c =
     let l = c.before.before.before.before.before.before.before.before in
     let s = l.before.before.before.before.before.before.before.before.before.before in
     subs (y s) (down s) tt
@@ -50,5 +50,5 @@ returns c =
       down = exact (y s ⊟ down s) tt i;
     }
 
-pub room-spec : {M : Type 1} → statement M
-room-spec = tie.close (tie.spec sub-t5 sub-t6 sub-t7 sub-t8 returns)
+pub room_spec : {M : Type 1} → statement M
+room_spec = tie.close (tie.spec sub_t5 sub_t6 sub_t7 sub_t8 returns)

@@ -11,11 +11,11 @@ x p h = at p.x 2000000 h.x
 abbrev y : (p : Point) → Near 2000000 p → Code
 y p h = at p.y 2000000 h.y
 
-sub-t3 : tie.Need-overflow-sub-t3
-sub-t3 c = let s = c.before.before.before.before in subs (x s.args.at s.requires.1) (x s.args.centre s.requires.0) tt
+sub_t3 : tie.Need-overflow-sub-t3
+sub_t3 c = let s = c.before.before.before.before in subs (x s.args.at s.requires.1) (x s.args.centre s.requires.0) tt
 
-sub-t4 : tie.Need-overflow-sub-t4
-sub-t4 c =
+sub_t4 : tie.Need-overflow-sub-t4
+sub_t4 c =
     let s = c.before.before.before.before.before.before.before.before in
     subs (y s.args.at s.requires.1) (y s.args.centre s.requires.0) tt
 
@@ -27,5 +27,5 @@ returns c =
       y = exact (y s.args.at s.requires.1 ⊟ y s.args.centre s.requires.0) tt i;
     }
 
-pub seen-spec : {M : Type 1} → statement M
-seen-spec = tie.close (tie.spec sub-t3 sub-t4 returns)
+pub seen_spec : {M : Type 1} → statement M
+seen_spec = tie.close (tie.spec sub_t3 sub_t4 returns)

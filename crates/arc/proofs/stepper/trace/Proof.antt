@@ -4,21 +4,21 @@ use Rattle.arc.proofs.stepper.trace.Tie as tie
 use mathlib.Core.Path.{ap, ◌∙◌}
 use Prim.Native.Nat.{ℕ}
 use Rattle.circle.specs.declared.step.Move.TheVariants.{Rise}
-use Rattle.circle.specs.laws.Stepper.{entered-bounds}
-use Rattle.arc.specs.computed.Stepper.{moveCode}
-use Rattle.arc.specs.laws.Stepper.{next-below, fall-rise}
+use Rattle.circle.specs.laws.Stepper.{entered_bounds}
+use Rattle.arc.specs.computed.Stepper.{move_code}
+use Rattle.arc.specs.laws.Stepper.{next_below, fall_rise}
 
-rise-code-requires : tie.Need-rise-code-requires
-rise-code-requires c κs = (entered-bounds c.requires).four
+rise_code_requires : tie.Need-rise-code-requires
+rise_code_requires c κs = (entered_bounds c.requires).four
 
-next-quadrant-requires : tie.Need-next-quadrant-requires
-next-quadrant-requires c κs = (entered-bounds c.before.requires).four
+next_quadrant_requires : tie.Need-next-quadrant-requires
+next_quadrant_requires c κs = (entered_bounds c.before.requires).four
 
-rise-code-requires-2 : tie.Need-rise-code-requires-2
-rise-code-requires-2 c κs = rw c.next-quadrant.ensures (next-below _ (entered-bounds c.before.before.requires).four)
+rise_code_requires_2 : tie.Need-rise-code-requires-2
+rise_code_requires_2 c κs = rw c.next_quadrant.ensures (next_below _ (entered_bounds c.before.before.requires).four)
 
-next-move-requires : tie.Need-next-move-requires
-next-move-requires c κs = c.before.before.before.requires
+next_move_requires : tie.Need-next-move-requires
+next_move_requires c κs = c.before.before.before.requires
 
 returns : tie.Need-returns
 returns c =
@@ -27,11 +27,11 @@ returns c =
     let rise = c.before.before.before.rise-code.ensures in
     let fall =
     c.before.rise-code2.ensures
-    ∙ ap (λ (k : ℕ). moveCode s.turn k Rise) c.before.before.next-quadrant.ensures
-    ∙ fall-rise s.turn s.quadrant (entered-bounds b.requires).four in
+    ∙ ap (λ (k : ℕ). move_code s.turn k Rise) c.before.before.next_quadrant.ensures
+    ∙ fall_rise s.turn s.quadrant (entered_bounds b.requires).four in
     let next = c.next-move.ensures in
     λ i. record { circle = s; rise = rise i; fall = fall i; next = next i }
 
-pub trace-spec : {M : Type 1} → statement M
-trace-spec =
-    tie.close (tie.spec rise-code-requires next-quadrant-requires rise-code-requires-2 next-move-requires returns)
+pub trace_spec : {M : Type 1} → statement M
+trace_spec =
+    tie.close (tie.spec rise_code_requires next_quadrant_requires rise_code_requires_2 next_move_requires returns)

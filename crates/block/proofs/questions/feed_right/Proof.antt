@@ -6,8 +6,8 @@ use Rattle.block.proofs.questions.feed_right.Tie as tie
 returns : tie.Need-returns
 returns c = simp (lt-leb _ _ c.if1.true)
 
-returns-2 : tie.Need-returns-2
-returns-2 c = simp (le-leb _ _ c.if1.false)
+returns_2 : tie.Need-returns-2
+returns_2 c = simp (le-leb _ _ c.if1.false)
 
-pub feed-right-spec : {M : Type 1} → statement M
-feed-right-spec = tie.close (tie.spec returns returns-2)
+pub feed_right_spec : {M : Type 1} → statement M
+feed_right_spec = tie.close (tie.spec returns returns_2)

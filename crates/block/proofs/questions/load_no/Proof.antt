@@ -3,8 +3,8 @@ use borrow.Author.Rules.{rules}
 use mathlib.Core.Path.{◌≡◌, sym, ◌∙◌}
 use mathlib.Core.Bool.{true}
 use borrow.Author.Tests.{not-true, not-false}
-use Rattle.plane.specs.Travel.{insideOf}
-use Rattle.block.specs.Questions.{feedRight, loadNo}
+use Rattle.plane.specs.Travel.{inside_of}
+use Rattle.block.specs.Questions.{feed_right, load_no}
 use Rattle.block.proofs.questions.load_no.Statement.{statement}
 use Rattle.block.proofs.questions.load_no.Tie as tie
 
@@ -12,49 +12,49 @@ use Rattle.block.proofs.questions.load_no.Tie as tie
 room : (c : tie.Else1) → c.before.args.room ≡ true
 room c = not-false c.before.args.room c.if1.false
 
-feed : (c : tie.Else2) → feedRight c.before.before.before.args.capacity c.before.before.before.args.b.feed ≡ true
-feed c = sym c.before.feed-right.ensures ∙ not-false _ c.if2.false
+feed : (c : tie.Else2) → feed_right c.before.before.before.args.capacity c.before.before.before.args.b.feed ≡ true
+feed c = sym c.before.feed_right.ensures ∙ not-false _ c.if2.false
 
-end-in : (c : tie.Else3)
-    → insideOf c.before.before.before.before.before.before.args.travel
+end_in_lem : (c : tie.Else3)
+    → inside_of c.before.before.before.before.before.before.args.travel
     c.before.before.before.before.before.before.args.b.end ≡ true
-end-in c = sym c.before.inside.ensures ∙ not-false _ c.if3.false
+end_in_lem c = sym c.before.inside.ensures ∙ not-false _ c.if3.false
 
 returns : tie.Need-returns
-unfolding loadNo
+unfolding load_no
 returns c = simp (not-true c.before.args.room c.if1.true)
 
-feed-right-requires : tie.Need-feed-right-requires
-feed-right-requires c κs = search rules
+feed_right_requires : tie.Need-feed-right-requires
+feed_right_requires c κs = search rules
 
-returns-2 : tie.Need-returns-2
-unfolding loadNo
-returns-2 c = simp (room c.before.before, sym c.before.feed-right.ensures ∙ not-true _ c.if2.true)
+returns_2 : tie.Need-returns-2
+unfolding load_no
+returns_2 c = simp (room c.before.before, sym c.before.feed_right.ensures ∙ not-true _ c.if2.true)
 
-inside-requires : tie.Need-inside-requires
-inside-requires c κs = search rules
+inside_requires : tie.Need-inside-requires
+inside_requires c κs = search rules
 
-returns-3 : tie.Need-returns-3
-unfolding loadNo
-returns-3 c = simp (
+returns_3 : tie.Need-returns-3
+unfolding load_no
+returns_3 c = simp (
   room c.before.before.before.before.before,
   feed c.before.before.before,
   sym c.before.inside.ensures
       ∙ not-true _ c.if3.true,
 )
 
-path-no-requires : tie.Need-path-no-requires
-path-no-requires c κs = let s = c.before.before.before.before.before.before in (s.requires.0, s.requires.1, end-in c)
+path_no_requires : tie.Need-path-no-requires
+path_no_requires c κs = let s = c.before.before.before.before.before.before in (s.requires.0, s.requires.1, end_in_lem c)
 
-returns-4 : tie.Need-returns-4
-unfolding loadNo
-returns-4 c = c.path-no.ensures ∙ simp (
+returns_4 : tie.Need-returns-4
+unfolding load_no
+returns_4 c = c.path_no.ensures ∙ simp (
   room c.before.before.before.before.before.before,
   feed c.before.before.before.before,
-  end-in c.before,
+  end_in_lem c.before,
 )
 
-pub load-no-spec : {M : Type 1} → statement M
-load-no-spec =
+pub load_no_spec : {M : Type 1} → statement M
+load_no_spec =
     tie.close
-    (tie.spec returns feed-right-requires returns-2 inside-requires returns-3 path-no-requires returns-4)
+    (tie.spec returns feed_right_requires returns_2 inside_requires returns_3 path_no_requires returns_4)

@@ -3,56 +3,56 @@ use borrow.Author.Rules.{rules}
 use mathlib.Core.Path.{subst, ◌∙◌}
 use Prim.Native.Nat.{◌≤◌}
 use native.Mathlib.Omega.{arith}
-use Rattle.block.specs.Chain.{rootOf}
-use Rattle.block.specs.laws.Accepted.{Ready, path-ready}
-use Rattle.block.specs.laws.Begin.{offset-right, square-most}
+use Rattle.block.specs.Chain.{root_of}
+use Rattle.block.specs.laws.Accepted.{Ready, path_ready}
+use Rattle.block.specs.laws.Begin.{offset_right_lem, square_most}
 use Rattle.block.proofs.root.is_root.Statement.{statement}
 use Rattle.block.proofs.root.is_root.Tie as tie
 
 enum_told : tie.Need-enum-told
 enum_told c = search rules
 
-takes-requires : tie.Need-takes-requires
-takes-requires c κs =
+takes_requires : tie.Need-takes-requires
+takes_requires c κs =
     let s = c.before.before.before in
-    subst (Ready s.args.start s.args.b) c.enum_told.given.1 (path-ready s.requires)
+    subst (Ready s.args.start s.args.b) c.enum_told.given.1 (path_ready s.requires)
 
-enum-known-path : tie.Need-enum-known-path
-enum-known-path c = search rules
+enum_known_path : tie.Need-enum-known-path
+enum_known_path c = search rules
 
-square-requires : tie.Need-square-requires
-square-requires c κs =
+square_requires : tie.Need-square-requires
+square_requires c κs =
     let s = c.before.before.before.before in
-    (subst (Ready s.args.start s.args.b) c.before.path.given.1 (path-ready s.requires)).1
+    (subst (Ready s.args.start s.args.b) c.before.path.given.1 (path_ready s.requires)).1
 
 small : (c : tie.After-square) → c.square.result ≤ 2000000000000
 small c =
     let o = c.before.before.path.given.0.1.0 in
-    rw c.square.ensures (square-most o (offset-right o (square-requires c.before tt)))
+    rw c.square.ensures (square_most o (offset_right_lem o (square_requires c.before tt)))
 
-mul-is-nearest-root : tie.Need-overflow-mul-is-nearest-root
-mul-is-nearest-root c = omega (arith, small c)
+mul_is_nearest_root : tie.Need-overflow-mul-is-nearest-root
+mul_is_nearest_root c = omega (arith, small c)
 
-is-nearest-root-requires : tie.Need-is-nearest-root-requires
-is-nearest-root-requires c κs = omega (arith, small c)
+is_nearest_root_requires : tie.Need-is-nearest-root-requires
+is_nearest_root_requires c κs = omega (arith, small c)
 
 returns : tie.Need-returns
-unfolding rootOf
+unfolding root_of
 returns c = simp (c.before.enum_told.given.1, c.takes.ensures)
 
-returns-2 : tie.Need-returns-2
-unfolding rootOf
-returns-2 c = c.is-nearest-root.ensures ∙ simp (c.before.before.before.path.given.1, c.before.square.ensures)
+returns_2 : tie.Need-returns-2
+unfolding root_of
+returns_2 c = c.is-nearest-root.ensures ∙ simp (c.before.before.before.path.given.1, c.before.square.ensures)
 
-pub is-root-spec : {M : Type 1} → statement M
-is-root-spec =
+pub is_root_spec : {M : Type 1} → statement M
+is_root_spec =
     tie.close
     (tie.spec
     enum_told
-    takes-requires
-    enum-known-path
-    square-requires
-    mul-is-nearest-root
-    is-nearest-root-requires
+    takes_requires
+    enum_known_path
+    square_requires
+    mul_is_nearest_root
+    is_nearest_root_requires
     returns
-    returns-2)
+    returns_2)

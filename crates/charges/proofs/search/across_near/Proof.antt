@@ -3,72 +3,72 @@ use borrow.Author.Rules.{rules}
 use Prim.Native.Nat.{◌+◌, ◌/◌, ◌≤◌}
 use native.Mathlib.Nat.{mul-le-mul}
 use native.Mathlib.Omega.{arith}
-use Rattle.whole.specs.laws.Root.{nearest-least}
+use Rattle.whole.specs.laws.Root.{nearest_least}
 use Rattle.charges.proofs.search.across_near.Statement.{statement}
 use Rattle.charges.proofs.search.across_near.Tie as tie
 
-root-small : (c : tie.After-nearest-root) → c.nearest-root.result ≤ 3000000
-root-small c = omega (arith, c.nearest-root.ensures, nearest-least (c.before.less3.result / 262144) 3000000 (omega arith))
+root_small : (c : tie.After-nearest-root) → c.nearest_root.result ≤ 3000000
+root_small c = omega (arith, c.nearest_root.ensures, nearest_least (c.before.less3.result / 262144) 3000000 (omega arith))
 
-mul-middle : tie.Need-overflow-mul-middle
-mul-middle c = search rules
+mul_middle : tie.Need-overflow-mul-middle
+mul_middle c = search rules
 
-less-requires : tie.Need-less-requires
-less-requires c κs = search rules
+less_requires : tie.Need-less-requires
+less_requires c κs = search rules
 
-less-requires-2 : tie.Need-less-requires-2
-less-requires-2 c κs = search rules
+less_requires_2 : tie.Need-less-requires-2
+less_requires_2 c κs = search rules
 
-add-d : tie.Need-overflow-add-d
-add-d c = search rules
+add_d : tie.Need-overflow-add-d
+add_d c = search rules
 
-mul-less : tie.Need-overflow-mul-less
-mul-less c = search rules
+mul_less : tie.Need-overflow-mul-less
+mul_less c = search rules
 
-mul-less-2 : tie.Need-overflow-mul-less-2
-mul-less-2 c =
+mul_less_2 : tie.Need-overflow-mul-less-2
+mul_less_2 c =
     let d : c.before.less.result + c.less2.result ≤ 2400000000 = omega arith in
     omega (arith, mul-le-mul d d)
 
-less-requires-3 : tie.Need-less-requires-3
-less-requires-3 c κs = search rules
+less_requires_3 : tie.Need-less-requires-3
+less_requires_3 c κs = search rules
 
-nearest-root-requires : tie.Need-nearest-root-requires
-nearest-root-requires c κs = search rules
+nearest_root_requires : tie.Need-nearest-root-requires
+nearest_root_requires c κs = search rules
 
-mul-less-3 : tie.Need-overflow-mul-less-3
-mul-less-3 c = search rules
+mul_less_3 : tie.Need-overflow-mul-less-3
+mul_less_3 c = search rules
 
-mul-less-4 : tie.Need-overflow-mul-less-4
-mul-less-4 c = omega (arith, root-small c)
+mul_less_4 : tie.Need-overflow-mul-less-4
+mul_less_4 c = omega (arith, root_small c)
 
-add-less : tie.Need-overflow-add-less
-add-less c = omega (arith, root-small c)
+add_less : tie.Need-overflow-add-less
+add_less c = omega (arith, root_small c)
 
-mul-less-5 : tie.Need-overflow-mul-less-5
-mul-less-5 c = search rules
+mul_less_5 : tie.Need-overflow-mul-less-5
+mul_less_5 c = search rules
 
-less-requires-4 : tie.Need-less-requires-4
-less-requires-4 c κs = search rules
+less_requires_4 : tie.Need-less-requires-4
+less_requires_4 c κs = search rules
 
 returns : tie.Need-returns
-returns c = omega (arith, root-small c.before)
+returns c = omega (arith, root_small c.before)
 
-pub across-near-spec : {M : Type 1} → statement M
-across-near-spec =
+pub across_near_spec : {M : Type 1} → statement M
+across_near_spec =
     tie.close
     (tie.spec
-    mul-middle
-    less-requires
-    less-requires-2
-    add-d
-    mul-less
-    mul-less-2
-    less-requires-3
-    nearest-root-requires
-    mul-less-3
-    mul-less-4
-    add-less
-    mul-less-5
-    less-requires-4
+    mul_middle
+    less_requires
+    less_requires_2
+    add_d
+    mul_less
+    mul_less_2
+    less_requires_3
+    nearest_root_requires
+    mul_less_3
+    mul_less_4
+    add_less
+    mul_less_5
+    less_requires_4
     returns)

@@ -15,66 +15,66 @@ before_small c =
     let k : s.args.toll / q ≤ 20000000000 = omega (arith, div-le_self s.args.toll q) in
     mul-le-mul k s.requires.2
 
-rest-small : (c : tie.After-quadrant-charges) → c.before.args.toll % c.quadrant-charges.result < c.quadrant-charges.result
-rest-small c = mod-lt c.before.args.toll (omega (arith, c.quadrant-charges.ensures))
+rest_small : (c : tie.After-quadrant-charges) → c.before.args.toll % c.quadrant-charges.result < c.quadrant-charges.result
+rest_small c = mod-lt c.before.args.toll (omega (arith, c.quadrant-charges.ensures))
 
-quadrant-charges-requires : tie.Need-quadrant-charges-requires
-quadrant-charges-requires c κs = search rules
+quadrant_charges_requires : tie.Need-quadrant-charges-requires
+quadrant_charges_requires c κs = search rules
 
-div-before : tie.Need-nonzero-div-before
-div-before c = search rules
+div_before : tie.Need-nonzero-div-before
+div_before c = search rules
 
-mul-before : tie.Need-overflow-mul-before
-mul-before c = omega (arith, before_small c)
+mul_before : tie.Need-overflow-mul-before
+mul_before c = omega (arith, before_small c)
 
-rem-rest : tie.Need-nonzero-rem-rest
-rem-rest c = search rules
+rem_rest : tie.Need-nonzero-rem-rest
+rem_rest c = search rules
 
-mul-if1 : tie.Need-overflow-mul-if1
-mul-if1 c = omega (arith, rest-small c)
+mul_if1 : tie.Need-overflow-mul-if1
+mul_if1 c = omega (arith, rest_small c)
 
-across-near-requires : tie.Need-across-near-requires
-across-near-requires c κs = omega (arith, rest-small c.before)
+across_near_requires : tie.Need-across-near-requires
+across_near_requires c κs = omega (arith, rest_small c.before)
 
-add-result : tie.Need-overflow-add-result
-add-result c = omega (arith, before_small c.before.before)
+add_result : tie.Need-overflow-add-result
+add_result c = omega (arith, before_small c.before.before)
 
 returns : tie.Need-returns
 returns c = omega (arith, before_small c.before.before)
 
-add-less : tie.Need-overflow-add-less
-add-less c = omega (arith, before_small c.before)
+add_less : tie.Need-overflow-add-less
+add_less c = omega (arith, before_small c.before)
 
-sub-across-near : tie.Need-overflow-sub-across-near
-sub-across-near c = omega (arith, rest-small c.before)
+sub_across_near : tie.Need-overflow-sub-across-near
+sub_across_near c = omega (arith, rest_small c.before)
 
-across-near-requires-2 : tie.Need-across-near-requires-2
-across-near-requires-2 c κs = search rules
+across_near_requires_2 : tie.Need-across-near-requires-2
+across_near_requires_2 c κs = search rules
 
-add-less-2 : tie.Need-overflow-add-less-2
-add-less-2 c = search rules
+add_less_2 : tie.Need-overflow-add-less-2
+add_less_2 c = search rules
 
-less-requires : tie.Need-less-requires
-less-requires c κs = search rules
+less_requires : tie.Need-less-requires
+less_requires c κs = search rules
 
-returns-2 : tie.Need-returns-2
-returns-2 c = omega (arith, before_small c.before.before.before)
+returns_2 : tie.Need-returns-2
+returns_2 c = omega (arith, before_small c.before.before.before)
 
-pub rank-near-spec : {M : Type 1} → statement M
-rank-near-spec =
+pub rank_near_spec : {M : Type 1} → statement M
+rank_near_spec =
     tie.close
     (tie.spec
-    quadrant-charges-requires
-    div-before
-    mul-before
-    rem-rest
-    mul-if1
-    across-near-requires
-    add-result
+    quadrant_charges_requires
+    div_before
+    mul_before
+    rem_rest
+    mul_if1
+    across_near_requires
+    add_result
     returns
-    add-less
-    sub-across-near
-    across-near-requires-2
-    add-less-2
-    less-requires
-    returns-2)
+    add_less
+    sub_across_near
+    across_near_requires_2
+    add_less_2
+    less_requires
+    returns_2)

@@ -7,40 +7,40 @@ use borrow.Author.Rules.{rules}
 use Rattle.circle.proofs.plane.near_circle.Statement.{statement}
 use Rattle.circle.proofs.plane.near_circle.Tie as tie
 
-square-bound : {a : ℕ} → a ≤ 2000000 → a * a ≤ 2000000 * 2000000
-square-bound h = mul-le-mul h h
+square_bound : {a : ℕ} → a ≤ 2000000 → a * a ≤ 2000000 * 2000000
+square_bound h = mul-le-mul h h
 
-larger-requires : tie.Need-larger-requires
-larger-requires c κs = search rules
+larger_requires : tie.Need-larger-requires
+larger_requires c κs = search rules
 
-mul-s : tie.Need-overflow-mul-s
-mul-s c = omega (arith, square-bound c.before.requires.1)
+mul_s : tie.Need-overflow-mul-s
+mul_s c = omega (arith, square_bound c.before.requires.1)
 
-mul-s-2 : tie.Need-overflow-mul-s-2
-mul-s-2 c = omega (arith, square-bound c.before.requires.2)
+mul_s_2 : tie.Need-overflow-mul-s-2
+mul_s_2 c = omega (arith, square_bound c.before.requires.2)
 
-add-s : tie.Need-overflow-add-s
-add-s c = omega (arith, square-bound c.before.requires.1, square-bound c.before.requires.2)
+add_s : tie.Need-overflow-add-s
+add_s c = omega (arith, square_bound c.before.requires.1, square_bound c.before.requires.2)
 
-add-if1 : tie.Need-overflow-add-if1
-add-if1 c = search rules
+add_if1 : tie.Need-overflow-add-if1
+add_if1 c = search rules
 
 returns : tie.Need-returns
 returns c =
     let s = c.before.before.args in
     rw (le-ltb (s.a * s.a + s.b * s.b) (s.n + max s.a s.b) (omega (arith, c.before.larger.ensures)))
 
-add-result : tie.Need-overflow-add-result
-add-result c = search rules
+add_result : tie.Need-overflow-add-result
+add_result c = search rules
 
-returns-2 : tie.Need-returns-2
-returns-2 c =
+returns_2 : tie.Need-returns-2
+returns_2 c =
     let s = c.before.before.args in
     rw (
       c.before.larger.ensures,
       lt-ltb (s.a * s.a + s.b * s.b) (s.n + max s.a s.b) (omega (arith, c.before.larger.ensures)),
     )
 
-pub near-circle-spec : {M : Type 1} → statement M
-near-circle-spec =
-    tie.close (tie.spec larger-requires mul-s mul-s-2 add-s add-if1 returns add-result returns-2)
+pub near_circle_spec : {M : Type 1} → statement M
+near_circle_spec =
+    tie.close (tie.spec larger_requires mul_s mul_s_2 add_s add_if1 returns add_result returns_2)

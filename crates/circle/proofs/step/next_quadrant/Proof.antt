@@ -4,14 +4,14 @@ use borrow.Author.Rules.{rules}
 use Rattle.circle.proofs.step.next_quadrant.Statement.{statement}
 use Rattle.circle.proofs.step.next_quadrant.Tie as tie
 
-add-result : tie.Need-overflow-add-result
-add-result c = search rules
+add_result : tie.Need-overflow-add-result
+add_result c = search rules
 
 returns : tie.Need-returns
 returns c = rw (eq-eqb c.before.args.k 3 c.if1.true)
 
-returns-2 : tie.Need-returns-2
-returns-2 c = rw (ne_eqb c.before.args.k 3 c.if1.false)
+returns_2 : tie.Need-returns-2
+returns_2 c = rw (ne_eqb c.before.args.k 3 c.if1.false)
 
-pub next-quadrant-spec : {M : Type 1} → statement M
-next-quadrant-spec = tie.close (tie.spec add-result returns returns-2)
+pub next_quadrant_spec : {M : Type 1} → statement M
+next_quadrant_spec = tie.close (tie.spec add_result returns returns_2)

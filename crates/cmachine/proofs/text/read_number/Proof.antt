@@ -1,43 +1,43 @@
 -- `read_number` is right because each answer has its own number.
 use borrow.Author.Rules.{rules}
 use mathlib.Core.Path.{◌∙◌}
-use Rattle.encoding.specs.laws.Number.{word_fits, refusal-fits, through}
+use Rattle.encoding.specs.laws.Number.{word_fits, refusal_fits, through}
 use Rattle.cmachine.proofs.text.read_number.Statement.{statement}
 use Rattle.cmachine.proofs.text.read_number.Tie as tie
 
 enum_told : tie.Need-enum-told
 enum_told c = search rules
 
-enum-known-read : tie.Need-enum-known-read
-enum-known-read c = search rules
+enum_known_read : tie.Need-enum-known-read
+enum_known_read c = search rules
 
-word-requires : tie.Need-word-requires
-word-requires c κs = search rules
+word_requires : tie.Need-word-requires
+word_requires c κs = search rules
 
-enum-known-read-2 : tie.Need-enum-known-read-2
-enum-known-read-2 c = search rules
+enum_known_read_2 : tie.Need-enum-known-read-2
+enum_known_read_2 c = search rules
 
-refusal-requires : tie.Need-refusal-requires
-refusal-requires c κs = search rules
+refusal_requires : tie.Need-refusal-requires
+refusal_requires c κs = search rules
 
 returns : tie.Need-returns
 returns c = cc
 
-returns-2 : tie.Need-returns-2
-returns-2 c = through (word_fits _) c.word.ensures ∙ simp c.before.before.read.given.1
+returns_2 : tie.Need-returns-2
+returns_2 c = through (word_fits _) c.word.ensures ∙ simp c.before.before.read.given.1
 
-returns-3 : tie.Need-returns-3
-returns-3 c = through (refusal-fits _) c.refusal.ensures ∙ simp c.before.before.read2.given.1
+returns_3 : tie.Need-returns-3
+returns_3 c = through (refusal_fits _) c.refusal.ensures ∙ simp c.before.before.read2.given.1
 
-pub read-number-spec : {M : Type 1} → statement M
-read-number-spec =
+pub read_number_spec : {M : Type 1} → statement M
+read_number_spec =
     tie.close
     (tie.spec
     enum_told
-    enum-known-read
-    word-requires
-    enum-known-read-2
-    refusal-requires
+    enum_known_read
+    word_requires
+    enum_known_read_2
+    refusal_requires
     returns
-    returns-2
-    returns-3)
+    returns_2
+    returns_3)

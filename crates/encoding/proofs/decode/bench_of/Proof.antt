@@ -3,14 +3,14 @@ use borrow.Author.Rules.{rules}
 use Rattle.encoding.proofs.decode.bench_of.Statement.{statement}
 use Rattle.encoding.proofs.decode.bench_of.Tie as tie
 
-settings-in-requires : tie.Need-settings-in-requires
-settings-in-requires c κs = search rules
+settings_in_requires : tie.Need-settings-in-requires
+settings_in_requires c κs = search rules
 
-count-requires : tie.Need-count-requires
-count-requires c κs = search rules
+count_requires : tie.Need-count-requires
+count_requires c κs = search rules
 
-count-requires-2 : tie.Need-count-requires-2
-count-requires-2 c κs = search rules
+count_requires_2 : tie.Need-count-requires-2
+count_requires_2 c κs = search rules
 
 returns : tie.Need-returns
 returns c = search (
@@ -20,5 +20,5 @@ returns c = search (
   c.count2.ensures,
 )
 
-pub bench-of-spec : {M : Type 1} → statement M
-bench-of-spec = tie.close (tie.spec settings-in-requires count-requires count-requires-2 returns)
+pub bench_of_spec : {M : Type 1} → statement M
+bench_of_spec = tie.close (tie.spec settings_in_requires count_requires count_requires_2 returns)

@@ -7,26 +7,26 @@ use mir.Syntax.{w64}
 use mir.Val.{SFits}
 use mir.Facts.{to_z-of_z}
 use Rattle.encoding.specs.declared.encode.Head.{Head}
-use Rattle.encoding.specs.computed.Right.{wordsRight}
-use Rattle.encoding.specs.laws.Right.{WorkFits, right-same}
+use Rattle.encoding.specs.computed.Right.{words_right}
+use Rattle.encoding.specs.laws.Right.{WorkFits, right_same}
 use Rattle.encoding.proofs.decode.is_record.Statement.{statement}
 use Rattle.encoding.proofs.decode.is_record.Tie as tie
 
-array-copy-out-words-right : tie.Need-array-copy-out-words-right
-array-copy-out-words-right c = search rules
+array_copy_out_words_right : tie.Need-array-copy-out-words-right
+array_copy_out_words_right c = search rules
 
-head-in-requires : tie.Need-head-in-requires
-head-in-requires c κs = search rules
+head_in_requires : tie.Need-head-in-requires
+head_in_requires c κs = search rules
 
-work-words-in-requires : tie.Need-work-words-in-requires
-work-words-in-requires c κs = search rules
+work_words_in_requires : tie.Need-work-words-in-requires
+work_words_in_requires c κs = search rules
 
-words-right-requires : tie.Need-words-right-requires
-words-right-requires c κs = search rules
+words_right_requires : tie.Need-words-right-requires
+words_right_requires c κs = search rules
 
 -- what the tests say of the words
-right_is : (c : tie.After-words-right) → c.words_right.result ≡ wordsRight c.before.before.before.before.args.t1
-unfolding wordsRight
+right_is : (c : tie.After-words-right) → c.words_right.result ≡ words_right c.before.before.before.before.args.t1
+unfolding words_right
 right_is c =
     let n = c.before in
     let f : SFits w64 (get_or n.before.before.before.args.t1 0 (pos 0)) = search rules in
@@ -45,7 +45,7 @@ returns c =
     let m : SFits w64 n.result.f = search rules in
     let o : SFits w64 n.result.g = search (rules, n.type-inv.1.1.1.1.1.1) in
     right_is c
-    ∙ right-same c.before.before.before.before.args.t1 (search rules)
+    ∙ right_same c.before.before.before.before.args.t1 (search rules)
     (record {
       p = subst (λ (g : Head). SFits w64 g.p) h.ensures p;
       w = subst (λ (g : Head). SFits w64 g.w) h.ensures w;
@@ -53,12 +53,12 @@ returns c =
       work = subst WorkFits n.ensures (record { c = k; e = l; f = m; g = o });
     })
 
-pub is-record-spec : {M : Type 1} → statement M
-is-record-spec =
+pub is_record_spec : {M : Type 1} → statement M
+is_record_spec =
     tie.close
     (tie.spec
-    array-copy-out-words-right
-    head-in-requires
-    work-words-in-requires
-    words-right-requires
+    array_copy_out_words_right
+    head_in_requires
+    work_words_in_requires
+    words_right_requires
     returns)

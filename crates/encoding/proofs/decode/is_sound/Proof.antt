@@ -2,30 +2,30 @@
 use borrow.Author.Rules.{rules}
 use borrow.Author.Tests.{not-true, not-false}
 use mathlib.Core.Path.{sym, ◌∙◌}
-use Rattle.encoding.specs.computed.Words.{soundWords}
+use Rattle.encoding.specs.computed.Words.{sound_words}
 use Rattle.encoding.proofs.decode.is_sound.Statement.{statement}
 use Rattle.encoding.proofs.decode.is_sound.Tie as tie
 
-is-record-requires : tie.Need-is-record-requires
-is-record-requires c κs = search rules
+is_record_requires : tie.Need-is-record-requires
+is_record_requires c κs = search rules
 
 returns : tie.Need-returns
-unfolding soundWords
+unfolding sound_words
 returns c = rw (sym c.before.is-record.ensures ∙ not-true _ c.if1.true)
 
-bench-read-requires : tie.Need-bench-read-requires
-bench-read-requires c κs = search rules
+bench_read_requires : tie.Need-bench-read-requires
+bench_read_requires c κs = search rules
 
-sound-requires : tie.Need-sound-requires
-sound-requires c κs = search rules
+sound_requires : tie.Need-sound-requires
+sound_requires c κs = search rules
 
-returns-2 : tie.Need-returns-2
-unfolding soundWords
-returns-2 c =
+returns_2 : tie.Need-returns-2
+unfolding sound_words
+returns_2 c =
     let m = c.before.before.before in
     let e = m.before in
-    c.sound.ensures ∙ rw (m.bench-read.ensures, sym e.before.is-record.ensures ∙ not-false _ e.if1.false)
+    c.sound.ensures ∙ rw (m.bench_read.ensures, sym e.before.is-record.ensures ∙ not-false _ e.if1.false)
 
-pub is-sound-spec : {M : Type 1} → statement M
-is-sound-spec =
-    tie.close (tie.spec is-record-requires returns bench-read-requires sound-requires returns-2)
+pub is_sound_spec : {M : Type 1} → statement M
+is_sound_spec =
+    tie.close (tie.spec is_record_requires returns bench_read_requires sound_requires returns_2)

@@ -6,5 +6,5 @@ use Rattle.encoding.proofs.encode.lay.Tie as tie
 returns : tie.Need-returns
 returns c = search to_z-of_z
 
-pub lay-spec : {M : Type 1} → statement M
-lay-spec = tie.close (tie.spec returns)
+pub lay_spec : {M : Type 1} → statement M
+lay_spec = tie.close (tie.spec returns)

@@ -5,8 +5,8 @@ use Rattle.encoding.proofs.encode.mark_word.Tie as tie
 returns : tie.Need-returns
 returns c = rw c.if1.true
 
-returns-2 : tie.Need-returns-2
-returns-2 c = rw c.if1.false
+returns_2 : tie.Need-returns-2
+returns_2 c = rw c.if1.false
 
-pub mark-word-spec : {M : Type 1} → statement M
-mark-word-spec = tie.close (tie.spec returns returns-2)
+pub mark_word_spec : {M : Type 1} → statement M
+mark_word_spec = tie.close (tie.spec returns returns_2)

@@ -4,11 +4,11 @@ use mir.Facts.{to_z-of_z}
 use Rattle.encoding.proofs.given.settings.Statement.{statement}
 use Rattle.encoding.proofs.given.settings.Tie as tie
 
-count-requires : tie.Need-count-requires
-count-requires c κs = search rules
+count_requires : tie.Need-count-requires
+count_requires c κs = search rules
 
-count-requires-2 : tie.Need-count-requires-2
-count-requires-2 c κs = search rules
+count_requires_2 : tie.Need-count-requires-2
+count_requires_2 c κs = search rules
 
 returns : tie.Need-returns
 returns c =
@@ -21,5 +21,5 @@ returns c =
     let yhi = s.ranges.yhi in
     simp (to_z-of_z, c.before.count.ensures, c.count2.ensures)
 
-pub settings-spec : {M : Type 1} → statement M
-settings-spec = tie.close (tie.spec count-requires count-requires-2 returns)
+pub settings_spec : {M : Type 1} → statement M
+settings_spec = tie.close (tie.spec count_requires count_requires_2 returns)

@@ -5,44 +5,44 @@ use mathlib.Core.Path.{◌≡◌, sym, ◌∙◌}
 use mir.Syntax.{w64}
 use mir.Val.{SFits}
 use mir.Facts.{to_z-of_z}
-use Rattle.encoding.specs.computed.Right.{isCount}
+use Rattle.encoding.specs.computed.Right.{is_count}
 use Rattle.encoding.proofs.right.line_right.Statement.{statement}
 use Rattle.encoding.proofs.right.line_right.Tie as tie
 
 -- what each call says, over the word itself
-e-is : (c : tie.After-is-count) → c.is-count.result ≡ isCount c.before.before.args.w.e
-e-is c = let f : SFits w64 c.before.before.args.w.e = search rules in simp to_z-of_z at c.is-count.ensures
+e_is : (c : tie.After-is-count) → c.is-count.result ≡ is_count c.before.before.args.w.e
+e_is c = let f : SFits w64 c.before.before.args.w.e = search rules in simp to_z-of_z at c.is-count.ensures
 
-f-is : (c : tie.After-is-count2) → c.is-count2.result ≡ isCount c.before.before.before.before.before.args.w.f
-f-is c = let f : SFits w64 c.before.before.before.before.before.args.w.f = search rules in simp to_z-of_z at c.is-count2.ensures
+f_is : (c : tie.After-is-count2) → c.is-count2.result ≡ is_count c.before.before.before.before.before.args.w.f
+f_is c = let f : SFits w64 c.before.before.before.before.before.args.w.f = search rules in simp to_z-of_z at c.is-count2.ensures
 
-g-is : (c : tie.After-is-count3)
-    → c.is-count3.result ≡ isCount c.before.before.before.before.before.before.before.before.args.w.g
-g-is c = let f : SFits w64 c.before.before.before.before.before.before.before.before.args.w.g = search rules in
+g_is : (c : tie.After-is-count3)
+    → c.is-count3.result ≡ is_count c.before.before.before.before.before.before.before.before.args.w.g
+g_is c = let f : SFits w64 c.before.before.before.before.before.before.before.before.args.w.g = search rules in
     simp to_z-of_z at c.is-count3.ensures
 
-is-count-requires : tie.Need-is-count-requires
-is-count-requires c κs = search rules
+is_count_requires : tie.Need-is-count-requires
+is_count_requires c κs = search rules
 
 returns : tie.Need-returns
-returns c = rw (sym (e-is c.before) ∙ not-true _ c.if1.true)
+returns c = rw (sym (e_is c.before) ∙ not-true _ c.if1.true)
 
-is-count-requires-2 : tie.Need-is-count-requires-2
-is-count-requires-2 c κs = search rules
+is_count_requires_2 : tie.Need-is-count-requires-2
+is_count_requires_2 c κs = search rules
 
-returns-2 : tie.Need-returns-2
-returns-2 c =
+returns_2 : tie.Need-returns-2
+returns_2 c =
     let e1 = c.before.before.before in
-    rw (sym (e-is e1.before) ∙ not-false _ e1.if1.false, sym (f-is c.before) ∙ not-true _ c.if2.true)
+    rw (sym (e_is e1.before) ∙ not-false _ e1.if1.false, sym (f_is c.before) ∙ not-true _ c.if2.true)
 
-is-count-requires-3 : tie.Need-is-count-requires-3
-is-count-requires-3 c κs = search rules
+is_count_requires_3 : tie.Need-is-count-requires-3
+is_count_requires_3 c κs = search rules
 
-returns-3 : tie.Need-returns-3
-returns-3 c =
+returns_3 : tie.Need-returns-3
+returns_3 c =
     let e2 = c.before.before in
     let e1 = e2.before.before.before in
-    g-is c ∙ rw (sym (f-is e2.before) ∙ not-false _ e2.if2.false, sym (e-is e1.before) ∙ not-false _ e1.if1.false)
+    g_is c ∙ rw (sym (f_is e2.before) ∙ not-false _ e2.if2.false, sym (e_is e1.before) ∙ not-false _ e1.if1.false)
 
-pub line-right-spec : {M : Type 1} → statement M
-line-right-spec = tie.close (tie.spec is-count-requires returns is-count-requires-2 returns-2 is-count-requires-3 returns-3)
+pub line_right_spec : {M : Type 1} → statement M
+line_right_spec = tie.close (tie.spec is_count_requires returns is_count_requires_2 returns_2 is_count_requires_3 returns_3)

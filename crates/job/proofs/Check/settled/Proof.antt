@@ -3,11 +3,11 @@ use borrow.Author.Rules.{rules}
 use Rattle.job.proofs.Check.settled.Statement.{statement}
 use Rattle.job.proofs.Check.settled.Tie as tie
 
-settled-requires : tie.Need-settled-requires
-settled-requires c κs = search rules
+settled_requires : tie.Need-settled-requires
+settled_requires c κs = search rules
 
 returns : tie.Need-returns
 returns c = rw c.settled.ensures
 
-pub settled-spec : {M : Type 1} → statement M
-settled-spec = tie.close (tie.spec settled-requires returns)
+pub settled_spec : {M : Type 1} → statement M
+settled_spec = tie.close (tie.spec settled_requires returns)

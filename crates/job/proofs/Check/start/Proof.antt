@@ -2,14 +2,14 @@
 use borrow.Author.Rules.{rules}
 use Rattle.job.proofs.Check.start.Statement.{statement}
 use Rattle.job.proofs.Check.start.Tie as tie
-use Rattle.job.specs.computed.Check.{checkFrom}
+use Rattle.job.specs.computed.Check.{check_from}
 
-start-requires : tie.Need-start-requires
-start-requires c κs = search rules
+start_requires : tie.Need-start-requires
+start_requires c κs = search rules
 
 returns : tie.Need-returns
-unfolding checkFrom
+unfolding check_from
 returns c = rw c.start.ensures
 
 pub start_spec : {M : Type 1} → statement M
-start_spec = tie.close (tie.spec start-requires returns)
+start_spec = tie.close (tie.spec start_requires returns)

@@ -1,18 +1,18 @@
 -- `bit` is right because a letter's index is below the width of a u64.
 use native.Mathlib.Omega.{arith}
-use Rattle.letters.specs.laws.Sets.{index_below, bit-fits}
+use Rattle.letters.specs.laws.Sets.{index_below, bit_fits}
 use borrow.Author.Rules.{rules}
 use Rattle.letters.proofs.found.bit.Statement.{statement}
 use Rattle.letters.proofs.found.bit.Tie as tie
 
-index-requires : tie.Need-index-requires
-index-requires c κs = search rules
+index_requires : tie.Need-index-requires
+index_requires c κs = search rules
 
-shl-result : tie.Need-overflow-shl-result
-shl-result c = omega (arith, index_below c.before.args.l, c.index.ensures)
+shl_result : tie.Need-overflow-shl-result
+shl_result c = omega (arith, index_below c.before.args.l, c.index.ensures)
 
 returns : tie.Need-returns
-returns c = rw c.index.ensures (bit-fits c.before.args.l)
+returns c = rw c.index.ensures (bit_fits c.before.args.l)
 
-pub bit-spec : {M : Type 1} → statement M
-bit-spec = tie.close (tie.spec index-requires shl-result returns)
+pub bit_spec : {M : Type 1} → statement M
+bit_spec = tie.close (tie.spec index_requires shl_result returns)

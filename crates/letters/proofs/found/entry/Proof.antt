@@ -6,17 +6,17 @@ use borrow.Author.Rules.{rules}
 use Rattle.letters.proofs.found.entry.Statement.{statement}
 use Rattle.letters.proofs.found.entry.Tie as tie
 
-mul-result : tie.Need-overflow-mul-result
-mul-result c = search rules
+mul_result : tie.Need-overflow-mul-result
+mul_result c = search rules
 
-shared-slice-read-result : tie.Need-shared-slice-read-result
-shared-slice-read-result c = search rules
+shared_slice_read_result : tie.Need-shared-slice-read-result
+shared_slice_read_result c = search rules
 
 returns : tie.Need-returns
 returns c = search rules
 
-returns-2 : tie.Need-returns-2
-returns-2 c = let a = c.before.args in sym (get_or-eq_default a.numbers.now 0 {n = a.at} (omega arith))
+returns_2 : tie.Need-returns-2
+returns_2 c = let a = c.before.args in sym (get_or-eq_default a.numbers.now 0 {n = a.at} (omega arith))
 
 pub entry_spec : {M : Type 1} → statement M
-entry_spec = tie.close (tie.spec mul-result shared-slice-read-result returns returns-2)
+entry_spec = tie.close (tie.spec mul_result shared_slice_read_result returns returns_2)

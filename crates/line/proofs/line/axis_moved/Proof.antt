@@ -6,22 +6,22 @@ use mir.Syntax.{w64}
 use mir.Val.{SFits}
 use mir.Facts.{to_z-of_z}
 use Rattle.whole.specs.Sign.{signed}
-use Rattle.whole.specs.laws.Order.{abs-fits}
-use Rattle.whole.specs.laws.Sign.{signed-size}
-use Rattle.line.specs.laws.Axis.{moved-within}
-use Rattle.line.specs.laws.Signed.{moved-signed}
+use Rattle.whole.specs.laws.Order.{abs_fits}
+use Rattle.whole.specs.laws.Sign.{signed_size}
+use Rattle.line.specs.laws.Axis.{moved_within}
+use Rattle.line.specs.laws.Signed.{moved_signed}
 use Rattle.line.proofs.line.axis_moved.Statement.{statement}
 use Rattle.line.proofs.line.axis_moved.Tie as tie
 
-moved-requires : tie.Need-moved-requires
-moved-requires c κs = search rules
+moved_requires : tie.Need-moved-requires
+moved_requires c κs = search rules
 
-join-requires : tie.Need-join-requires
-join-requires c κs =
+join_requires : tie.Need-join-requires
+join_requires c κs =
     let s = c.before in
     let x = s.requires in
-    let within = moved-within s.args.q s.args.way.magnitude x.some s.args.done x.due in
-    abs-fits _ (omega (arith, signed-size s.args.way.negative c.moved.result, c.moved.ensures))
+    let within = moved_within s.args.q s.args.way.magnitude x.some s.args.done x.due in
+    abs_fits _ (omega (arith, signed_size s.args.way.negative c.moved.result, c.moved.ensures))
 
 returns : tie.Need-returns
 returns c =
@@ -29,7 +29,7 @@ returns c =
     let x = s.requires in
     let f : SFits w64 c.join.result = search rules in
     to_z-of_z f ∙ c.join.ensures ∙ ap (signed s.args.way.negative) c.before.moved.ensures
-    ∙ sym (moved-signed s.args.q x.some s.args.way.negative s.args.way.magnitude s.args.done x.due)
+    ∙ sym (moved_signed s.args.q x.some s.args.way.negative s.args.way.magnitude s.args.done x.due)
 
-pub axis-moved-spec : {M : Type 1} → statement M
-axis-moved-spec = tie.close (tie.spec moved-requires join-requires returns)
+pub axis_moved_spec : {M : Type 1} → statement M
+axis_moved_spec = tie.close (tie.spec moved_requires join_requires returns)

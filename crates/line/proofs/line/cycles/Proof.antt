@@ -5,21 +5,21 @@ use Rattle.whole.specs.laws.Squares.{square_le}
 use Rattle.line.proofs.line.cycles.Statement.{statement}
 use Rattle.line.proofs.line.cycles.Tie as tie
 
-mul-least-root : tie.Need-overflow-mul-least-root
-mul-least-root c = omega (arith, square_le c.requires.0)
+mul_least_root : tie.Need-overflow-mul-least-root
+mul_least_root c = omega (arith, square_le c.requires.0)
 
-mul-least-root-2 : tie.Need-overflow-mul-least-root-2
-mul-least-root-2 c = omega (arith, square_le c.requires.1)
+mul_least_root_2 : tie.Need-overflow-mul-least-root-2
+mul_least_root_2 c = omega (arith, square_le c.requires.1)
 
-add-least-root : tie.Need-overflow-add-least-root
-add-least-root c = omega (arith, square_le c.requires.0, square_le c.requires.1)
+add_least_root : tie.Need-overflow-add-least-root
+add_least_root c = omega (arith, square_le c.requires.0, square_le c.requires.1)
 
-least-root-requires : tie.Need-least-root-requires
-least-root-requires c κs = search rules
+least_root_requires : tie.Need-least-root-requires
+least_root_requires c κs = search rules
 
 returns : tie.Need-returns
 returns c = search rules
 
-pub cycles-spec : {M : Type 1} → statement M
-cycles-spec =
-    tie.close (tie.spec mul-least-root mul-least-root-2 add-least-root least-root-requires returns)
+pub cycles_spec : {M : Type 1} → statement M
+cycles_spec =
+    tie.close (tie.spec mul_least_root mul_least_root_2 add_least_root least_root_requires returns)

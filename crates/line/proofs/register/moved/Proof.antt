@@ -2,23 +2,23 @@
 use borrow.Author.Rules.{rules}
 use mathlib.Core.Path.{refl}
 use native.Mathlib.Omega.{arith}
-use Rattle.line.specs.Line.{axisSteps}
-use Rattle.line.specs.laws.Axis.{fits-product}
+use Rattle.line.specs.Line.{axis_steps}
+use Rattle.line.specs.laws.Axis.{fits_product}
 use Rattle.line.proofs.register.moved.Statement.{statement}
 use Rattle.line.proofs.register.moved.Tie as tie
 
-mul-result : tie.Need-overflow-mul-result
-mul-result c = omega (arith, fits-product _ _ _ c.requires)
+mul_result : tie.Need-overflow-mul-result
+mul_result c = omega (arith, fits_product _ _ _ c.requires)
 
-add-result : tie.Need-overflow-add-result
-add-result c = omega (arith, fits-product _ _ _ c.requires)
+add_result : tie.Need-overflow-add-result
+add_result c = omega (arith, fits_product _ _ _ c.requires)
 
-div-result : tie.Need-nonzero-div-result
-div-result c = search rules
+div_result : tie.Need-nonzero-div-result
+div_result c = search rules
 
 returns : tie.Need-returns
-unfolding axisSteps
+unfolding axis_steps
 returns c = refl
 
-pub moved-spec : {M : Type 1} → statement M
-moved-spec = tie.close (tie.spec mul-result add-result div-result returns)
+pub moved_spec : {M : Type 1} → statement M
+moved_spec = tie.close (tie.spec mul_result add_result div_result returns)

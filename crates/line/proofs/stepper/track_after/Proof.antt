@@ -4,19 +4,19 @@ use Rattle.line.proofs.stepper.track_after.Statement.{statement}
 use Rattle.line.proofs.stepper.track_after.Tie as tie
 use Prim.Native.Nat.{◌-◌}
 use native.Mathlib.Omega.{arith}
-use Rattle.line.specs.laws.Register.{register-below}
+use Rattle.line.specs.laws.Register.{register_below}
 
-sub-t5 : tie.Need-overflow-sub-t5
-sub-t5 c = search rules
+sub_t5 : tie.Need-overflow-sub-t5
+sub_t5 c = search rules
 
-register-requires : tie.Need-register-requires
-register-requires c κs = search rules
+register_requires : tie.Need-register-requires
+register_requires c κs = search rules
 
-sub-t7 : tie.Need-overflow-sub-t7
-sub-t7 c = let x = c.before.requires.0 in omega (arith, c.register.ensures, register-below _ _ _ x)
+sub_t7 : tie.Need-overflow-sub-t7
+sub_t7 c = let x = c.before.requires.0 in omega (arith, c.register.ensures, register_below _ _ _ x)
 
-code-requires : tie.Need-code-requires
-code-requires c κs = search rules
+code_requires : tie.Need-code-requires
+code_requires c κs = search rules
 
 returns : tie.Need-returns
 returns c =
@@ -25,5 +25,5 @@ returns c =
     let code = c.code.ensures in
     λ i. record { increment = s.args.way.magnitude; room = s.args.q - 1 - room i; code = code i }
 
-pub track-after-spec : {M : Type 1} → statement M
-track-after-spec = tie.close (tie.spec sub-t5 register-requires sub-t7 code-requires returns)
+pub track_after_spec : {M : Type 1} → statement M
+track_after_spec = tie.close (tie.spec sub_t5 register_requires sub_t7 code_requires returns)

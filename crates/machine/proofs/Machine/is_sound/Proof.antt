@@ -5,17 +5,17 @@ use borrow.Author.Tests.{not-true, not-false}
 use Rattle.machine.proofs.Machine.is_sound.Statement.{statement}
 use Rattle.machine.proofs.Machine.is_sound.Tie as tie
 
-sound-requires : tie.Need-sound-requires
-sound-requires c κs = search rules
+sound_requires : tie.Need-sound-requires
+sound_requires c κs = search rules
 
 returns : tie.Need-returns
 returns c = simp (sym c.before.sound.ensures ∙ not-true _ c.if1.true)
 
-is-right-requires : tie.Need-is-right-requires
-is-right-requires c κs = sym c.before.before.sound.ensures ∙ not-false _ c.before.if1.false
+is_right_requires : tie.Need-is-right-requires
+is_right_requires c κs = sym c.before.before.sound.ensures ∙ not-false _ c.before.if1.false
 
-returns-2 : tie.Need-returns-2
-returns-2 c = c.is_right.ensures ∙ simp (sym c.before.before.before.sound.ensures ∙ not-false _ c.before.before.if1.false)
+returns_2 : tie.Need-returns-2
+returns_2 c = c.is_right.ensures ∙ simp (sym c.before.before.before.sound.ensures ∙ not-false _ c.before.before.if1.false)
 
-pub is-sound-spec : {M : Type 1} → statement M
-is-sound-spec = tie.close (tie.spec sound-requires returns is-right-requires returns-2)
+pub is_sound_spec : {M : Type 1} → statement M
+is_sound_spec = tie.close (tie.spec sound_requires returns is_right_requires returns_2)

@@ -5,86 +5,86 @@ use mathlib.Core.Bool.{true}
 use Prim.Native.Nat.{◌≤◌}
 use lib.Dec.{ltb}
 use borrow.Author.Tests.{not-true, not-false}
-use Rattle.block.specs.Questions.{loadNo}
-use Rattle.settings.specs.Settings.{capacityOf}
-use Rattle.bench.specs.laws.Sound.{sound as bench-parts}
-use Rattle.machine.specs.computed.Machine.{soundOf}
+use Rattle.block.specs.Questions.{load_no}
+use Rattle.settings.specs.Settings.{capacity_of}
+use Rattle.bench.specs.laws.Sound.{sound as bench_parts}
+use Rattle.machine.specs.computed.Machine.{sound_of}
 use Rattle.machine.specs.computed.Calls.{load_of}
 use Rattle.machine.specs.laws.Right.{Sound, sound}
 use Rattle.machine.specs.laws.Onward.{wide}
-use Rattle.machine.specs.laws.Load.{start-inside}
-use Rattle.machine.specs.laws.Calls.{load-refused}
+use Rattle.machine.specs.laws.Load.{start_inside}
+use Rattle.machine.specs.laws.Calls.{load_refused}
 use Rattle.machine.proofs.Machine.load.Statement.{statement}
 use Rattle.machine.proofs.Machine.load.Tie as tie
 
-is-sound-requires : tie.Need-is-sound-requires
-is-sound-requires c κs = search rules
+is_sound_requires : tie.Need-is-sound-requires
+is_sound_requires c κs = search rules
 
-refused-requires : tie.Need-refused-requires
-refused-requires c κs = search rules
+refused_requires : tie.Need-refused-requires
+refused_requires c κs = search rules
 
 returns : tie.Need-returns
 unfolding load_of
 returns c = c.refused.ensures ∙ simp (sym c.before.before.is-sound.ensures ∙ not-true _ c.before.if1.true)
 
 -- the record has passed its test
-tested : (c : tie.Else1) → soundOf c.before.before.args.self ≡ true
+tested : (c : tie.Else1) → sound_of c.before.before.args.self ≡ true
 tested c = sym c.before.is-sound.ensures ∙ not-false _ c.if1.false
 
 parts : (c : tie.Else1) → Sound c.before.before.args.self
 parts c = sound c.before.before.args.self (tested c)
 
-sixteen-most : (c : tie.Else1) → c.before.before.args.self.queue.len ≤ 16
-sixteen-most c = (parts c).right.queue.most
+sixteen_most : (c : tie.Else1) → c.before.before.args.self.queue.len ≤ 16
+sixteen_most c = (parts c).right.queue.most
 
-start-of-requires : tie.Need-start-of-requires
-start-of-requires c κs = sixteen-most c.before.before.before.before
+start_of_requires : tie.Need-start-of-requires
+start_of_requires c κs = sixteen_most c.before.before.before.before
 
-capacity-requires : tie.Need-capacity-requires
-capacity-requires c κs = (bench-parts (parts c.before.before.before.before.before).bench).settings
+capacity_requires : tie.Need-capacity-requires
+capacity_requires c κs = (bench_parts (parts c.before.before.before.before.before).bench).settings
 
-load-no-requires : tie.Need-load-no-requires
-load-no-requires c κs =
+load_no_requires : tie.Need-load-no-requires
+load_no_requires c κs =
     let e = c.before.before.before.before.before.before.before in
     let m = e.before.before.args.self in
-    (wide m.bench (parts e).bench, rw c.before.before.start-of.ensures (start-inside m (parts e)))
+    (wide m.bench (parts e).bench, rw c.before.before.start_of.ensures (start_inside m (parts e)))
 
 number_is :
     (c : tie.After-load-no)
     → let s = c.before.before.before.before.before.before.before.before.before.before.args in
     c.load-no.result
-    ≡ loadNo (capacityOf s.self.bench.settings) s.self.bench.settings.travel (ltb s.self.queue.len 16)
-    c.before.before.before.start-of.result s.b
+    ≡ load_no (capacity_of s.self.bench.settings) s.self.bench.settings.travel (ltb s.self.queue.len 16)
+    c.before.before.before.start_of.result s.b
 number_is c = rw c.before.before.capacity.ensures at c.load-no.ensures
 
-refused-requires-2 : tie.Need-refused-requires-2
-refused-requires-2 c κs = search rules
+refused_requires_2 : tie.Need-refused-requires-2
+refused_requires_2 c κs = search rules
 
-returns-2 : tie.Need-returns-2
+returns_2 : tie.Need-returns-2
 unfolding load_of
-returns-2 c =
+returns_2 c =
     let l = c.before.before in
     let e = l.before.before.before.before.before.before.before.before in
-    c.refused2.ensures ∙ load-refused _ e.before.before.args.b _ c.before.if2.true
-    ∙ simp (tested e, ← l.before.before.before.start-of.ensures, ← number_is l)
+    c.refused2.ensures ∙ load_refused _ e.before.before.args.b _ c.before.if2.true
+    ∙ simp (tested e, ← l.before.before.before.start_of.ensures, ← number_is l)
 
-take-requires : tie.Need-take-requires
-take-requires c κs =
+take_requires : tie.Need-take-requires
+take_requires c κs =
     let l = c.before in
     record {
       sound = tested l.before.before.before.before.before.before.before.before;
-      start_is = l.before.before.before.start-of.ensures;
+      start_is = l.before.before.before.start_of.ensures;
       asked = sym (number_is l) ∙ c.if2.false;
     }
 
-returns-3 : tie.Need-returns-3
+returns_3 : tie.Need-returns-3
 unfolding load_of
-returns-3 c =
+returns_3 c =
     let l = c.before.before in
     c.take.ensures
     ∙ simp (
       tested l.before.before.before.before.before.before.before.before,
-      ← l.before.before.before.start-of.ensures,
+      ← l.before.before.before.start_of.ensures,
       ← number_is l,
       c.before.if2.false,
     )
@@ -92,5 +92,5 @@ returns-3 c =
 pub load_spec : {M : Type 1} → statement M
 load_spec =
     tie.close
-    (tie.spec is-sound-requires refused-requires returns start-of-requires capacity-requires load-no-requires refused-requires-2
-    returns-2 take-requires returns-3)
+    (tie.spec is_sound_requires refused_requires returns start_of_requires capacity_requires load_no_requires refused_requires_2
+    returns_2 take_requires returns_3)

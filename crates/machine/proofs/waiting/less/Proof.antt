@@ -5,14 +5,14 @@ use mathlib.Core.Path.{◌∙◌}
 use Rattle.machine.proofs.waiting.less.Statement.{statement}
 use Rattle.machine.proofs.waiting.less.Tie as tie
 
-wrong-requires : tie.Need-wrong-requires
-wrong-requires c κs = search rules
+wrong_requires : tie.Need-wrong-requires
+wrong_requires c κs = search rules
 
 returns : tie.Need-returns
 returns c = let s = c.before.before in c.wrong.ensures ∙ rw (lt-leb s.args.cycles s.args.count c.before.if1.true)
 
-returns-2 : tie.Need-returns-2
-returns-2 c = let s = c.before in rw (le-leb s.args.cycles s.args.count c.if1.false)
+returns_2 : tie.Need-returns-2
+returns_2 c = let s = c.before in rw (le-leb s.args.cycles s.args.count c.if1.false)
 
-pub less-spec : {M : Type 1} → statement M
-less-spec = tie.close (tie.spec wrong-requires returns returns-2)
+pub less_spec : {M : Type 1} → statement M
+less_spec = tie.close (tie.spec wrong_requires returns returns_2)

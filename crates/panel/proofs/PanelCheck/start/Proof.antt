@@ -4,12 +4,12 @@ use Rattle.panel.proofs.PanelCheck.start.Statement.{statement}
 use Rattle.panel.proofs.PanelCheck.start.Tie as tie
 use Rattle.panel.specs.computed.Piece.{start_of}
 
-start-requires : tie.Need-start-requires
-start-requires c κs = search rules
+start_requires : tie.Need-start-requires
+start_requires c κs = search rules
 
 returns : tie.Need-returns
 unfolding start_of
 returns c = rw c.start.ensures
 
 pub start_spec : {M : Type 1} → statement M
-start_spec = tie.close (tie.spec start-requires returns)
+start_spec = tie.close (tie.spec start_requires returns)

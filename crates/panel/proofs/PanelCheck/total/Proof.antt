@@ -5,17 +5,17 @@ use Rattle.panel.proofs.PanelCheck.total.Tie as tie
 use mathlib.Core.Path.{refl}
 use mathlib.Core.List.{[]}
 use Rattle.job.specs.declared.Stage.{Stage}
-use Rattle.panel.specs.computed.Piece.{checkAt}
-use Rattle.panel.specs.laws.Hand.{hands-wrote}
+use Rattle.panel.specs.computed.Piece.{check_at}
+use Rattle.panel.specs.laws.Hand.{hands_wrote}
 
-total-requires : tie.Need-total-requires
-total-requires c κs = search rules
+total_requires : tie.Need-total-requires
+total_requires c κs = search rules
 
-next-place-requires : tie.Need-next-place-requires
-next-place-requires c κs = search rules
+next_place_requires : tie.Need-next-place-requires
+next_place_requires c κs = search rules
 
-last-requires : tie.Need-last-requires
-last-requires c κs = search rules
+last_requires : tie.Need-last-requires
+last_requires c κs = search rules
 
 same_length : tie.Need-same-length
 same_length c = search rules
@@ -25,9 +25,9 @@ returns c free =
     let s = c.before.before.before.before.before.before.before.before in
     let w = c.before.before.before.before.total.ensures in
     rw (c.last.ensures, c.before.next_place.ensures)
-    (hands-wrote s.args.took [] (checkAt Stage.Over s.args.left 0 s.args.self.tally) free refl
+    (hands_wrote s.args.took [] (check_at Stage.Over s.args.left 0 s.args.self.tally) free refl
     (record { room = s.requires; buffer = w.0; place = w.1.0 }) w.1.1)
 
-pub total-spec : {M : Type 1} → statement M
-total-spec =
-    tie.close (tie.spec total-requires next-place-requires last-requires same_length returns)
+pub total_spec : {M : Type 1} → statement M
+total_spec =
+    tie.close (tie.spec total_requires next_place_requires last_requires same_length returns)

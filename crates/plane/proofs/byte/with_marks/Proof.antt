@@ -4,17 +4,17 @@ use native.Mathlib.Omega.{arith}
 use Rattle.plane.proofs.byte.with_marks.Statement.{statement}
 use Rattle.plane.proofs.byte.with_marks.Tie as tie
 
-add-result : tie.Need-overflow-add-result
-add-result c = search rules
+add_result : tie.Need-overflow-add-result
+add_result c = search rules
 
-add-result-2 : tie.Need-overflow-add-result-2
-add-result-2 c = search rules
+add_result_2 : tie.Need-overflow-add-result-2
+add_result_2 c = search rules
 
 returns : tie.Need-returns
 returns c = rw c.if1.true (omega arith)
 
-returns-2 : tie.Need-returns-2
-returns-2 c = rw c.if1.false (omega arith)
+returns_2 : tie.Need-returns-2
+returns_2 c = rw c.if1.false (omega arith)
 
-pub with-marks-spec : {M : Type 1} → statement M
-with-marks-spec = tie.close (tie.spec add-result add-result-2 returns returns-2)
+pub with_marks_spec : {M : Type 1} → statement M
+with_marks_spec = tie.close (tie.spec add_result add_result_2 returns returns_2)

@@ -5,34 +5,34 @@ use mathlib.Core.Path.{◌≡◌, sym, ◌∙◌}
 use mir.Syntax.{w64}
 use mir.Val.{SFits}
 use mir.Facts.{to_z-of_z}
-use Rattle.whole.specs.Equal.{equalZ}
+use Rattle.whole.specs.Equal.{equal_z}
 use Rattle.plane.proofs.point.is_same.Statement.{statement}
 use Rattle.plane.proofs.point.is_same.Tie as tie
 
-equal-requires : tie.Need-equal-requires
-equal-requires c κs = search rules
+equal_requires : tie.Need-equal-requires
+equal_requires c κs = search rules
 
-equal-requires-2 : tie.Need-equal-requires-2
-equal-requires-2 c κs = search rules
+equal_requires_2 : tie.Need-equal-requires-2
+equal_requires_2 c κs = search rules
 
 -- what the first call says, over the coordinates
-x-is : (c : tie.After-equal) → c.equal.result ≡ equalZ c.before.before.before.args.p.x c.before.before.before.args.q.x
-x-is c =
+x_is : (c : tie.After-equal) → c.equal.result ≡ equal_z c.before.before.before.args.p.x c.before.before.before.args.q.x
+x_is c =
     let s = c.before.before.before in
     let fp : SFits w64 s.args.p.x = search rules in
     let fq : SFits w64 s.args.q.x = search rules in
     simp to_z-of_z at c.equal.ensures
 
 returns : tie.Need-returns
-returns c = rw (sym (x-is c.before) ∙ not-true _ c.if1.true)
+returns c = rw (sym (x_is c.before) ∙ not-true _ c.if1.true)
 
-returns-2 : tie.Need-returns-2
-returns-2 c =
+returns_2 : tie.Need-returns-2
+returns_2 c =
     let i = c.before.before.before in
     let s = i.before.before.before.before in
     let fp : SFits w64 s.args.p.y = search rules in
     let fq : SFits w64 s.args.q.y = search rules in
-    (simp to_z-of_z at c.equal2.ensures) ∙ rw (sym (x-is i.before) ∙ not-false _ i.if1.false)
+    (simp to_z-of_z at c.equal2.ensures) ∙ rw (sym (x_is i.before) ∙ not-false _ i.if1.false)
 
-pub is-same-spec : {M : Type 1} → statement M
-is-same-spec = tie.close (tie.spec equal-requires returns equal-requires-2 returns-2)
+pub is_same_spec : {M : Type 1} → statement M
+is_same_spec = tie.close (tie.spec equal_requires returns equal_requires_2 returns_2)

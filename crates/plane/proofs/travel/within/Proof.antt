@@ -3,12 +3,12 @@ use borrow.Author.Rules.{rules}
 use mir.Syntax.{w64}
 use mir.Val.{SFits}
 use mir.Facts.{to_z-of_z}
-use Rattle.plane.specs.Travel.{withinOf}
+use Rattle.plane.specs.Travel.{within_of}
 use Rattle.plane.proofs.travel.within.Statement.{statement}
 use Rattle.plane.proofs.travel.within.Tie as tie
 
 returns : tie.Need-returns
-unfolding withinOf
+unfolding within_of
 returns c =
     let s = c.before.before.before.before.before in
     let at : SFits w64 s.args.at = s.ranges.at in
@@ -16,13 +16,13 @@ returns c =
     let upper : SFits w64 s.args.range.upper = search rules in
     simp (to_z-of_z, simp to_z-of_z at c.before.before.if1.true)
 
-returns-2 : tie.Need-returns-2
-unfolding withinOf
-returns-2 c =
+returns_2 : tie.Need-returns-2
+unfolding within_of
+returns_2 c =
     let s = c.before.before.before in
     let at : SFits w64 s.args.at = s.ranges.at in
     let lower : SFits w64 s.args.range.lower = search rules in
     simp (to_z-of_z, simp to_z-of_z at c.if1.false)
 
-pub within-spec : {M : Type 1} → statement M
-within-spec = tie.close (tie.spec returns returns-2)
+pub within_spec : {M : Type 1} → statement M
+within_spec = tie.close (tie.spec returns returns_2)

@@ -3,19 +3,19 @@ use borrow.Author.Rules.{rules}
 use mir.Syntax.{w64}
 use mir.Val.{SFits}
 use mir.Facts.{to_z-of_z}
-use Rattle.progress.specs.Known.{encodeKnown}
+use Rattle.progress.specs.Known.{encode_known}
 use Rattle.progress.proofs.known.encode_known.Statement.{statement}
 use Rattle.progress.proofs.known.encode_known.Tie as tie
 
-known-of-requires : tie.Need-known-of-requires
-known-of-requires c κs = search rules
+known_of_requires : tie.Need-known-of-requires
+known_of_requires c κs = search rules
 
 returns : tie.Need-returns
-unfolding encodeKnown
+unfolding encode_known
 returns c =
     let m : SFits w64 c.before.Known-of.result.motion = search rules in
     let f : SFits w64 c.before.Known-of.result.feed = search rules in
     simp to_z-of_z (simp c.before.Known-of.ensures)
 
-pub encode-known-spec : {M : Type 1} → statement M
-encode-known-spec = tie.close (tie.spec known-of-requires returns)
+pub encode_known_spec : {M : Type 1} → statement M
+encode_known_spec = tie.close (tie.spec known_of_requires returns)

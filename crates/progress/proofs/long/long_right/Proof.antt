@@ -4,27 +4,27 @@ use mathlib.Core.Path.{sym, ◌∙◌}
 use mir.Syntax.{w64}
 use mir.Val.{SFits}
 use mir.Facts.{to_z-of_z}
-use Rattle.progress.specs.computed.Right.{longRight}
+use Rattle.progress.specs.computed.Right.{long_right}
 use borrow.Author.Rules.{rules}
 use Rattle.progress.proofs.long.long_right.Statement.{statement}
 use Rattle.progress.proofs.long.long_right.Tie as tie
 
-is-count-requires : tie.Need-is-count-requires
-is-count-requires c κs = search rules
+is_count_requires : tie.Need-is-count-requires
+is_count_requires c κs = search rules
 
 returns : tie.Need-returns
-unfolding longRight
+unfolding long_right
 returns c =
     let f : SFits w64 c.before.before.before.args.w.low = search rules in
     let low = simp to_z-of_z at c.before.is-count.ensures in
     rw (sym low ∙ not-true _ c.if1.true)
 
-within-requires : tie.Need-within-requires
-within-requires c κs = search rules
+within_requires : tie.Need-within-requires
+within_requires c κs = search rules
 
-returns-2 : tie.Need-returns-2
-unfolding longRight
-returns-2 c =
+returns_2 : tie.Need-returns-2
+unfolding long_right
+returns_2 c =
     let w = c.before.before.before.before.before.args.w in
     let f : SFits w64 w.low = search rules in
     let g : SFits w64 w.high = search rules in
@@ -33,5 +33,5 @@ returns-2 c =
     let high = simp to_z-of_z at c.within.ensures in
     high ∙ rw (sym low ∙ not-false _ e.if1.false)
 
-pub long-right-spec : {M : Type 1} → statement M
-long-right-spec = tie.close (tie.spec is-count-requires returns within-requires returns-2)
+pub long_right_spec : {M : Type 1} → statement M
+long_right_spec = tie.close (tie.spec is_count_requires returns within_requires returns_2)

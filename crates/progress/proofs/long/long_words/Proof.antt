@@ -8,11 +8,11 @@ use borrow.Author.Rules.{rules}
 use Rattle.progress.proofs.long.long_words.Statement.{statement}
 use Rattle.progress.proofs.long.long_words.Tie as tie
 
-word-requires : tie.Need-word-requires
-word-requires c κs = search rules
+word_requires : tie.Need-word-requires
+word_requires c κs = search rules
 
-cast-t3 : tie.Need-overflow-cast-t3
-cast-t3 c = search rules
+cast_t3 : tie.Need-overflow-cast-t3
+cast_t3 c = search rules
 
 returns : tie.Need-returns
 returns c =
@@ -21,5 +21,5 @@ returns c =
     let small : n < 2 ^ 63 = omega arith in
     rw (through (word_fits _) c.before.word.ensures, to_z_pos w64 small)
 
-pub long-words-spec : {M : Type 1} → statement M
-long-words-spec = tie.close (tie.spec word-requires cast-t3 returns)
+pub long_words_spec : {M : Type 1} → statement M
+long_words_spec = tie.close (tie.spec word_requires cast_t3 returns)

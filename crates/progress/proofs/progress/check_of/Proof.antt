@@ -3,17 +3,17 @@ use borrow.Author.Rules.{rules}
 use Rattle.progress.proofs.progress.check_of.Statement.{statement}
 use Rattle.progress.proofs.progress.check_of.Tie as tie
 
-tally-of-requires : tie.Need-tally-of-requires
-tally-of-requires c κs = search rules
+tally_of_requires : tie.Need-tally-of-requires
+tally_of_requires c κs = search rules
 
-count-requires : tie.Need-count-requires
-count-requires c κs = search rules
+count_requires : tie.Need-count-requires
+count_requires c κs = search rules
 
-stage-of-requires : tie.Need-stage-of-requires
-stage-of-requires c κs = search rules
+stage_of_requires : tie.Need-stage-of-requires
+stage_of_requires c κs = search rules
 
-count-requires-2 : tie.Need-count-requires-2
-count-requires-2 c κs = search rules
+count_requires_2 : tie.Need-count-requires-2
+count_requires_2 c κs = search rules
 
 returns : tie.Need-returns
 returns c = search (
@@ -24,7 +24,7 @@ returns c = search (
   c.count2.ensures,
 )
 
-pub check-of-spec : {M : Type 1} → statement M
-check-of-spec =
+pub check_of_spec : {M : Type 1} → statement M
+check_of_spec =
     tie.close
-    (tie.spec tally-of-requires count-requires stage-of-requires count-requires-2 returns)
+    (tie.spec tally_of_requires count_requires stage_of_requires count_requires_2 returns)

@@ -3,20 +3,20 @@ use borrow.Author.Rules.{rules}
 use Rattle.progress.proofs.progress.tally_of.Statement.{statement}
 use Rattle.progress.proofs.progress.tally_of.Tie as tie
 
-reader-of-requires : tie.Need-reader-of-requires
-reader-of-requires c κs = search rules
+reader_of_requires : tie.Need-reader-of-requires
+reader_of_requires c κs = search rules
 
-long-of-requires : tie.Need-long-of-requires
-long-of-requires c κs = search rules
+long_of_requires : tie.Need-long-of-requires
+long_of_requires c κs = search rules
 
-count-requires : tie.Need-count-requires
-count-requires c κs = search rules
+count_requires : tie.Need-count-requires
+count_requires c κs = search rules
 
-count-requires-2 : tie.Need-count-requires-2
-count-requires-2 c κs = search rules
+count_requires_2 : tie.Need-count-requires-2
+count_requires_2 c κs = search rules
 
-count-requires-3 : tie.Need-count-requires-3
-count-requires-3 c κs = search rules
+count_requires_3 : tie.Need-count-requires-3
+count_requires_3 c κs = search rules
 
 returns : tie.Need-returns
 returns c = search (
@@ -28,13 +28,13 @@ returns c = search (
   c.count3.ensures,
 )
 
-pub tally-of-spec : {M : Type 1} → statement M
-tally-of-spec =
+pub tally_of_spec : {M : Type 1} → statement M
+tally_of_spec =
     tie.close
     (tie.spec
-    reader-of-requires
-    long-of-requires
-    count-requires
-    count-requires-2
-    count-requires-3
+    reader_of_requires
+    long_of_requires
+    count_requires
+    count_requires_2
+    count_requires_3
     returns)

@@ -4,14 +4,14 @@ use mathlib.Core.Path.{sym, ◌∙◌}
 use Rattle.reader.proofs.asked.block_asked.Statement.{statement}
 use Rattle.reader.proofs.asked.block_asked.Tie as tie
 
-goes-nowhere-requires : tie.Need-goes-nowhere-requires
-goes-nowhere-requires c κs = search rules
+goes_nowhere_requires : tie.Need-goes-nowhere-requires
+goes_nowhere_requires c κs = search rules
 
 returns : tie.Need-returns
 returns c = rw (sym c.before.goes-nowhere.ensures ∙ c.if1.true)
 
-returns-2 : tie.Need-returns-2
-returns-2 c = rw (sym c.before.goes-nowhere.ensures ∙ c.if1.false)
+returns_2 : tie.Need-returns-2
+returns_2 c = rw (sym c.before.goes-nowhere.ensures ∙ c.if1.false)
 
-pub block-asked-spec : {M : Type 1} → statement M
-block-asked-spec = tie.close (tie.spec goes-nowhere-requires returns returns-2)
+pub block_asked_spec : {M : Type 1} → statement M
+block_asked_spec = tie.close (tie.spec goes_nowhere_requires returns returns_2)

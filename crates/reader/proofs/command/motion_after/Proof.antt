@@ -4,14 +4,14 @@ use mathlib.Core.Path.{◌∙◌}
 use Rattle.reader.proofs.command.motion_after.Statement.{statement}
 use Rattle.reader.proofs.command.motion_after.Tie as tie
 
-motion-of-requires : tie.Need-motion-of-requires
-motion-of-requires c κs = search rules
+motion_of_requires : tie.Need-motion-of-requires
+motion_of_requires c κs = search rules
 
 returns : tie.Need-returns
 returns c = c.motion-of.ensures ∙ rw c.before.if1.true
 
-returns-2 : tie.Need-returns-2
-returns-2 c = search rules
+returns_2 : tie.Need-returns-2
+returns_2 c = search rules
 
-pub motion-after-spec : {M : Type 1} → statement M
-motion-after-spec = tie.close (tie.spec motion-of-requires returns returns-2)
+pub motion_after_spec : {M : Type 1} → statement M
+motion_after_spec = tie.close (tie.spec motion_of_requires returns returns_2)

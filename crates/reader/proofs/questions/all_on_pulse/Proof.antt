@@ -6,24 +6,24 @@ use borrow.Author.Tests.{not-true, not-false}
 use Rattle.reader.proofs.questions.all_on_pulse.Statement.{statement}
 use Rattle.reader.proofs.questions.all_on_pulse.Tie as tie
 
-on-pulse-requires : tie.Need-on-pulse-requires
-on-pulse-requires c κs = search rules
+on_pulse_requires : tie.Need-on-pulse-requires
+on_pulse_requires c κs = search rules
 
 returns : tie.Need-returns
 returns c = rw (sym c.before.on-pulse.ensures ∙ not-true _ c.if1.true)
 
-on-pulse-requires-2 : tie.Need-on-pulse-requires-2
-on-pulse-requires-2 c κs = search rules
+on_pulse_requires_2 : tie.Need-on-pulse-requires-2
+on_pulse_requires_2 c κs = search rules
 
-returns-2 : tie.Need-returns-2
-returns-2 c = rw (
+returns_2 : tie.Need-returns-2
+returns_2 c = rw (
   sym c.before.before.before.on-pulse.ensures
       ∙ not-false _ c.before.before.if1.false,
   sym c.before.on-pulse2.ensures ∙ not-true _ c.if2.true,
 )
 
-returns-3 : tie.Need-returns-3
-returns-3 c =
+returns_3 : tie.Need-returns-3
+returns_3 c =
     let i = c.before.before in
     let e2 = i.before.before in
     let e1 = e2.before.before in
@@ -36,11 +36,11 @@ returns-3 c =
       zero-mul,
     )
 
-on-pulse-requires-3 : tie.Need-on-pulse-requires-3
-on-pulse-requires-3 c κs = search rules
+on_pulse_requires_3 : tie.Need-on-pulse-requires-3
+on_pulse_requires_3 c κs = search rules
 
-returns-4 : tie.Need-returns-4
-returns-4 c =
+returns_4 : tie.Need-returns-4
+returns_4 c =
     let e2 = c.before.before.before.before in
     let e1 = e2.before.before in
     rw (
@@ -50,11 +50,11 @@ returns-4 c =
       sym c.before.on-pulse3.ensures ∙ not-true _ c.if5.true,
     )
 
-on-pulse-requires-4 : tie.Need-on-pulse-requires-4
-on-pulse-requires-4 c κs = search rules
+on_pulse_requires_4 : tie.Need-on-pulse-requires-4
+on_pulse_requires_4 c κs = search rules
 
-returns-5 : tie.Need-returns-5
-returns-5 c =
+returns_5 : tie.Need-returns-5
+returns_5 c =
     let e3 = c.before in
     let e2 = e3.before.before.before.before in
     let e1 = e2.before.before in
@@ -66,16 +66,16 @@ returns-5 c =
       sym e3.before.on-pulse3.ensures ∙ not-false _ e3.if5.false,
     )
 
-pub all-on-pulse-spec : {M : Type 1} → statement M
-all-on-pulse-spec =
+pub all_on_pulse_spec : {M : Type 1} → statement M
+all_on_pulse_spec =
     tie.close
     (tie.spec
-    on-pulse-requires
+    on_pulse_requires
     returns
-    on-pulse-requires-2
-    returns-2
-    returns-3
-    on-pulse-requires-3
-    returns-4
-    on-pulse-requires-4
-    returns-5)
+    on_pulse_requires_2
+    returns_2
+    returns_3
+    on_pulse_requires_3
+    returns_4
+    on_pulse_requires_4
+    returns_5)

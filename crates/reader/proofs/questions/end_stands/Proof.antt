@@ -5,8 +5,8 @@ use Rattle.reader.proofs.questions.end_stands.Tie as tie
 returns : tie.Need-returns
 returns c = rw c.if1.true
 
-returns-2 : tie.Need-returns-2
-returns-2 c = rw c.if1.false
+returns_2 : tie.Need-returns-2
+returns_2 c = rw c.if1.false
 
-pub end-stands-spec : {M : Type 1} → statement M
-end-stands-spec = tie.close (tie.spec returns returns-2)
+pub end_stands_spec : {M : Type 1} → statement M
+end_stands_spec = tie.close (tie.spec returns returns_2)

@@ -4,17 +4,17 @@ use mathlib.Core.Path.{sym, ◌∙◌}
 use Rattle.reader.proofs.questions.moves.Statement.{statement}
 use Rattle.reader.proofs.questions.moves.Tie as tie
 
-end-stands-requires : tie.Need-end-stands-requires
-end-stands-requires c κs = search rules
+end_stands_requires : tie.Need-end-stands-requires
+end_stands_requires c κs = search rules
 
 returns : tie.Need-returns
 returns c = rw (sym c.before.end-stands.ensures ∙ c.if1.true)
 
-centre-stands-requires : tie.Need-centre-stands-requires
-centre-stands-requires c κs = search rules
+centre_stands_requires : tie.Need-centre-stands-requires
+centre_stands_requires c κs = search rules
 
-returns-2 : tie.Need-returns-2
-returns-2 c = c.centre-stands.ensures ∙ rw (sym c.before.before.end-stands.ensures ∙ c.before.if1.false)
+returns_2 : tie.Need-returns-2
+returns_2 c = c.centre_stands.ensures ∙ rw (sym c.before.before.end-stands.ensures ∙ c.before.if1.false)
 
-pub moves-spec : {M : Type 1} → statement M
-moves-spec = tie.close (tie.spec end-stands-requires returns centre-stands-requires returns-2)
+pub moves_spec : {M : Type 1} → statement M
+moves_spec = tie.close (tie.spec end_stands_requires returns centre_stands_requires returns_2)

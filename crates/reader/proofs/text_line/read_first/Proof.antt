@@ -4,52 +4,52 @@ use mathlib.Core.Path.{◌≡◌, sym, ◌∙◌}
 use mathlib.Core.Bool.{true}
 use native.Mathlib.Omega.{arith}
 use borrow.Author.Tests.{not-true, not-false}
-use Rattle.settings.specs.laws.Right.{settings-right}
-use Rattle.bench.specs.computed.Bench.{soundOf}
+use Rattle.settings.specs.laws.Right.{settings_right}
+use Rattle.bench.specs.computed.Bench.{sound_of}
 use Rattle.bench.specs.laws.Sound.{sound}
-use Rattle.reader.specs.computed.TextLine.{readLineOf}
+use Rattle.reader.specs.computed.TextLine.{read_line_of}
 use Rattle.reader.proofs.text_line.read_first.Statement.{statement}
 use Rattle.reader.proofs.text_line.read_first.Tie as tie
 
-record-sound : (c : tie.Else1) → soundOf c.before.before.before.before.before.args.m ≡ true
-record-sound c = sym c.before.sound.ensures ∙ not-false _ c.if1.false
+record_sound : (c : tie.Else1) → sound_of c.before.before.before.before.before.args.m ≡ true
+record_sound c = sym c.before.sound.ensures ∙ not-false _ c.if1.false
 
-sound-requires : tie.Need-sound-requires
-sound-requires c κs = search rules
+sound_requires : tie.Need-sound-requires
+sound_requires c κs = search rules
 
-refused-requires : tie.Need-refused-requires
-refused-requires c κs = search rules
+refused_requires : tie.Need-refused-requires
+refused_requires c κs = search rules
 
-end-of-line-requires : tie.Need-end-of-line-requires
-end-of-line-requires c κs = search rules
+end_of_line_requires : tie.Need-end-of-line-requires
+end_of_line_requires c κs = search rules
 
 returns : tie.Need-returns
-unfolding readLineOf
+unfolding read_line_of
 returns c =
     let u = c.before in
     let t = u.before in
     (u.refused.ensures ∙ rw (sym t.before.sound.ensures ∙ not-true _ t.if1.true), omega (arith, c.end-of-line.ensures))
 
-ask-first-requires : tie.Need-ask-first-requires
-ask-first-requires c κs = (settings-right _ (sound (record-sound c)).settings).scale-most
+ask_first_requires : tie.Need-ask-first-requires
+ask_first_requires c κs = (settings_right _ (sound (record_sound c)).settings).scale_most
 
-take-requires : tie.Need-take-requires
-take-requires c κs = record-sound c.before.before
+take_requires : tie.Need-take-requires
+take_requires c κs = record_sound c.before.before
 
-returns-2 : tie.Need-returns-2
-unfolding readLineOf
-returns-2 c =
+returns_2 : tie.Need-returns-2
+unfolding read_line_of
+returns_2 c =
     let f = c.before.before in
-    (rw (record-sound f.before) (rw f.ask-first.ensures.0 at c.take.ensures), f.ask-first.ensures.1)
+    (rw (record_sound f.before) (rw f.ask-first.ensures.0 at c.take.ensures), f.ask-first.ensures.1)
 
-pub read-first-spec : {M : Type 1} → statement M
-read-first-spec =
+pub read_first_spec : {M : Type 1} → statement M
+read_first_spec =
     tie.close
     (tie.spec
-    sound-requires
-    refused-requires
-    end-of-line-requires
+    sound_requires
+    refused_requires
+    end_of_line_requires
     returns
-    ask-first-requires
-    take-requires
-    returns-2)
+    ask_first_requires
+    take_requires
+    returns_2)

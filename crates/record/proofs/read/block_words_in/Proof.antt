@@ -17,65 +17,65 @@ mul_at c = search rules
 add_at : tie.Need-overflow-add-at
 add_at c = search rules
 
-add-x : tie.Need-overflow-add-x
-add-x c = search rules
+add_x : tie.Need-overflow-add-x
+add_x c = search rules
 
-add-y : tie.Need-overflow-add-y
-add-y c = search rules
+add_y : tie.Need-overflow-add-y
+add_y c = search rules
 
-add-feed : tie.Need-overflow-add-feed
-add-feed c = search rules
+add_feed : tie.Need-overflow-add-feed
+add_feed c = search rules
 
-add-i : tie.Need-overflow-add-i
-add-i c = search rules
+add_i : tie.Need-overflow-add-i
+add_i c = search rules
 
-add-j : tie.Need-overflow-add-j
-add-j c = search rules
+add_j : tie.Need-overflow-add-j
+add_j c = search rules
 
-add-root : tie.Need-overflow-add-root
-add-root c = search rules
+add_root : tie.Need-overflow-add-root
+add_root c = search rules
 
-mul-t10 : tie.Need-overflow-mul-t10
-mul-t10 c = search rules
+mul_t10 : tie.Need-overflow-mul-t10
+mul_t10 c = search rules
 
-element-copy-out-t13 : tie.Need-element-copy-out-t13
-element-copy-out-t13 c = search rules
+element_copy_out_t13 : tie.Need-element-copy-out-t13
+element_copy_out_t13 c = search rules
 
-mul-t14 : tie.Need-overflow-mul-t14
-mul-t14 c = search rules
+mul_t14 : tie.Need-overflow-mul-t14
+mul_t14 c = search rules
 
-element-copy-out-t17 : tie.Need-element-copy-out-t17
-element-copy-out-t17 c = search rules
+element_copy_out_t17 : tie.Need-element-copy-out-t17
+element_copy_out_t17 c = search rules
 
-mul-t18 : tie.Need-overflow-mul-t18
-mul-t18 c = search rules
+mul_t18 : tie.Need-overflow-mul-t18
+mul_t18 c = search rules
 
-element-copy-out-t21 : tie.Need-element-copy-out-t21
-element-copy-out-t21 c = search rules
+element_copy_out_t21 : tie.Need-element-copy-out-t21
+element_copy_out_t21 c = search rules
 
-mul-t22 : tie.Need-overflow-mul-t22
-mul-t22 c = search rules
+mul_t22 : tie.Need-overflow-mul-t22
+mul_t22 c = search rules
 
-element-copy-out-t25 : tie.Need-element-copy-out-t25
-element-copy-out-t25 c = search rules
+element_copy_out_t25 : tie.Need-element-copy-out-t25
+element_copy_out_t25 c = search rules
 
-mul-t26 : tie.Need-overflow-mul-t26
-mul-t26 c = search rules
+mul_t26 : tie.Need-overflow-mul-t26
+mul_t26 c = search rules
 
-element-copy-out-t29 : tie.Need-element-copy-out-t29
-element-copy-out-t29 c = search rules
+element_copy_out_t29 : tie.Need-element-copy-out-t29
+element_copy_out_t29 c = search rules
 
-mul-t30 : tie.Need-overflow-mul-t30
-mul-t30 c = search rules
+mul_t30 : tie.Need-overflow-mul-t30
+mul_t30 c = search rules
 
-element-copy-out-t33 : tie.Need-element-copy-out-t33
-element-copy-out-t33 c = search rules
+element_copy_out_t33 : tie.Need-element-copy-out-t33
+element_copy_out_t33 c = search rules
 
-mul-t34 : tie.Need-overflow-mul-t34
-mul-t34 c = search rules
+mul_t34 : tie.Need-overflow-mul-t34
+mul_t34 c = search rules
 
-element-copy-out-t37 : tie.Need-element-copy-out-t37
-element-copy-out-t37 c = search rules
+element_copy_out_t37 : tie.Need-element-copy-out-t37
+element_copy_out_t37 c = search rules
 
 -- a word as its bits tell it
 read : (z : ℤ) → mag z < 2 ^ 63 → to_z w64 (of_z w64 z) ≡ z
@@ -101,30 +101,30 @@ returns c =
       read (at ws (n + 6)) c.t37.given,
     )
 
-pub block-words-in-spec : {M : Type 1} → statement M
-block-words-in-spec =
+pub block_words_in_spec : {M : Type 1} → statement M
+block_words_in_spec =
     tie.close
     (tie.spec
     mul_at
     add_at
-    add-x
-    add-y
-    add-feed
-    add-i
-    add-j
-    add-root
-    mul-t10
-    element-copy-out-t13
-    mul-t14
-    element-copy-out-t17
-    mul-t18
-    element-copy-out-t21
-    mul-t22
-    element-copy-out-t25
-    mul-t26
-    element-copy-out-t29
-    mul-t30
-    element-copy-out-t33
-    mul-t34
-    element-copy-out-t37
+    add_x
+    add_y
+    add_feed
+    add_i
+    add_j
+    add_root
+    mul_t10
+    element_copy_out_t13
+    mul_t14
+    element_copy_out_t17
+    mul_t18
+    element_copy_out_t21
+    mul_t22
+    element_copy_out_t25
+    mul_t26
+    element_copy_out_t29
+    mul_t30
+    element_copy_out_t33
+    mul_t34
+    element_copy_out_t37
     returns)

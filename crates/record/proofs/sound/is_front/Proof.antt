@@ -6,40 +6,40 @@ use mathlib.Core.Bool.{false}
 use mir.Syntax.{w64}
 use mir.Val.{SFits}
 use mir.Facts.{to_z-of_z}
-use Rattle.whole.specs.Equal.{equalZ}
+use Rattle.whole.specs.Equal.{equal_z}
 use Rattle.encoding.specs.declared.encode.Head.{Head}
 use Rattle.encoding.specs.Words.{abi, at}
-use Rattle.encoding.specs.computed.Words.{headIn, workWordsIn}
-use Rattle.encoding.specs.computed.Right.{headRight, workRight}
+use Rattle.encoding.specs.computed.Words.{head_in, work_words_in}
+use Rattle.encoding.specs.computed.Right.{head_right, work_right}
 use Rattle.encoding.specs.laws.Right.{WorkFits}
 use Rattle.record.specs.declared.read.Figures.{Figures}
-use Rattle.record.specs.computed.Words.{figuresIn}
-use Rattle.record.specs.computed.Right.{figuresRight, isFront, frontRight}
+use Rattle.record.specs.computed.Words.{figures_in}
+use Rattle.record.specs.computed.Right.{figures_right, is_front, front_right}
 use Rattle.record.specs.laws.Right.{front_same}
 use Rattle.record.proofs.sound.is_front.Statement.{statement}
 use Rattle.record.proofs.sound.is_front.Tie as tie
 
 -- what each call says of the words
-first-is : (c : tie.After-equal) → c.equal.result ≡ equalZ (at c.before.before.before.before.before.args.words.now 0) abi
-first-is c =
+first_is : (c : tie.After-equal) → c.equal.result ≡ equal_z (at c.before.before.before.before.before.args.words.now 0) abi
+first_is c =
     let ws = c.before.before.before.before.before.args.words.now in
     let f : SFits w64 (at ws 0) = sfits_of c.before.equal-arg.given in
     simp to_z-of_z at c.equal.ensures
 
-head-is : (c : tie.After-head-right) → c.head-right.result ≡ headRight
-    (headIn c.before.before.before.before.before.before.before.args.words.now)
-head-is c = c.head-right.ensures ∙ ap headRight c.before.before.before.before.before.before.head_in.ensures
+head_is : (c : tie.After-head-right) → c.head_right.result ≡ head_right
+    (head_in c.before.before.before.before.before.before.before.args.words.now)
+head_is c = c.head_right.ensures ∙ ap head_right c.before.before.before.before.before.before.head_in.ensures
 
-work-is : (c : tie.After-work-right) → c.work-right.result ≡ workRight
-    (workWordsIn c.before.before.before.before.before.before.before.before.before.args.words.now)
-work-is c = c.work-right.ensures ∙ ap workRight c.before.before.before.before.before.before.before.work-words-in.ensures
+work_is : (c : tie.After-work-right) → c.work_right.result ≡ work_right
+    (work_words_in c.before.before.before.before.before.before.before.before.before.args.words.now)
+work_is c = c.work_right.ensures ∙ ap work_right c.before.before.before.before.before.before.before.work-words-in.ensures
 
-figures-is : (c : tie.After-figures-right) → c.figures-right.result ≡ figuresRight
-    (figuresIn c.before.before.before.before.before.before.before.before.before.before.before.args.words.now)
-figures-is c = c.figures-right.ensures ∙ ap figuresRight c.before.before.before.before.before.before.before.before.figures-in.ensures
+figures_is : (c : tie.After-figures-right) → c.figures-right.result ≡ figures_right
+    (figures_in c.before.before.before.before.before.before.before.before.before.before.before.args.words.now)
+figures_is c = c.figures-right.ensures ∙ ap figures_right c.before.before.before.before.before.before.before.before.figures-in.ensures
 
 -- the numbers of 64 bits that the tests ask are those that the parts hold
-own : (c : tie.After-figures-in) → frontRight c.before.before.before.args.words.now ≡ isFront
+own : (c : tie.After-figures-in) → front_right c.before.before.before.args.words.now ≡ is_front
     c.before.before.before.args.words.now
 own c =
     let h = c.before.before.head_in in
@@ -66,89 +66,89 @@ own c =
       len = subst (λ (f : Figures). SFits w64 f.len) g.ensures len;
     })
 
-head-in-requires : tie.Need-head-in-requires
-head-in-requires c κs = search rules
+head_in_requires : tie.Need-head-in-requires
+head_in_requires c κs = search rules
 
-work-words-in-requires : tie.Need-work-words-in-requires
-work-words-in-requires c κs = search rules
+work_words_in_requires : tie.Need-work-words-in-requires
+work_words_in_requires c κs = search rules
 
-figures-in-requires : tie.Need-figures-in-requires
-figures-in-requires c κs = search rules
+figures_in_requires : tie.Need-figures-in-requires
+figures_in_requires c κs = search rules
 
-element-copy-out-equal : tie.Need-element-copy-out-equal
-element-copy-out-equal c = search rules
+element_copy_out_equal : tie.Need-element-copy-out-equal
+element_copy_out_equal c = search rules
 
-equal-requires : tie.Need-equal-requires
-equal-requires c κs = search rules
+equal_requires : tie.Need-equal-requires
+equal_requires c κs = search rules
 
 returns : tie.Need-returns
-unfolding frontRight
+unfolding front_right
 returns c =
     let s = c.before.before.before in
-    let e : false ≡ frontRight s.before.before.before.args.words.now = rw
-    (sym (first-is c.before) ∙ not-true _ c.if1.true) in
+    let e : false ≡ front_right s.before.before.before.args.words.now = rw
+    (sym (first_is c.before) ∙ not-true _ c.if1.true) in
     e ∙ own s
 
-head-right-requires : tie.Need-head-right-requires
-head-right-requires c κs = search rules
+head_right_requires : tie.Need-head-right-requires
+head_right_requires c κs = search rules
 
-returns-2 : tie.Need-returns-2
-unfolding frontRight
-returns-2 c =
+returns_2 : tie.Need-returns-2
+unfolding front_right
+returns_2 c =
     let s = c.before.before.before.before.before in
     let e1 = c.before.before in
-    let e : false ≡ frontRight s.before.before.before.args.words.now = rw
-    (sym (first-is e1.before) ∙ not-false _ e1.if1.false, sym (head-is c.before) ∙ not-true _ c.if2.true) in
+    let e : false ≡ front_right s.before.before.before.args.words.now = rw
+    (sym (first_is e1.before) ∙ not-false _ e1.if1.false, sym (head_is c.before) ∙ not-true _ c.if2.true) in
     e ∙ own s
 
-work-right-requires : tie.Need-work-right-requires
-work-right-requires c κs = search rules
+work_right_requires : tie.Need-work-right-requires
+work_right_requires c κs = search rules
 
-returns-3 : tie.Need-returns-3
-unfolding frontRight
-returns-3 c =
+returns_3 : tie.Need-returns-3
+unfolding front_right
+returns_3 c =
     let s = c.before.before.before.before.before.before.before in
     let e2 = c.before.before in
     let e1 = e2.before.before in
-    let e : false ≡ frontRight s.before.before.before.args.words.now = rw (
-      sym (first-is e1.before) ∙ not-false _ e1.if1.false,
-      sym (head-is e2.before) ∙ not-false _ e2.if2.false,
+    let e : false ≡ front_right s.before.before.before.args.words.now = rw (
+      sym (first_is e1.before) ∙ not-false _ e1.if1.false,
+      sym (head_is e2.before) ∙ not-false _ e2.if2.false,
       sym
-          (work-is c.before) ∙ not-true _ c.if3.true,
+          (work_is c.before) ∙ not-true _ c.if3.true,
     ) in
     e ∙ own s
 
-figures-right-requires : tie.Need-figures-right-requires
-figures-right-requires c κs = search rules
+figures_right_requires : tie.Need-figures-right-requires
+figures_right_requires c κs = search rules
 
-returns-4 : tie.Need-returns-4
-unfolding frontRight
-returns-4 c =
+returns_4 : tie.Need-returns-4
+unfolding front_right
+returns_4 c =
     let s = c.before.before.before.before.before.before.before.before in
     let e3 = c.before in
     let e2 = e3.before.before in
     let e1 = e2.before.before in
-    let e : c.figures-right.result ≡ frontRight s.before.before.before.args.words.now = figures-is c ∙ rw (
-      sym (first-is e1.before) ∙ not-false _ e1.if1.false,
-      sym (head-is e2.before) ∙ not-false _ e2.if2.false,
+    let e : c.figures-right.result ≡ front_right s.before.before.before.args.words.now = figures_is c ∙ rw (
+      sym (first_is e1.before) ∙ not-false _ e1.if1.false,
+      sym (head_is e2.before) ∙ not-false _ e2.if2.false,
       sym
-          (work-is e3.before) ∙ not-false _ e3.if3.false,
+          (work_is e3.before) ∙ not-false _ e3.if3.false,
     ) in
     e ∙ own s
 
-pub is-front-spec : {M : Type 1} → statement M
-is-front-spec =
+pub is_front_spec : {M : Type 1} → statement M
+is_front_spec =
     tie.close
     (tie.spec
-    head-in-requires
-    work-words-in-requires
-    figures-in-requires
-    element-copy-out-equal
-    equal-requires
+    head_in_requires
+    work_words_in_requires
+    figures_in_requires
+    element_copy_out_equal
+    equal_requires
     returns
-    head-right-requires
-    returns-2
-    work-right-requires
-    returns-3
-    figures-right-requires
-    returns-4)
+    head_right_requires
+    returns_2
+    work_right_requires
+    returns_3
+    figures_right_requires
+    returns_4)

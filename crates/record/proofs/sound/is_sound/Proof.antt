@@ -3,9 +3,9 @@ use borrow.Author.Rules.{rules}
 use borrow.Author.Tests.{not-true, not-false}
 use mathlib.Core.Path.{◌≡◌, sym, ap, ◌∙◌}
 use lib.ListN.{length}
-use Rattle.bench.specs.computed.Bench.{soundOf}
-use Rattle.record.specs.computed.Words.{benchIn}
-use Rattle.record.specs.laws.Sound.{front-wrong, bench-wrong, waiting-is}
+use Rattle.bench.specs.computed.Bench.{sound_of}
+use Rattle.record.specs.computed.Words.{bench_in}
+use Rattle.record.specs.laws.Sound.{front_wrong, bench_wrong, waiting_is}
 use Rattle.record.proofs.sound.is_sound.Statement.{statement}
 use Rattle.record.proofs.sound.is_sound.Tie as tie
 
@@ -13,51 +13,51 @@ long : (c : tie.After-seen-arg) → length c.before.args.words.now ≡ 134
 long c = c.seen-arg.given.0
 
 -- the bench that the test asked
-bench-is : (c : tie.After-sound) → c.sound.result ≡ soundOf
-    (benchIn c.before.before.before.before.before.before.before.before.args.words.now)
-bench-is c = c.sound.ensures ∙ ap soundOf c.before.before.before.bench-in.ensures
+bench_is : (c : tie.After-sound) → c.sound.result ≡ sound_of
+    (bench_in c.before.before.before.before.before.before.before.before.args.words.now)
+bench_is c = c.sound.ensures ∙ ap sound_of c.before.before.before.bench-in.ensures
 
-seen-requires : tie.Need-seen-requires
-seen-requires c κs = search rules
+seen_requires : tie.Need-seen-requires
+seen_requires c κs = search rules
 
-is-front-requires : tie.Need-is-front-requires
-is-front-requires c κs = search rules
+is_front_requires : tie.Need-is-front-requires
+is_front_requires c κs = search rules
 
 returns : tie.Need-returns
-returns c = sym (front-wrong _ (long c.before.before.before) (sym c.before.is_front.ensures ∙ not-true _ c.if1.true))
+returns c = sym (front_wrong _ (long c.before.before.before) (sym c.before.is_front.ensures ∙ not-true _ c.if1.true))
 
-bench-in-requires : tie.Need-bench-in-requires
-bench-in-requires c κs = search rules
+bench_in_requires : tie.Need-bench-in-requires
+bench_in_requires c κs = search rules
 
-sound-requires : tie.Need-sound-requires
-sound-requires c κs = search rules
+sound_requires : tie.Need-sound-requires
+sound_requires c κs = search rules
 
-returns-2 : tie.Need-returns-2
-returns-2 c =
+returns_2 : tie.Need-returns-2
+returns_2 c =
     let s = c.before.before.before.before.before.before.before.before in
-    sym (bench-wrong _ (long s) (sym (bench-is c.before) ∙ not-true _ c.if2.true))
+    sym (bench_wrong _ (long s) (sym (bench_is c.before) ∙ not-true _ c.if2.true))
 
-waiting-right-requires : tie.Need-waiting-right-requires
-waiting-right-requires c κs = sym c.before.sound.ensures ∙ not-false _ c.if2.false
+waiting_right_requires : tie.Need-waiting-right-requires
+waiting_right_requires c κs = sym c.before.sound.ensures ∙ not-false _ c.if2.false
 
-returns-3 : tie.Need-returns-3
-returns-3 c =
+returns_3 : tie.Need-returns-3
+returns_3 c =
     let e = c.before in
     let front = e.before.before.before.before.before in
     let s = front.before.before.before in
-    rw e.before.before.before.before.bench-in.ensures at c.waiting-right.ensures
-    ∙ waiting-is s.before.args.words.now (long s) (sym front.before.is_front.ensures ∙ not-false _ front.if1.false)
-    (sym (bench-is e.before) ∙ not-false _ e.if2.false)
+    rw e.before.before.before.before.bench-in.ensures at c.waiting_right.ensures
+    ∙ waiting_is s.before.args.words.now (long s) (sym front.before.is_front.ensures ∙ not-false _ front.if1.false)
+    (sym (bench_is e.before) ∙ not-false _ e.if2.false)
 
-pub is-sound-spec : {M : Type 1} → statement M
-is-sound-spec =
+pub is_sound_spec : {M : Type 1} → statement M
+is_sound_spec =
     tie.close
     (tie.spec
-    seen-requires
-    is-front-requires
+    seen_requires
+    is_front_requires
     returns
-    bench-in-requires
-    sound-requires
-    returns-2
-    waiting-right-requires
-    returns-3)
+    bench_in_requires
+    sound_requires
+    returns_2
+    waiting_right_requires
+    returns_3)

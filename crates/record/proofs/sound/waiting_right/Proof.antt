@@ -6,10 +6,10 @@ use mir.Syntax.{w64}
 use mir.Val.{SFits}
 use mir.Facts.{to_z-of_z}
 use Rattle.bench.specs.laws.Sound.{sound}
-use Rattle.machine.specs.laws.Onward.{wide, work-countable, work-end-inside}
+use Rattle.machine.specs.laws.Onward.{wide, work_countable, work_end_inside}
 use Rattle.encoding.specs.Words.{at, count_of}
 use Rattle.record.specs.declared.read.Figures.{Figures}
-use Rattle.record.specs.laws.Sound.{work-wrong, none_right, idle-wrong, busy-right}
+use Rattle.record.specs.laws.Sound.{work_wrong, none_right, idle_wrong, busy_right}
 use Rattle.record.proofs.sound.waiting_right.Statement.{statement}
 use Rattle.record.proofs.sound.waiting_right.Tie as tie
 
@@ -34,62 +34,62 @@ len_is c =
     let f : SFits w64 g.result.len = search rules in
     (simp to_z-of_z at c.count3.ensures) ∙ ap (λ (f : Figures). count_of f.len) g.ensures
 
-figures-in-requires : tie.Need-figures-in-requires
-figures-in-requires c κs = search rules
+figures_in_requires : tie.Need-figures-in-requires
+figures_in_requires c κs = search rules
 
-count-requires : tie.Need-count-requires
-count-requires c κs = search rules
+count_requires : tie.Need-count-requires
+count_requires c κs = search rules
 
-count-requires-2 : tie.Need-count-requires-2
-count-requires-2 c κs = search rules
+count_requires_2 : tie.Need-count-requires-2
+count_requires_2 c κs = search rules
 
-work-off-requires : tie.Need-work-off-requires
-work-off-requires c κs = let s = c.before.before.before.before.before.before in work-countable s.args.k s.requires
+work_off_requires : tie.Need-work-off-requires
+work_off_requires c κs = let s = c.before.before.before.before.before.before in work_countable s.args.k s.requires
 
 returns : tie.Need-returns
 returns c =
     let w = c.before.before in
     rw (← root_is w.before.before.before, ← left_is w.before)
-    (sym (work-wrong _ _ _ _ _ _ _ _ w.work-off.ensures (not-true _ c.if1.true)))
+    (sym (work_wrong _ _ _ _ _ _ _ _ w.work-off.ensures (not-true _ c.if1.true)))
 
-count-requires-3 : tie.Need-count-requires-3
-count-requires-3 c κs = search rules
+count_requires_3 : tie.Need-count-requires-3
+count_requires_3 c κs = search rules
 
-returns-2 : tie.Need-returns-2
-returns-2 c =
+returns_2 : tie.Need-returns-2
+returns_2 c =
     let n = c.before.before in
     let e = n.before.before in
     let w = e.before.before in
     rw (← root_is w.before.before.before, ← left_is w.before, ← len_is n)
     (none_right _ _ _ _ _ _ _ _ w.work-off.ensures (not-false _ e.if1.false) c.before.if2.true)
 
-is-nothing-requires : tie.Need-is-nothing-requires
-is-nothing-requires c κs = search rules
+is_nothing_requires : tie.Need-is-nothing-requires
+is_nothing_requires c κs = search rules
 
-returns-3 : tie.Need-returns-3
-returns-3 c =
+returns_3 : tie.Need-returns-3
+returns_3 c =
     let m = c.before.before in
     let n = m.before in
     let e = n.before.before in
     let w = e.before.before in
     rw (← root_is w.before.before.before, ← left_is w.before, ← len_is n)
     (sym
-    (idle-wrong _ _ _ _ _ _ _ _ w.work-off.ensures (not-false _ e.if1.false) m.if2.false
+    (idle_wrong _ _ _ _ _ _ _ _ w.work-off.ensures (not-false _ e.if1.false) m.if2.false
     (sym c.before.is-nothing.ensures ∙ c.if3.true)))
 
-end-of-requires : tie.Need-end-of-requires
-end-of-requires c κs = search rules
+end_of_requires : tie.Need-end-of-requires
+end_of_requires c κs = search rules
 
-capacity-requires : tie.Need-capacity-requires
-capacity-requires c κs = (sound c.before.before.before.before.before.before.before.before.before.before.before.before.before.before.before.before.before.requires).settings
+capacity_requires : tie.Need-capacity-requires
+capacity_requires c κs = (sound c.before.before.before.before.before.before.before.before.before.before.before.before.before.before.before.before.before.requires).settings
 
-row-right-requires : tie.Need-row-right-requires
-row-right-requires c κs =
+row_right_requires : tie.Need-row-right-requires
+row_right_requires c κs =
     let s = c.before.before.before.before.before.before.before.before.before.before.before.before.before.before.before.before.before.before in
-    (wide s.args.k s.pre, rw c.before.end_of_lem.ensures (work-end-inside s.args.k s.pre))
+    (wide s.args.k s.pre, rw c.before.end_of_lem.ensures (work_end_inside s.args.k s.pre))
 
-returns-4 : tie.Need-returns-4
-returns-4 c =
+returns_4 : tie.Need-returns-4
+returns_4 c =
     let i = c.before.before.before.before.before in
     let m = i.before.before in
     let n = m.before in
@@ -97,22 +97,22 @@ returns-4 c =
     let w = e.before.before in
     rw (← root_is w.before.before.before, ← left_is w.before, ← len_is n)
     (rw (c.before.capacity.ensures, c.before.before.end_of_lem.ensures) at c.row-right.ensures
-    ∙ busy-right _ _ _ _ _ _ _ _ w.work-off.ensures (not-false _ e.if1.false) (sym i.before.is-nothing.ensures ∙ i.if3.false))
+    ∙ busy_right _ _ _ _ _ _ _ _ w.work-off.ensures (not-false _ e.if1.false) (sym i.before.is-nothing.ensures ∙ i.if3.false))
 
-pub waiting-right-spec : {M : Type 1} → statement M
-waiting-right-spec =
+pub waiting_right_spec : {M : Type 1} → statement M
+waiting_right_spec =
     tie.close
     (tie.spec
-    figures-in-requires
-    count-requires
-    count-requires-2
-    work-off-requires
+    figures_in_requires
+    count_requires
+    count_requires_2
+    work_off_requires
     returns
-    count-requires-3
-    returns-2
-    is-nothing-requires
-    returns-3
-    end-of-requires
-    capacity-requires
-    row-right-requires
-    returns-4)
+    count_requires_3
+    returns_2
+    is_nothing_requires
+    returns_3
+    end_of_requires
+    capacity_requires
+    row_right_requires
+    returns_4)

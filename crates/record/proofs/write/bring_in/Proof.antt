@@ -9,78 +9,78 @@ use mir.Facts.{to_z-of_z}
 use Rattle.encoding.specs.Words.{count_of}
 use Rattle.encoding.specs.laws.Number.{word_fits, through}
 use Rattle.record.specs.declared.read.Figures.{Figures}
-use Rattle.record.specs.computed.Words.{lenIn}
-use Rattle.record.specs.laws.Write.{brought-none, brought-first}
+use Rattle.record.specs.computed.Words.{len_in}
+use Rattle.record.specs.laws.Write.{brought_none, brought_first}
 use Rattle.record.proofs.write.bring_in.Statement.{statement}
 use Rattle.record.proofs.write.bring_in.Tie as tie
 
 -- how many wait
-len_is : (c : tie.After-count) → c.count.result ≡ lenIn c.before.before.before.before.args.words.now
+len_is : (c : tie.After-count) → c.count.result ≡ len_in c.before.before.before.before.args.words.now
 len_is c =
     let g = c.before.before.figures-in in
     let f : SFits w64 g.result.len = search rules in
     (simp to_z-of_z at c.count.ensures) ∙ ap (λ (f : Figures). count_of f.len) g.ensures
 
-figures-in-requires : tie.Need-figures-in-requires
-figures-in-requires c κs = search rules
+figures_in_requires : tie.Need-figures-in-requires
+figures_in_requires c κs = search rules
 
-count-requires : tie.Need-count-requires
-count-requires c κs = search rules
+count_requires : tie.Need-count-requires
+count_requires c κs = search rules
 
-nothing-words-requires : tie.Need-nothing-words-requires
-nothing-words-requires c κs = search rules
+nothing_words_requires : tie.Need-nothing-words-requires
+nothing_words_requires c κs = search rules
 
-set-work-requires : tie.Need-set-work-requires
-set-work-requires c κs = search rules
+set_work_requires : tie.Need-set-work-requires
+set_work_requires c κs = search rules
 
-element-set-of-words : tie.Need-element-set-of-words
-element-set-of-words c = search rules
+element_set_of_words : tie.Need-element-set-of-words
+element_set_of_words c = search rules
 
 returns : tie.Need-returns
 returns c =
     let n = c.before.before.before.before in
     let s = n.before.before.before.before in
     simp (c.set-work.ensures, c.before.nothing-words.ensures)
-    (brought-none s.args.words.now s.args.at (len_is n) c.before.before.before.if1.true)
+    (brought_none s.args.words.now s.args.at (len_is n) c.before.before.before.if1.true)
 
-waiting-in-requires : tie.Need-waiting-in-requires
-waiting-in-requires c κs = search rules
+waiting_in_requires : tie.Need-waiting-in-requires
+waiting_in_requires c κs = search rules
 
-begin-requires : tie.Need-begin-requires
-begin-requires c κs =
+begin_requires : tie.Need-begin-requires
+begin_requires c κs =
     let e = c.before.before.before in
     let s = e.before.before.before.before.before in
-    let some : 1 ≤ lenIn s.args.words.now = omega (arith, len_is e.before, e.if1.false) in
+    let some : 1 ≤ len_in s.args.words.now = omega (arith, len_is e.before, e.if1.false) in
     rw c.before.waiting-in.ensures (s.requires.begins some)
 
-sub-others : tie.Need-overflow-sub-others
-sub-others c = search rules
+sub_others : tie.Need-overflow-sub-others
+sub_others c = search rules
 
-work-words-requires : tie.Need-work-words-requires
-work-words-requires c κs = search rules
+work_words_requires : tie.Need-work-words-requires
+work_words_requires c κs = search rules
 
-set-work-requires-2 : tie.Need-set-work-requires-2
-set-work-requires-2 c κs = search rules
+set_work_requires_2 : tie.Need-set-work-requires-2
+set_work_requires_2 c κs = search rules
 
-word-requires : tie.Need-word-requires
-word-requires c κs = search rules
+word_requires : tie.Need-word-requires
+word_requires c κs = search rules
 
-element-set-from-words : tie.Need-element-set-from-words
-element-set-from-words c = search rules
+element_set_from_words : tie.Need-element-set-from-words
+element_set_from_words c = search rules
 
-word-requires-2 : tie.Need-word-requires-2
-word-requires-2 c κs = search rules
+word_requires_2 : tie.Need-word-requires-2
+word_requires_2 c κs = search rules
 
-element-set-from-words-2 : tie.Need-element-set-from-words-2
-element-set-from-words-2 c = search rules
+element_set_from_words_2 : tie.Need-element-set-from-words-2
+element_set_from_words_2 c = search rules
 
-shift-requires : tie.Need-shift-requires
-shift-requires c κs =
+shift_requires : tie.Need-shift-requires
+shift_requires c κs =
     let e = c.before.before.before.before.before.before.before.before.before.before in
     omega (arith, len_is e.before, e.before.before.before.before.before.requires.most, e.if1.false)
 
-returns-2 : tie.Need-returns-2
-returns-2 c =
+returns_2 : tie.Need-returns-2
+returns_2 c =
     let w = c.before.before in
     let v = w.before in
     let k = v.before in
@@ -96,26 +96,26 @@ returns-2 c =
       through (word_fits _) w.word2.ensures,
       g.before.before.waiting-in.ensures,
     )
-    (brought-first s.args.words.now s.args.at (len_is e.before) e.if1.false)
+    (brought_first s.args.words.now s.args.at (len_is e.before) e.if1.false)
 
-pub bring-in-spec : {M : Type 1} → statement M
-bring-in-spec =
+pub bring_in_spec : {M : Type 1} → statement M
+bring_in_spec =
     tie.close
     (tie.spec
-    figures-in-requires
-    count-requires
-    nothing-words-requires
-    set-work-requires
-    element-set-of-words
+    figures_in_requires
+    count_requires
+    nothing_words_requires
+    set_work_requires
+    element_set_of_words
     returns
-    waiting-in-requires
-    begin-requires
-    sub-others
-    work-words-requires
-    set-work-requires-2
-    word-requires
-    element-set-from-words
-    word-requires-2
-    element-set-from-words-2
-    shift-requires
-    returns-2)
+    waiting_in_requires
+    begin_requires
+    sub_others
+    work_words_requires
+    set_work_requires_2
+    word_requires
+    element_set_from_words
+    word_requires_2
+    element_set_from_words_2
+    shift_requires
+    returns_2)

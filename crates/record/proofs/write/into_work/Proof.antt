@@ -5,23 +5,23 @@ use Rattle.record.specs.laws.Load.{works}
 use Rattle.record.proofs.write.into_work.Statement.{statement}
 use Rattle.record.proofs.write.into_work.Tie as tie
 
-work-words-requires : tie.Need-work-words-requires
-work-words-requires c κs = search rules
+work_words_requires : tie.Need-work-words-requires
+work_words_requires c κs = search rules
 
-set-work-requires : tie.Need-set-work-requires
-set-work-requires c κs = search rules
+set_work_requires : tie.Need-set-work-requires
+set_work_requires c κs = search rules
 
-word-requires : tie.Need-word-requires
-word-requires c κs = search rules
+word_requires : tie.Need-word-requires
+word_requires c κs = search rules
 
-element-set-from-words : tie.Need-element-set-from-words
-element-set-from-words c = search rules
+element_set_from_words : tie.Need-element-set-from-words
+element_set_from_words c = search rules
 
-word-requires-2 : tie.Need-word-requires-2
-word-requires-2 c κs = search rules
+word_requires_2 : tie.Need-word-requires-2
+word_requires_2 c κs = search rules
 
-element-set-from-words-2 : tie.Need-element-set-from-words-2
-element-set-from-words-2 c = search rules
+element_set_from_words_2 : tie.Need-element-set-from-words-2
+element_set_from_words_2 c = search rules
 
 returns : tie.Need-returns
 returns c =
@@ -36,14 +36,14 @@ returns c =
     )
     (works s.args.words.now s.requires s.args.w s.args.root s.args.left)
 
-pub into-work-spec : {M : Type 1} → statement M
-into-work-spec =
+pub into_work_spec : {M : Type 1} → statement M
+into_work_spec =
     tie.close
     (tie.spec
-    work-words-requires
-    set-work-requires
-    word-requires
-    element-set-from-words
-    word-requires-2
-    element-set-from-words-2
+    work_words_requires
+    set_work_requires
+    word_requires
+    element_set_from_words
+    word_requires_2
+    element_set_from_words_2
     returns)

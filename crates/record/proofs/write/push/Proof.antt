@@ -1,31 +1,31 @@
 -- `push` is right because it stores the seven words behind the last block that waits.
 use borrow.Author.Rules.{rules}
 use Rattle.encoding.specs.laws.Number.{word_fits, through}
-use Rattle.record.specs.computed.Words.{machineIn}
+use Rattle.record.specs.computed.Words.{machine_in}
 use Rattle.record.specs.laws.Load.{pushes}
 use Rattle.record.proofs.write.push.Statement.{statement}
 use Rattle.record.proofs.write.push.Tie as tie
 
-seen-requires : tie.Need-seen-requires
-seen-requires c κs = search rules
+seen_requires : tie.Need-seen-requires
+seen_requires c κs = search rules
 
-len-in-requires : tie.Need-len-in-requires
-len-in-requires c κs = search rules
+len_in_requires : tie.Need-len-in-requires
+len_in_requires c κs = search rules
 
-word-requires : tie.Need-word-requires
-word-requires c κs = search rules
+word_requires : tie.Need-word-requires
+word_requires c κs = search rules
 
-element-set-from-words : tie.Need-element-set-from-words
-element-set-from-words c = search rules
+element_set_from_words : tie.Need-element-set-from-words
+element_set_from_words c = search rules
 
-add-word : tie.Need-overflow-add-word
-add-word c = search rules
+add_word : tie.Need-overflow-add-word
+add_word c = search rules
 
-word-requires-2 : tie.Need-word-requires-2
-word-requires-2 c κs = search rules
+word_requires_2 : tie.Need-word-requires-2
+word_requires_2 c κs = search rules
 
-element-set-from-words-2 : tie.Need-element-set-from-words-2
-element-set-from-words-2 c = search rules
+element_set_from_words_2 : tie.Need-element-set-from-words-2
+element_set_from_words_2 c = search rules
 
 mul_at : tie.Need-overflow-mul-at
 mul_at c = search rules
@@ -33,14 +33,14 @@ mul_at c = search rules
 add_at : tie.Need-overflow-add-at
 add_at c = search rules
 
-block-words-requires : tie.Need-block-words-requires
-block-words-requires c κs = search rules
+block_words_requires : tie.Need-block-words-requires
+block_words_requires c κs = search rules
 
-set-block-requires : tie.Need-set-block-requires
-set-block-requires c κs = search rules
+set_block_requires : tie.Need-set-block-requires
+set_block_requires c κs = search rules
 
 returns : tie.Need-returns
-unfolding machineIn
+unfolding machine_in
 returns c =
     let b = c.before in
     let m = b.before.before in
@@ -60,15 +60,15 @@ pub push_spec : {M : Type 1} → statement M
 push_spec =
     tie.close
     (tie.spec
-    seen-requires
-    len-in-requires
-    word-requires
-    element-set-from-words
-    add-word
-    word-requires-2
-    element-set-from-words-2
+    seen_requires
+    len_in_requires
+    word_requires
+    element_set_from_words
+    add_word
+    word_requires_2
+    element_set_from_words_2
     mul_at
     add_at
-    block-words-requires
-    set-block-requires
+    block_words_requires
+    set_block_requires
     returns)

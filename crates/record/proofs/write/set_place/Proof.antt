@@ -7,17 +7,17 @@ use Rattle.encoding.specs.laws.Number.{word_fits, through}
 use Rattle.record.proofs.write.set_place.Statement.{statement}
 use Rattle.record.proofs.write.set_place.Tie as tie
 
-element-set-from-x : tie.Need-element-set-from-x
-element-set-from-x c = search rules
+element_set_from_x : tie.Need-element-set-from-x
+element_set_from_x c = search rules
 
-element-set-from-y : tie.Need-element-set-from-y
-element-set-from-y c = search rules
+element_set_from_y : tie.Need-element-set-from-y
+element_set_from_y c = search rules
 
-word-requires : tie.Need-word-requires
-word-requires c κs = search rules
+word_requires : tie.Need-word-requires
+word_requires c κs = search rules
 
-element-set-from-words : tie.Need-element-set-from-words
-element-set-from-words c = search rules
+element_set_from_words : tie.Need-element-set-from-words
+element_set_from_words c = search rules
 
 returns : tie.Need-returns
 returns c =
@@ -26,7 +26,7 @@ returns c =
     let y : SFits w64 s.args.at.y = search rules in
     simp (to_z-of_z x, to_z-of_z y, through (word_fits _) c.word.ensures)
 
-pub set-place-spec : {M : Type 1} → statement M
-set-place-spec =
+pub set_place_spec : {M : Type 1} → statement M
+set_place_spec =
     tie.close
-    (tie.spec element-set-from-x element-set-from-y word-requires element-set-from-words returns)
+    (tie.spec element_set_from_x element_set_from_y word_requires element_set_from_words returns)

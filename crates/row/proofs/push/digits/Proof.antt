@@ -1,81 +1,81 @@
 -- `digits` is right because at each turn the digits of n are those of m and then what is written already.
 use Prim.Native.Nat.{◌+◌, ◌-◌}
 use native.Mathlib.Omega.{arith}
-use Rattle.row.specs.laws.Decimal.{digits-least}
-use Rattle.row.specs.laws.Behind.{Behind, behind-none, behind_more, behind-all}
+use Rattle.row.specs.laws.Decimal.{digits_least}
+use Rattle.row.specs.laws.Behind.{Behind, behind_none, behind_more, behind_all}
 use borrow.Author.Rules.{rules}
 use Rattle.row.proofs.push.digits.Statement.{statement}
 use Rattle.row.proofs.push.digits.Tie as tie
 
-abbrev invariant-loop : tie.invariant-loop
-invariant-loop out₀ at n end m₀ i₀ out m i = Behind n out₀ at end out m i
+abbrev invariant_loop : tie.invariant_loop
+invariant_loop out₀ at n end m₀ i₀ out m i = Behind n out₀ at end out m i
 
-abbrev decreases-loop : tie.decreases-loop
-decreases-loop out₀ at n end m₀ i₀ out m i = m
+abbrev decreases_loop : tie.decreases_loop
+decreases_loop out₀ at n end m₀ i₀ out m i = m
 
-width-requires : tie.Need-width-requires invariant-loop decreases-loop
-width-requires c κs = search rules
+width_requires : tie.Need-width-requires invariant_loop decreases_loop
+width_requires c κs = search rules
 
-add-end : tie.Need-overflow-add-end invariant-loop decreases-loop
-add-end c = omega arith
+add_end : tie.Need-overflow-add-end invariant_loop decreases_loop
+add_end c = omega arith
 
-loop-holds : tie.Need-loop-init invariant-loop decreases-loop
-loop-holds c =
+loop_holds : tie.Need-loop-init invariant_loop decreases_loop
+loop_holds c =
     let a = c.before.before.args in
-    behind-none a.n a.out.now a.at (a.at + c.width.result) (omega arith) (omega arith)
+    behind_none a.n a.out.now a.at (a.at + c.width.result) (omega arith) (omega arith)
 
-sub-i : tie.Need-overflow-sub-i invariant-loop decreases-loop
-sub-i c = omega (arith, digits-least c.before.loop.m)
+sub_i : tie.Need-overflow-sub-i invariant_loop decreases_loop
+sub_i c = omega (arith, digits_least c.before.loop.m)
 
-cast-d : tie.Need-overflow-cast-d invariant-loop decreases-loop
-cast-d c = search rules
+cast_d : tie.Need-overflow-cast-d invariant_loop decreases_loop
+cast_d c = search rules
 
-add-out : tie.Need-overflow-add-out invariant-loop decreases-loop
-add-out c = search rules
+add_out : tie.Need-overflow-add-out invariant_loop decreases_loop
+add_out c = search rules
 
-slice-write-out : tie.Need-slice-write-out invariant-loop decreases-loop
-slice-write-out c = omega (arith, digits-least c.before.loop.m)
+slice_write_out : tie.Need-slice-write-out invariant_loop decreases_loop
+slice_write_out c = omega (arith, digits_least c.before.loop.m)
 
-loop-less : tie.Need-loop-smaller invariant-loop decreases-loop
-loop-less c = omega arith
+loop_less : tie.Need-loop-smaller invariant_loop decreases_loop
+loop_less c = omega arith
 
-loop-again : tie.Need-loop-preserved invariant-loop decreases-loop
-loop-again c =
+loop_again : tie.Need-loop-preserved invariant_loop decreases_loop
+loop_again c =
     let v = c.before.loop in
-    behind_more v.invariant (v.i - 1) (omega (arith, digits-least v.m)) (omega arith)
+    behind_more v.invariant (v.i - 1) (omega (arith, digits_least v.m)) (omega arith)
 
-cast-d-2 : tie.Need-overflow-cast-d-2 invariant-loop decreases-loop
-cast-d-2 c = search rules
+cast_d_2 : tie.Need-overflow-cast-d-2 invariant_loop decreases_loop
+cast_d_2 c = search rules
 
-add-out-2 : tie.Need-overflow-add-out-2 invariant-loop decreases-loop
-add-out-2 c = search rules
+add_out_2 : tie.Need-overflow-add-out-2 invariant_loop decreases_loop
+add_out_2 c = search rules
 
-slice-write-out-2 : tie.Need-slice-write-out-2 invariant-loop decreases-loop
-slice-write-out-2 c = omega (arith, digits-least c.before.loop.m)
+slice_write_out_2 : tie.Need-slice-write-out-2 invariant_loop decreases_loop
+slice_write_out_2 c = omega (arith, digits_least c.before.loop.m)
 
-same_length : tie.Need-same-length invariant-loop decreases-loop
+same_length : tie.Need-same-length invariant_loop decreases_loop
 same_length c = search rules
 
-returns : tie.Need-returns invariant-loop decreases-loop
-returns c = behind-all c.before.loop.invariant (omega arith)
+returns : tie.Need-returns invariant_loop decreases_loop
+returns c = behind_all c.before.loop.invariant (omega arith)
 
-pub digits-spec : {M : Type 1} → statement M
-digits-spec =
+pub digits_spec : {M : Type 1} → statement M
+digits_spec =
     tie.close
     (tie.spec
-    invariant-loop
-    decreases-loop
-    width-requires
-    add-end
-    loop-holds
-    sub-i
-    cast-d
-    add-out
-    slice-write-out
-    loop-less
-    loop-again
-    cast-d-2
-    add-out-2
-    slice-write-out-2
+    invariant_loop
+    decreases_loop
+    width_requires
+    add_end
+    loop_holds
+    sub_i
+    cast_d
+    add_out
+    slice_write_out
+    loop_less
+    loop_again
+    cast_d_2
+    add_out_2
+    slice_write_out_2
     same_length
     returns)

@@ -3,7 +3,7 @@ use borrow.Author.Tests.{lt-ltb, le-ltb}
 use native.Mathlib.Omega.{arith}
 use native.Mathlib.Nat.{mul-le-mul}
 use Prim.Native.Nat.{◌*◌, ◌≤◌}
-use Rattle.run.specs.computed.Ending.{fallsShort}
+use Rattle.run.specs.computed.Ending.{falls_short}
 use Rattle.run.proofs.ending.falls_short.Statement.{statement}
 use Rattle.run.proofs.ending.falls_short.Tie as tie
 
@@ -14,18 +14,18 @@ product c =
     mul-le-mul few c.before.requires.0
 
 returns : tie.Need-returns
-unfolding fallsShort
+unfolding falls_short
 returns c = rw (le-ltb _ _ c.if1.true)
 
-mul-result : tie.Need-overflow-mul-result
-mul-result c = omega (arith, product c)
+mul_result : tie.Need-overflow-mul-result
+mul_result c = omega (arith, product c)
 
-add-result : tie.Need-overflow-add-result
-add-result c = omega (arith, product c, c.before.requires.1)
+add_result : tie.Need-overflow-add-result
+add_result c = omega (arith, product c, c.before.requires.1)
 
-returns-2 : tie.Need-returns-2
-unfolding fallsShort
-returns-2 c = rw (lt-ltb _ _ c.if1.false)
+returns_2 : tie.Need-returns-2
+unfolding falls_short
+returns_2 c = rw (lt-ltb _ _ c.if1.false)
 
-pub falls-short-spec : {M : Type 1} → statement M
-falls-short-spec = tie.close (tie.spec returns mul-result add-result returns-2)
+pub falls_short_spec : {M : Type 1} → statement M
+falls_short_spec = tie.close (tie.spec returns mul_result add_result returns_2)

@@ -2,48 +2,48 @@
 use mathlib.Core.Path.{sym, ap, ◌∙◌}
 use Prim.Native.Nat.{suc, min}
 use native.Mathlib.Omega.{arith}
-use Rattle.run.specs.laws.Cycles.{in-work, end-asks}
-use Rattle.run.specs.laws.Ending.{short-same, short-asks, short-few}
+use Rattle.run.specs.laws.Cycles.{in_work_lem, end_asks}
+use Rattle.run.specs.laws.Ending.{short_same, short_asks, short_few}
 use Rattle.run.proofs.ending.line_end.Statement.{statement}
 use Rattle.run.proofs.ending.line_end.Tie as tie
 
-sub-left : tie.Need-overflow-sub-left
-sub-left c = let w = in-work c.before.requires in omega (arith, w.some)
+sub_left : tie.Need-overflow-sub-left
+sub_left c = let w = in_work_lem c.before.requires in omega (arith, w.some)
 
-mul-due : tie.Need-overflow-mul-due
-mul-due c = let w = in-work c.before.requires in omega (arith, w.few)
+mul_due : tie.Need-overflow-mul-due
+mul_due c = let w = in_work_lem c.before.requires in omega (arith, w.few)
 
-mul-due-2 : tie.Need-overflow-mul-due-2
-mul-due-2 c = let e = end-asks c.before.requires in omega (arith, e.1)
+mul_due_2 : tie.Need-overflow-mul-due-2
+mul_due_2 c = let e = end_asks c.before.requires in omega (arith, e.1)
 
-mul-added : tie.Need-overflow-mul-added
-mul-added c = let e = end-asks c.before.before.requires in omega (arith, e.1)
+mul_added : tie.Need-overflow-mul-added
+mul_added c = let e = end_asks c.before.before.requires in omega (arith, e.1)
 
-falls-short-requires : tie.Need-falls-short-requires
-falls-short-requires c κs = short-asks c.before.before.requires
+falls_short_requires : tie.Need-falls-short-requires
+falls_short_requires c κs = short_asks c.before.before.requires
 
-add-result : tie.Need-overflow-add-result
-add-result c = omega (arith, short-few _ _ _ _ (sym c.before.falls-short.ensures ∙ c.if1.true))
+add_result : tie.Need-overflow-add-result
+add_result c = omega (arith, short_few _ _ _ _ (sym c.before.falls-short.ensures ∙ c.if1.true))
 
 returns : tie.Need-returns
-returns c = short-same c.before.before.before.before.requires _ _ (omega arith) (sym c.before.falls-short.ensures ∙ c.if1.true)
+returns c = short_same c.before.before.before.before.requires _ _ (omega arith) (sym c.before.falls-short.ensures ∙ c.if1.true)
 
-last-tick-requires : tie.Need-last-tick-requires
-last-tick-requires c κs = end-asks c.before.before.before.before.requires
+last_tick_requires : tie.Need-last-tick-requires
+last_tick_requires c κs = end_asks c.before.before.before.before.requires
 
-returns-2 : tie.Need-returns-2
-returns-2 c = record { same = ap (min (suc c.before.before.before.before.before.args.most)) c.last-tick.ensures }
+returns_2 : tie.Need-returns-2
+returns_2 c = record { same = ap (min (suc c.before.before.before.before.before.args.most)) c.last_tick.ensures }
 
-pub line-end-spec : {M : Type 1} → statement M
-line-end-spec =
+pub line_end_spec : {M : Type 1} → statement M
+line_end_spec =
     tie.close
     (tie.spec
-    sub-left
-    mul-due
-    mul-due-2
-    mul-added
-    falls-short-requires
-    add-result
+    sub_left
+    mul_due
+    mul_due_2
+    mul_added
+    falls_short_requires
+    add_result
     returns
-    last-tick-requires
-    returns-2)
+    last_tick_requires
+    returns_2)

@@ -3,27 +3,27 @@ use borrow.Author.Rules.{rules}
 use Rattle.run.proofs.gap.remainder_at.Statement.{statement}
 use Rattle.run.proofs.gap.remainder_at.Tie as tie
 use mathlib.Core.Path.{refl}
-use Rattle.run.specs.computed.Gap.{remainderAt}
+use Rattle.run.specs.computed.Gap.{remainder_at}
 
-add-result : tie.Need-overflow-add-result
-add-result c = search rules
+add_result : tie.Need-overflow-add-result
+add_result c = search rules
 
-add-result-2 : tie.Need-overflow-add-result-2
-add-result-2 c = search rules
+add_result_2 : tie.Need-overflow-add-result-2
+add_result_2 c = search rules
 
-sub-result : tie.Need-overflow-sub-result
-sub-result c = search rules
+sub_result : tie.Need-overflow-sub-result
+sub_result c = search rules
 
-mul-result : tie.Need-overflow-mul-result
-mul-result c = search rules
+mul_result : tie.Need-overflow-mul-result
+mul_result c = search rules
 
-sub-result-2 : tie.Need-overflow-sub-result-2
-sub-result-2 c = search rules
+sub_result_2 : tie.Need-overflow-sub-result-2
+sub_result_2 c = search rules
 
 returns : tie.Need-returns
-unfolding remainderAt
+unfolding remainder_at
 returns c = refl
 
-pub remainder-at-spec : {M : Type 1} → statement M
-remainder-at-spec =
-    tie.close (tie.spec add-result add-result-2 sub-result mul-result sub-result-2 returns)
+pub remainder_at_spec : {M : Type 1} → statement M
+remainder_at_spec =
+    tie.close (tie.spec add_result add_result_2 sub_result mul_result sub_result_2 returns)

@@ -1,41 +1,41 @@
 -- `line_on` is right because a line's cycles have one due, and its point so many cycles on has a closed form.
 use native.Mathlib.Omega.{arith}
-use Rattle.line.specs.laws.Cycles.{cycles-bound}
+use Rattle.line.specs.laws.Cycles.{cycles_bound}
 use Rattle.line.specs.laws.Work.{drawn}
-use Rattle.work.specs.laws.Rest.{lineOn}
-use Rattle.run.specs.laws.Cycles.{in-work}
-use Rattle.run.specs.laws.Skip.{line-on-asks, line-on-drawn, line-on-ran}
+use Rattle.work.specs.laws.Rest.{line_on}
+use Rattle.run.specs.laws.Cycles.{in_work_lem}
+use Rattle.run.specs.laws.Skip.{line_on_asks, line_on_drawn, line_on_ran}
 use Rattle.run.proofs.skip.line_on.Statement.{statement}
 use Rattle.run.proofs.skip.line_on.Tie as tie
 
-mul-add-feeds : tie.Need-overflow-mul-add-feeds
-mul-add-feeds c = omega (arith, c.requires.0.capacity)
+mul_add_feeds : tie.Need-overflow-mul-add-feeds
+mul_add_feeds c = omega (arith, c.requires.0.capacity)
 
-mul-add-feeds-2 : tie.Need-overflow-mul-add-feeds-2
-mul-add-feeds-2 c = let i = c.before.requires.0 in omega (arith, i.capacity, (in-work i).feed.most)
+mul_add_feeds_2 : tie.Need-overflow-mul-add-feeds-2
+mul_add_feeds_2 c = let i = c.before.requires.0 in omega (arith, i.capacity, (in_work_lem i).feed.most)
 
-add-feeds-requires : tie.Need-add-feeds-requires
-add-feeds-requires c κs = let s = c.before in line-on-asks s.args.l s.requires.0 s.args.ticks s.requires.1
+add_feeds_requires : tie.Need-add-feeds-requires
+add_feeds_requires c κs = let s = c.before in line_on_asks s.args.l s.requires.0 s.args.ticks s.requires.1
 
-add-line : tie.Need-overflow-add-line
-add-line c =
+add_line : tie.Need-overflow-add-line
+add_line c =
     let s = c.before.before.before.before in
     let g = c.before.before.add-feeds in
     let l = s.args.l in
-    let w = drawn {l = lineOn l g.result.cycles} (line-on-drawn l s.requires.0 s.args.ticks s.requires.1 g.ensures) in
-    omega (arith, w.due, w.own, cycles-bound l.start l.end w.short-x w.short-y)
+    let w = drawn {l = line_on l g.result.cycles} (line_on_drawn l s.requires.0 s.args.ticks s.requires.1 g.ensures) in
+    omega (arith, w.due, w.own, cycles_bound l.start l.end w.short_x w.short_y)
 
-point-requires : tie.Need-point-requires
-point-requires c κs =
+point_requires : tie.Need-point-requires
+point_requires c κs =
     let s = c.before.before.before.before in
-    line-on-drawn s.args.l s.requires.0 s.args.ticks s.requires.1 c.before.before.add-feeds.ensures
+    line_on_drawn s.args.l s.requires.0 s.args.ticks s.requires.1 c.before.before.add-feeds.ensures
 
 returns : tie.Need-returns
 returns c =
     let s = c.before.before.before.before.before in
     rw c.point.ensures
-    (line-on-ran s.args.l s.requires.0 s.args.ticks s.requires.1 c.before.before.before.add-feeds.ensures)
+    (line_on_ran s.args.l s.requires.0 s.args.ticks s.requires.1 c.before.before.before.add-feeds.ensures)
 
-pub line-on-spec : {M : Type 1} → statement M
-line-on-spec =
-    tie.close (tie.spec mul-add-feeds mul-add-feeds-2 add-feeds-requires add-line point-requires returns)
+pub line_on_spec : {M : Type 1} → statement M
+line_on_spec =
+    tie.close (tie.spec mul_add_feeds mul_add_feeds_2 add_feeds_requires add_line point_requires returns)

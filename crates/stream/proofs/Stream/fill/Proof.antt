@@ -6,69 +6,69 @@ use mathlib.Core.Path.{refl, ap}
 use native.Mathlib.Omega.{arith}
 use borrow.Author.Tests.{not-true, not-false}
 use lib.ListN.{length}
-use Rattle.stream.specs.computed.Stream.{linesLeft}
-use Rattle.stream.specs.laws.Fill.{Reading, fill_none, fill-over, fill-some, read-on}
+use Rattle.stream.specs.computed.Stream.{lines_left}
+use Rattle.stream.specs.laws.Fill.{Reading, fill_none, fill_over, fill_some, read_on_lem}
 
-abbrev invariant-loop : tie.invariant-loop
-invariant-loop text out₀ stream₀ out stream = Reading stream₀ text out₀ out stream
+abbrev invariant_loop : tie.invariant_loop
+invariant_loop text out₀ stream₀ out stream = Reading stream₀ text out₀ out stream
 
-abbrev decreases-loop : tie.decreases-loop
-decreases-loop text out₀ stream₀ out stream = linesLeft stream (length text)
+abbrev decreases_loop : tie.decreases_loop
+decreases_loop text out₀ stream₀ out stream = lines_left stream (length text)
 
-returns : tie.Need-returns invariant-loop decreases-loop
+returns : tie.Need-returns invariant_loop decreases_loop
 returns c = fill_none c.before.before.before.args.self _ _ c.if1.true
 
-loop-holds : tie.Need-loop-init invariant-loop decreases-loop
-loop-holds c = record { rest = refl; same = refl; room = omega (arith, c.if1.false) }
+loop_holds : tie.Need-loop-init invariant_loop decreases_loop
+loop_holds c = record { rest = refl; same = refl; room = omega (arith, c.if1.false) }
 
-run-requires : tie.Need-run-requires invariant-loop decreases-loop
-run-requires c κs = tt
+run_requires : tie.Need-run-requires invariant_loop decreases_loop
+run_requires c κs = tt
 
-at-machine-requires : tie.Need-at-machine-requires invariant-loop decreases-loop
-at-machine-requires c κs = tt
+at_machine_requires : tie.Need-at-machine-requires invariant_loop decreases_loop
+at_machine_requires c κs = tt
 
-same_length : tie.Need-same-length invariant-loop decreases-loop
+same_length : tie.Need-same-length invariant_loop decreases_loop
 same_length c = search rules
 
-returns-2 : tie.Need-returns-2 invariant-loop decreases-loop
-returns-2 c = let turn = c.before.before.before.before.before.before.before.before.before.before.before in
+returns_2 : tie.Need-returns-2 invariant_loop decreases_loop
+returns_2 c = let turn = c.before.before.before.before.before.before.before.before.before.before.before in
     let ran = c.before.before.before.before.before.before.run.ensures in
-    rw c.at-machine.ensures (fill-some turn.loop.invariant
+    rw c.at-machine.ensures (fill_some turn.loop.invariant
     (not-true _ c.before.before.before.before.before.before.before.before.before.if2.true) ran.0 ran.1
     c.before.before.if3.true)
 
-next-line-requires : tie.Need-next-line-requires invariant-loop decreases-loop
-next-line-requires c κs = not-true _ c.before.before.before.before.before.before.before.if2.true
+next_line_requires : tie.Need-next-line-requires invariant_loop decreases_loop
+next_line_requires c κs = not-true _ c.before.before.before.before.before.before.before.if2.true
 
-loop-less : tie.Need-loop-smaller invariant-loop decreases-loop
-loop-less c = c.next-line.ensures.fewer
+loop_less : tie.Need-loop-smaller invariant_loop decreases_loop
+loop_less c = c.next_line.ensures.fewer
 
-loop-again : tie.Need-loop-preserved invariant-loop decreases-loop
-loop-again c = let turn = c.before.before.before.before.before.before.before.before.before.before in
+loop_again : tie.Need-loop-preserved invariant_loop decreases_loop
+loop_again c = let turn = c.before.before.before.before.before.before.before.before.before.before in
     let ran = c.before.before.before.before.before.run.ensures in
-    read-on turn.loop.invariant (not-true _ c.before.before.before.before.before.before.before.before.if2.true) ran.0
-    ran.1 c.before.if3.false c.next-line.ensures
+    read_on_lem turn.loop.invariant (not-true _ c.before.before.before.before.before.before.before.before.if2.true) ran.0
+    ran.1 c.before.if3.false c.next_line.ensures
 
-same-length-2 : tie.Need-same-length-2 invariant-loop decreases-loop
-same-length-2 c = ap length c.before.before.loop.invariant.same
+same_length_2 : tie.Need-same-length-2 invariant_loop decreases_loop
+same_length_2 c = ap length c.before.before.loop.invariant.same
 
-returns-3 : tie.Need-returns-3 invariant-loop decreases-loop
-returns-3 c = fill-over c.before.before.loop.invariant (not-false _ c.if2.false)
+returns_3 : tie.Need-returns-3 invariant_loop decreases_loop
+returns_3 c = fill_over c.before.before.loop.invariant (not-false _ c.if2.false)
 
 pub fill_spec : {M : Type 1} → statement M
 fill_spec =
     tie.close
     (tie.spec
-    invariant-loop
-    decreases-loop
+    invariant_loop
+    decreases_loop
     returns
-    loop-holds
-    run-requires
-    at-machine-requires
+    loop_holds
+    run_requires
+    at_machine_requires
     same_length
-    returns-2
-    next-line-requires
-    loop-less
-    loop-again
-    same-length-2
-    returns-3)
+    returns_2
+    next_line_requires
+    loop_less
+    loop_again
+    same_length_2
+    returns_3)

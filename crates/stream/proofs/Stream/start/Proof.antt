@@ -2,14 +2,14 @@
 use Rattle.stream.proofs.Stream.start.Statement.{statement}
 use Rattle.stream.proofs.Stream.start.Tie as tie
 use borrow.Author.Rules.{rules}
-use Rattle.stream.specs.computed.Stream.{streamFrom}
+use Rattle.stream.specs.computed.Stream.{stream_from}
 
-start-requires : tie.Need-start-requires
-start-requires c κs = search rules
+start_requires : tie.Need-start-requires
+start_requires c κs = search rules
 
 returns : tie.Need-returns
-unfolding streamFrom
+unfolding stream_from
 returns c = rw c.start.ensures
 
 pub start_spec : {M : Type 1} → statement M
-start_spec = tie.close (tie.spec start-requires returns)
+start_spec = tie.close (tie.spec start_requires returns)

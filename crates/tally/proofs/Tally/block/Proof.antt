@@ -12,16 +12,16 @@ use mathlib.Core.List.{List}
 use Prim.Native.Nat.{ℕ}
 use lib.ListN.{length}
 use Rattle.row.specs.Lines.{block_line}
-use Rattle.row.specs.computed.Buffer.{lineRoom, bufferAfter, placeAfter}
-use Rattle.row.specs.laws.Buffer.{block-short}
-use Rattle.finish.specs.laws.Record.{cycles-most, ticks-most}
-use Rattle.tally.specs.computed.Tally.{blockListed}
+use Rattle.row.specs.computed.Buffer.{line_room, buffer_after, place_after}
+use Rattle.row.specs.laws.Buffer.{block_short}
+use Rattle.finish.specs.laws.Record.{cycles_most, ticks_most}
+use Rattle.tally.specs.computed.Tally.{block_listed}
 use Rattle.tally.specs.laws.Counts.{Room, room}
 use Rattle.tally.specs.laws.Read.{written, goes_on}
 
 -- the totals have room for the block
-has_room : (c : tie.After-finish) → Room c.before.before.args.self c.finish.result.cycles c.finish.result.ticks
-has_room c = rw c.finish.ensures (room _ _ _ c.before.before.requires.0 (cycles-most _) (ticks-most _))
+has_room_lem : (c : tie.After-finish) → Room c.before.before.args.self c.finish.result.cycles c.finish.result.ticks
+has_room_lem c = rw c.finish.ensures (room _ _ _ c.before.before.requires.0 (cycles_most _) (ticks_most _))
 
 -- from after the row's writing: the block's finish, and the start
 abbrev finished : tie.After-block → tie.After-finish
@@ -38,60 +38,60 @@ line c =
     block_line (s.self.blocks + 1) (s.self.lines + 1) c.before.before.before.kind-of.result f.cycles f.bench.at.x
     f.bench.at.y s.bits
 
-line-short : (c : tie.After-block) → length (line c) ≤ lineRoom
-line-short c =
+line_short : (c : tie.After-block) → length (line c) ≤ line_room
+line_short c =
     let s = (start c).args in
     let f = (finished c).finish.result in
-    block-short (s.self.blocks + 1) (s.self.lines + 1) c.before.before.before.kind-of.result f.cycles f.bench.at.x
+    block_short (s.self.blocks + 1) (s.self.lines + 1) c.before.before.before.kind-of.result f.cycles f.bench.at.x
     f.bench.at.y s.bits
-    (omega (arith, (has_room (finished c)).blocks))
-    (omega (arith, (has_room (finished c)).lines))
-    (omega (arith, (has_room (finished c)).cycles)) (search rules)
+    (omega (arith, (has_room_lem (finished c)).blocks))
+    (omega (arith, (has_room_lem (finished c)).lines))
+    (omega (arith, (has_room_lem (finished c)).cycles)) (search rules)
     (search rules) (search rules)
 
-buffer-is : (c : tie.After-block)
-    → c.block.new.0 ≡ bufferAfter (line c) (start c).args.out.now (start c).args.at
-buffer-is c =
+buffer_is : (c : tie.After-block)
+    → c.block.new.0 ≡ buffer_after (line c) (start c).args.out.now (start c).args.at
+buffer_is c =
     let x : SFits w64 (finished c).finish.result.bench.at.x = search rules in
     let y : SFits w64 (finished c).finish.result.bench.at.y = search rules in
     simp to_z-of_z at c.block.ensures.0
 
 place_is : (c : tie.After-block)
-    → c.block.result ≡ placeAfter (line c) (start c).args.out.now (start c).args.at
+    → c.block.result ≡ place_after (line c) (start c).args.out.now (start c).args.at
 place_is c =
     let x : SFits w64 (finished c).finish.result.bench.at.x = search rules in
     let y : SFits w64 (finished c).finish.result.bench.at.y = search rules in
     simp to_z-of_z at c.block.ensures.1
 
-finish-requires : tie.Need-finish-requires
-finish-requires c κs = search rules
+finish_requires : tie.Need-finish-requires
+finish_requires c κs = search rules
 
-add-lines : tie.Need-overflow-add-lines
-add-lines c = omega (arith, (has_room c.before.before.before).lines)
+add_lines : tie.Need-overflow-add-lines
+add_lines c = omega (arith, (has_room_lem c.before.before.before).lines)
 
-add-blocks : tie.Need-overflow-add-blocks
-add-blocks c = omega (arith, (has_room c.before.before.before.before).blocks)
+add_blocks : tie.Need-overflow-add-blocks
+add_blocks c = omega (arith, (has_room_lem c.before.before.before.before).blocks)
 
-kind-of-requires : tie.Need-kind-of-requires
-kind-of-requires c κs = search rules
+kind_of_requires : tie.Need-kind-of-requires
+kind_of_requires c κs = search rules
 
-block-requires : tie.Need-block-requires
-block-requires c κs = search rules
+block_requires : tie.Need-block-requires
+block_requires c κs = search rules
 
-plus-requires : tie.Need-plus-requires
-plus-requires c κs = let r = has_room (finished c.before.before.before) in (r.low, r.few, r.high)
+plus_requires : tie.Need-plus-requires
+plus_requires c κs = let r = has_room_lem (finished c.before.before.before) in (r.low, r.few, r.high)
 
-add-t21 : tie.Need-overflow-add-t21
-add-t21 c = omega (arith, (has_room (finished c.before.before.before.before.before.before)).cycles)
+add_t21 : tie.Need-overflow-add-t21
+add_t21 c = omega (arith, (has_room_lem (finished c.before.before.before.before.before.before)).cycles)
 
-next-place-requires : tie.Need-next-place-requires
-next-place-requires c κs = search rules
+next_place_requires : tie.Need-next-place-requires
+next_place_requires c κs = search rules
 
 same_length : tie.Need-same-length
 same_length c = search rules
 
 returns : tie.Need-returns
-unfolding blockListed
+unfolding block_listed
 returns c =
     let b = c.before.before.before.before.before.before.before in
     let s = start b in
@@ -99,9 +99,9 @@ returns c =
       rw (← (finished b).finish.ensures)
           (record {
             short = rw (← b.before.before.before.kind-of.ensures)
-                (line-short b);
+                (line_short b);
             buffer = rw (← b.before.before.before.kind-of.ensures)
-                (buffer-is b ∙ written (line b) s.args.out.now s.args.at room);
+                (buffer_is b ∙ written (line b) s.args.out.now s.args.at room);
             next = rw (← b.before.before.before.kind-of.ensures)
                 (c.next_place.ensures ∙ goes_on (line b) s.args.out.now s.args.at room (place_is b));
             over = refl;
@@ -114,13 +114,13 @@ pub block_spec : {M : Type 1} → statement M
 block_spec =
     tie.close
     (tie.spec
-    finish-requires
-    add-lines
-    add-blocks
-    kind-of-requires
-    block-requires
-    plus-requires
-    add-t21
-    next-place-requires
+    finish_requires
+    add_lines
+    add_blocks
+    kind_of_requires
+    block_requires
+    plus_requires
+    add_t21
+    next_place_requires
     same_length
     returns)

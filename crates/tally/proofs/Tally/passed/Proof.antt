@@ -5,11 +5,11 @@ use borrow.Author.Rules.{rules}
 use Rattle.tally.proofs.Tally.passed.Statement.{statement}
 use Rattle.tally.proofs.Tally.passed.Tie as tie
 
-add-t8 : tie.Need-overflow-add-t8
-add-t8 c = omega (arith, (counts _ c.before.before.requires).lines)
+add_t8 : tie.Need-overflow-add-t8
+add_t8 c = omega (arith, (counts _ c.before.before.requires).lines)
 
 returns : tie.Need-returns
 returns c = search rules
 
-pub passed-spec : {M : Type 1} → statement M
-passed-spec = tie.close (tie.spec add-t8 returns)
+pub passed_spec : {M : Type 1} → statement M
+passed_spec = tie.close (tie.spec add_t8 returns)

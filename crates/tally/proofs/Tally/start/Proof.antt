@@ -2,17 +2,17 @@
 use Rattle.tally.proofs.Tally.start.Statement.{statement}
 use Rattle.tally.proofs.Tally.start.Tie as tie
 use borrow.Author.Rules.{rules}
-use Rattle.tally.specs.computed.Tally.{tallyFrom}
+use Rattle.tally.specs.computed.Tally.{tally_from}
 
-start-requires : tie.Need-start-requires
-start-requires c κs = search rules
+start_requires : tie.Need-start-requires
+start_requires c κs = search rules
 
-zero-requires : tie.Need-zero-requires
-zero-requires c κs = search rules
+zero_requires : tie.Need-zero-requires
+zero_requires c κs = search rules
 
 returns : tie.Need-returns
-unfolding tallyFrom
+unfolding tally_from
 returns c = rw (c.before.start.ensures, c.zero.ensures)
 
 pub start_spec : {M : Type 1} → statement M
-start_spec = tie.close (tie.spec start-requires zero-requires returns)
+start_spec = tie.close (tie.spec start_requires zero_requires returns)

@@ -2,10 +2,10 @@
 use borrow.Author.Rules.{rules}
 use Rattle.tally.proofs.Tally.total.Statement.{statement}
 use Rattle.tally.proofs.Tally.total.Tie as tie
-use Rattle.row.specs.laws.Buffer.{total-short}
+use Rattle.row.specs.laws.Buffer.{total_short}
 
-total-requires : tie.Need-total-requires
-total-requires c κs = search rules
+total_requires : tie.Need-total-requires
+total_requires c κs = search rules
 
 same_length : tie.Need-same-length
 same_length c = search rules
@@ -13,7 +13,7 @@ same_length c = search rules
 returns : tie.Need-returns
 returns c =
     let w = c.before.before.total.ensures in
-    (w.0, (w.1, total-short _ _ _ (search rules) (search rules) (search rules) (search rules)))
+    (w.0, (w.1, total_short _ _ _ (search rules) (search rules) (search rules) (search rules)))
 
-pub total-spec : {M : Type 1} → statement M
-total-spec = tie.close (tie.spec total-requires same_length returns)
+pub total_spec : {M : Type 1} → statement M
+total_spec = tie.close (tie.spec total_requires same_length returns)

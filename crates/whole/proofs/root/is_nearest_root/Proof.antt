@@ -6,38 +6,38 @@ use native.Mathlib.Nat.{pos_of_ne-zero, mul-le-mul}
 use native.Mathlib.Omega.{arith}
 use borrow.Author.Tests.{ne_eqb}
 use lib.Dec.{eqb}
-use Rattle.whole.specs.Root.{nearestRoot}
-use Rattle.whole.specs.laws.Root.{nearest-least, nearest-test-zero, nearest-test-low, nearest-test}
+use Rattle.whole.specs.Root.{nearest_root}
+use Rattle.whole.specs.laws.Root.{nearest_least, nearest_test_zero, nearest_test_low, nearest_test}
 use Rattle.whole.specs.laws.Squares.{square_le}
 use Rattle.whole.proofs.root.is_nearest_root.Statement.{statement}
 use Rattle.whole.proofs.root.is_nearest_root.Tie as tie
 
 returns : tie.Need-returns
-returns c = let n = c.before.args.n in nearest-test-zero n ∙ ap (λ (r : ℕ). eqb r (nearestRoot n)) (sym c.if1.true)
+returns c = let n = c.before.args.n in nearest_test_zero n ∙ ap (λ (r : ℕ). eqb r (nearest_root n)) (sym c.if1.true)
 
-returns-2 : tie.Need-returns-2
-returns-2 c =
+returns_2 : tie.Need-returns-2
+returns_2 c =
     let s = c.before.before in
-    let bound : nearestRoot s.args.n ≤ 4194304 = nearest-least s.args.n 4194304 (omega (arith, s.requires)) in
-    sym (ne_eqb s.args.r (nearestRoot s.args.n) (λ e. omega arith))
+    let bound : nearest_root s.args.n ≤ 4194304 = nearest_least s.args.n 4194304 (omega (arith, s.requires)) in
+    sym (ne_eqb s.args.r (nearest_root s.args.n) (λ e. omega arith))
 
-mul-square : tie.Need-overflow-mul-square
-mul-square c = omega (arith, square_le {m = c.before.before.args.r} {n = 4194304} (omega arith))
+mul_square : tie.Need-overflow-mul-square
+mul_square c = omega (arith, square_le {m = c.before.before.args.r} {n = 4194304} (omega arith))
 
 -- r is at most its square
-sub-if3 : tie.Need-overflow-sub-if3
-sub-if3 c =
+sub_if3 : tie.Need-overflow-sub-if3
+sub_if3 c =
     let r = c.before.before.args.r in
     omega (arith, mul-le-mul {n₁ = 1} {m₁ = r} {n₂ = r} {m₂ = r} (pos_of_ne-zero c.before.if1.false) (omega arith))
 
-returns-3 : tie.Need-returns-3
-returns-3 c = sym (nearest-test-low _ _ (pos_of_ne-zero c.before.before.if1.false) (omega (arith, c.if3.true)))
+returns_3 : tie.Need-returns-3
+returns_3 c = sym (nearest_test_low _ _ (pos_of_ne-zero c.before.before.if1.false) (omega (arith, c.if3.true)))
 
-add-result : tie.Need-overflow-add-result
-add-result c = search rules
+add_result : tie.Need-overflow-add-result
+add_result c = search rules
 
-returns-4 : tie.Need-returns-4
-returns-4 c = nearest-test _ _ (pos_of_ne-zero c.before.before.if1.false) (omega (arith, c.if3.false))
+returns_4 : tie.Need-returns-4
+returns_4 c = nearest_test _ _ (pos_of_ne-zero c.before.before.if1.false) (omega (arith, c.if3.false))
 
-pub is-nearest-root-spec : {M : Type 1} → statement M
-is-nearest-root-spec = tie.close (tie.spec returns returns-2 mul-square sub-if3 returns-3 add-result returns-4)
+pub is_nearest_root_spec : {M : Type 1} → statement M
+is_nearest_root_spec = tie.close (tie.spec returns returns_2 mul_square sub_if3 returns_3 add_result returns_4)

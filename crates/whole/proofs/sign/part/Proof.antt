@@ -4,46 +4,46 @@ use lib.IntN.{pos, negsuc, ◌-ℤ◌}
 use mir.Syntax.{w64}
 use mir.Val.{SFits}
 use mir.Facts.{to_z-of_z, sfits_lit}
-use Rattle.whole.specs.laws.Order.{◌≼◌, ◌≺◌, test-le, test-not-le, to-unsigned, range}
-use Rattle.whole.specs.laws.Sign.{short, short-up, short-fits, part-below, part-above}
+use Rattle.whole.specs.laws.Order.{◌≼◌, ◌≺◌, test_le, test_not_le, to_unsigned, range}
+use Rattle.whole.specs.laws.Sign.{short, short_up, short_fits, part_below, part_above}
 use Rattle.whole.proofs.sign.part.Statement.{statement}
 use Rattle.whole.proofs.sign.part.Tie as tie
 
-not-below : (c : tie.Then1) → pos 0 ≼ c.before.args.x
-not-below c = test-le (pos 0) c.before.args.x (sfits_lit tt) c.before.ranges.x c.if1.true
+not_below : (c : tie.Then1) → pos 0 ≼ c.before.args.x
+not_below c = test_le (pos 0) c.before.args.x (sfits_lit tt) c.before.ranges.x c.if1.true
 
-below-zero : (c : tie.Else1) → c.before.args.x ≺ pos 0
-below-zero c = test-not-le (pos 0) c.before.args.x (sfits_lit tt) c.before.ranges.x c.if1.false
+below_zero : (c : tie.Else1) → c.before.args.x ≺ pos 0
+below_zero c = test_not_le (pos 0) c.before.args.x (sfits_lit tt) c.before.ranges.x c.if1.false
 
-one-short : (c : tie.Else1) → SFits w64 (negsuc 0 -ℤ c.before.args.x)
-one-short c = short-fits c.before.args.x (below-zero c) c.before.ranges.x
+one_short : (c : tie.Else1) → SFits w64 (negsuc 0 -ℤ c.before.args.x)
+one_short c = short_fits c.before.args.x (below_zero c) c.before.ranges.x
 
-cast-t3 : tie.Need-overflow-cast-t3
-cast-t3 c = let f = c.before.ranges.x in simp to_z-of_z (to-unsigned _ (not-below c) f)
+cast_t3 : tie.Need-overflow-cast-t3
+cast_t3 c = let f = c.before.ranges.x in simp to_z-of_z (to_unsigned _ (not_below c) f)
 
 returns : tie.Need-returns
-returns c = let f = c.before.ranges.x in simp to_z-of_z (part-above c.before.args.x (not-below c))
+returns c = let f = c.before.ranges.x in simp to_z-of_z (part_above c.before.args.x (not_below c))
 
-sub-t4 : tie.Need-overflow-sub-t4
-sub-t4 c = let f = c.before.ranges.x in simp to_z-of_z (one-short c)
+sub_t4 : tie.Need-overflow-sub-t4
+sub_t4 c = let f = c.before.ranges.x in simp to_z-of_z (one_short c)
 
-cast-t5 : tie.Need-overflow-cast-t5
-cast-t5 c =
+cast_t5 : tie.Need-overflow-cast-t5
+cast_t5 c =
     let f = c.before.ranges.x in
-    let g = one-short c in
-    simp to_z-of_z (to-unsigned _ (short-up c.before.args.x (below-zero c)) g)
+    let g = one_short c in
+    simp to_z-of_z (to_unsigned _ (short_up c.before.args.x (below_zero c)) g)
 
-add-t6 : tie.Need-overflow-add-t6
-add-t6 c =
+add_t6 : tie.Need-overflow-add-t6
+add_t6 c =
     let f = c.before.ranges.x in
-    let g = one-short c in
-    simp to_z-of_z (omega (arith, short c.before.args.x (below-zero c), range c.before.args.x f))
+    let g = one_short c in
+    simp to_z-of_z (omega (arith, short c.before.args.x (below_zero c), range c.before.args.x f))
 
-returns-2 : tie.Need-returns-2
-returns-2 c =
+returns_2 : tie.Need-returns-2
+returns_2 c =
     let f = c.before.ranges.x in
-    let g = one-short c in
-    simp to_z-of_z (part-below c.before.args.x (below-zero c))
+    let g = one_short c in
+    simp to_z-of_z (part_below c.before.args.x (below_zero c))
 
-pub part-spec : {M : Type 1} → statement M
-part-spec = tie.close (tie.spec cast-t3 returns sub-t4 cast-t5 add-t6 returns-2)
+pub part_spec : {M : Type 1} → statement M
+part_spec = tie.close (tie.spec cast_t3 returns sub_t4 cast_t5 add_t6 returns_2)

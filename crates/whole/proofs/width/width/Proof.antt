@@ -1,18 +1,18 @@
 -- `width` is right because a number's width and its leading zeros make up the word.
 use native.Mathlib.Omega.{arith}
 use lib.Count.{leading_le}
-use Rattle.whole.specs.laws.Width.{width-by-zeros}
+use Rattle.whole.specs.laws.Width.{width_by_zeros}
 use Rattle.whole.proofs.width.width.Statement.{statement}
 use Rattle.whole.proofs.width.width.Tie as tie
 
-cast-result : tie.Need-overflow-cast-result
-cast-result c = omega (arith, leading_le 64 c.args.n)
+cast_result : tie.Need-overflow-cast-result
+cast_result c = omega (arith, leading_le 64 c.args.n)
 
-sub-result : tie.Need-overflow-sub-result
-sub-result c = omega (arith, leading_le 64 c.args.n)
+sub_result : tie.Need-overflow-sub-result
+sub_result c = omega (arith, leading_le 64 c.args.n)
 
 returns : tie.Need-returns
-returns c = width-by-zeros 64 c.args.n c.ranges.n.fits
+returns c = width_by_zeros 64 c.args.n c.ranges.n.fits
 
 pub width_spec : {M : Type 1} → statement M
-width_spec = tie.close (tie.spec cast-result sub-result returns)
+width_spec = tie.close (tie.spec cast_result sub_result returns)

@@ -7,14 +7,14 @@ use Rattle.words.proofs.number.place.Tie as tie
 returns : tie.Need-returns
 returns c = rw c.match.keys1
 
-returns-2 : tie.Need-returns-2
-returns-2 c = rw c.match.keys2
+returns_2 : tie.Need-returns-2
+returns_2 c = rw c.match.keys2
 
-returns-3 : tie.Need-returns-3
-returns-3 c = rw c.match.keys3
+returns_3 : tie.Need-returns-3
+returns_3 c = rw c.match.keys3
 
-returns-4 : tie.Need-returns-4
-returns-4 c = let e : c.before.args.count ≡ 3 = omega arith in rw e
+returns_4 : tie.Need-returns-4
+returns_4 c = let e : c.before.args.count ≡ 3 = omega arith in rw e
 
-pub place-spec : {M : Type 1} → statement M
-place-spec = tie.close (tie.spec returns returns-2 returns-3 returns-4)
+pub place_spec : {M : Type 1} → statement M
+place_spec = tie.close (tie.spec returns returns_2 returns_3 returns_4)

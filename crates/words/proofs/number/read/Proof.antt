@@ -4,23 +4,23 @@ use borrow.Author.Rules.{rules}
 use Rattle.words.proofs.number.read.Statement.{statement}
 use Rattle.words.proofs.number.read.Tie as tie
 
-takes-sign-requires : tie.Need-takes-sign-requires
-takes-sign-requires c κs = search rules
+takes_sign_requires : tie.Need-takes-sign-requires
+takes_sign_requires c κs = search rules
 
-read-sign-requires : tie.Need-read-sign-requires
-read-sign-requires c κs = search rules
+read_sign_requires : tie.Need-read-sign-requires
+read_sign_requires c κs = search rules
 
-add-read-amount : tie.Need-overflow-add-read-amount
-add-read-amount c = search rules
+add_read_amount : tie.Need-overflow-add-read-amount
+add_read_amount c = search rules
 
-takes-point-requires : tie.Need-takes-point-requires
-takes-point-requires c κs = search rules
+takes_point_requires : tie.Need-takes-point-requires
+takes_point_requires c κs = search rules
 
-read-amount-requires : tie.Need-read-amount-requires
-read-amount-requires c κs = search rules
+read_amount_requires : tie.Need-read-amount-requires
+read_amount_requires c κs = search rules
 
-add-t7 : tie.Need-overflow-add-t7
-add-t7 c = search rules
+add_t7 : tie.Need-overflow-add-t7
+add_t7 c = search rules
 
 returns : tie.Need-returns
 returns c =
@@ -35,10 +35,10 @@ pub read_spec : {M : Type 1} → statement M
 read_spec =
     tie.close
     (tie.spec
-    takes-sign-requires
-    read-sign-requires
-    add-read-amount
-    takes-point-requires
-    read-amount-requires
-    add-t7
+    takes_sign_requires
+    read_sign_requires
+    add_read_amount
+    takes_point_requires
+    read_amount_requires
+    add_t7
     returns)

@@ -7,42 +7,42 @@ use Rattle.work.proofs.rest.work_left.Tie as tie
 enum_told : tie.Need-enum-told
 enum_told c = search rules
 
-enum-known-work : tie.Need-enum-known-work
-enum-known-work c = search rules
+enum_known_work : tie.Need-enum-known-work
+enum_known_work c = search rules
 
-sub-cycles : tie.Need-overflow-sub-cycles
-sub-cycles c = let p = rw c.before.before.before.work.given.1 at c.before.before.before.before.before.requires in p.0
+sub_cycles : tie.Need-overflow-sub-cycles
+sub_cycles c = let p = rw c.before.before.before.work.given.1 at c.before.before.before.before.before.requires in p.0
 
-mul-t10 : tie.Need-overflow-mul-t10
-mul-t10 c =
+mul_t10 : tie.Need-overflow-mul-t10
+mul_t10 c =
     let p = rw c.before.before.before.work.given.1 at c.before.before.before.before.before.requires in
     omega (arith, p.1)
 
-enum-known-work-2 : tie.Need-enum-known-work-2
-enum-known-work-2 c = search rules
+enum_known_work_2 : tie.Need-enum-known-work-2
+enum_known_work_2 c = search rules
 
-span-requires : tie.Need-span-requires
-span-requires c κs = rw c.before.before.work2.given.1 at c.before.before.before.before.requires
+span_requires : tie.Need-span-requires
+span_requires c κs = rw c.before.before.work2.given.1 at c.before.before.before.before.requires
 
 returns : tie.Need-returns
 returns c = rw c.enum_told.given.1
 
-returns-2 : tie.Need-returns-2
-returns-2 c = rw c.before.before.before.work.given.1
+returns_2 : tie.Need-returns-2
+returns_2 c = rw c.before.before.before.work.given.1
 
-returns-3 : tie.Need-returns-3
-returns-3 c = rw (c.before.before.before.work2.given.1, c.span.ensures)
+returns_3 : tie.Need-returns-3
+returns_3 c = rw (c.before.before.before.work2.given.1, c.span.ensures)
 
-pub work-left-spec : {M : Type 1} → statement M
-work-left-spec =
+pub work_left_spec : {M : Type 1} → statement M
+work_left_spec =
     tie.close
     (tie.spec
     enum_told
-    enum-known-work
-    sub-cycles
-    mul-t10
-    enum-known-work-2
-    span-requires
+    enum_known_work
+    sub_cycles
+    mul_t10
+    enum_known_work_2
+    span_requires
     returns
-    returns-2
-    returns-3)
+    returns_2
+    returns_3)

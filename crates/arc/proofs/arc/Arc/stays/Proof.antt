@@ -2,31 +2,31 @@
 use borrow.Author.Rules.{rules}
 use mathlib.Core.Path.{◌∙◌}
 use Rattle.plane.specs.laws.Travel.{inside}
-use Rattle.arc.specs.laws.Arc.{stays-visits}
+use Rattle.arc.specs.laws.Arc.{stays_visits}
 use Rattle.arc.proofs.arc.Arc.stays.Statement.{statement}
 use Rattle.arc.proofs.arc.Arc.stays.Tie as tie
 
-room-requires : tie.Need-room-requires
-room-requires c κs = search rules
+room_requires : tie.Need-room-requires
+room_requires c κs = search rules
 
-seen-requires : tie.Need-seen-requires
-seen-requires c κs = search rules
+seen_requires : tie.Need-seen-requires
+seen_requires c κs = search rules
 
-seen-requires-2 : tie.Need-seen-requires-2
-seen-requires-2 c κs = search rules
+seen_requires_2 : tie.Need-seen-requires-2
+seen_requires_2 c κs = search rules
 
-stays-inside-requires : tie.Need-stays-inside-requires
-stays-inside-requires c κs =
+stays_inside_requires : tie.Need-stays-inside-requires
+stays_inside_requires c κs =
     let s = c.before.before.before.before.before in
     (rw c.before.seen.ensures s.requires.0.on, rw c.seen2.ensures s.requires.0.end_on)
 
 returns : tie.Need-returns
 returns c =
     let s = c.before.before.before.before.before.before in
-    c.stays-inside.ensures
+    c.stays_inside.ensures
     ∙ rw (c.before.before.before.room.ensures, c.before.before.seen.ensures, c.before.seen2.ensures)
-    (stays-visits s.args.self s.args.at s.requires.0 s.args.travel (inside s.requires.2))
+    (stays_visits s.args.self s.args.at s.requires.0 s.args.travel (inside s.requires.2))
 
-pub stays-spec : {M : Type 1} → statement M
-stays-spec =
-    tie.close (tie.spec room-requires seen-requires seen-requires-2 stays-inside-requires returns)
+pub stays_spec : {M : Type 1} → statement M
+stays_spec =
+    tie.close (tie.spec room_requires seen_requires seen_requires_2 stays_inside_requires returns)

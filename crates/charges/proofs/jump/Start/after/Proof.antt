@@ -2,45 +2,45 @@
 use mathlib.Core.Path.{◌≡◌, ap, ◌∙◌}
 use Prim.Native.Nat.{ℕ, ◌*◌}
 use native.Mathlib.Omega.{arith}
-use Rattle.circle.specs.computed.Step.{seenPlace}
-use Rattle.charges.specs.computed.Sum.{roundChargesOf}
-use Rattle.charges.specs.computed.Jump.{pointOn}
-use Rattle.charges.specs.laws.Jump.{start-on, quarter-is, radius-is, place_after, tolled-after, start-bounds, toll-after, reached-is}
+use Rattle.circle.specs.computed.Step.{seen_place}
+use Rattle.charges.specs.computed.Sum.{round_charges_of}
+use Rattle.charges.specs.computed.Jump.{point_on}
+use Rattle.charges.specs.laws.Jump.{start_on, quarter_is, radius_is, place_after_lem, tolled_after, start_bounds, toll_after, reached_is}
 use Rattle.charges.proofs.jump.Start.after.Statement.{statement}
 use Rattle.charges.proofs.jump.Start.after.Tie as tie
 
 -- the place is that of the walk
 there : (c : tie.After-place-at) → (let s = c.before.before.before.args in
-    c.place_at.result ≡ seenPlace s.self.turn (pointOn s.self s.cycles))
-there c = let s = c.before.before.before in c.place_at.ensures ∙ place_after s.requires.0 s.args.cycles
+    c.place_at.result ≡ seen_place s.self.turn (point_on s.self s.cycles))
+there c = let s = c.before.before.before in c.place_at.ensures ∙ place_after_lem s.requires.0 s.args.cycles
 
 round_is : (c : tie.After-quadrant-charges) → (let s = c.before.before.before.before.before.args.self in
-    4 * c.quadrant-charges.result ≡ roundChargesOf s.quarter s.radius)
+    4 * c.quadrant-charges.result ≡ round_charges_of s.quarter s.radius)
 round_is c = ap (λ (r : ℕ). 4 * r) c.quadrant-charges.ensures
 
-add-place-at : tie.Need-overflow-add-place-at
-add-place-at c = let s = c.before.before in omega (arith, start-bounds s.requires.0)
+add_place_at : tie.Need-overflow-add-place-at
+add_place_at c = let s = c.before.before in omega (arith, start_bounds s.requires.0)
 
-place-at-requires : tie.Need-place-at-requires
-place-at-requires c κs = let h = c.before.before.requires.0 in ((start-on h).some, (start-on h).bound, quarter-is h)
+place_at_requires : tie.Need-place-at-requires
+place_at_requires c κs = let h = c.before.before.requires.0 in ((start_on h).some, (start_on h).bound, quarter_is h)
 
-span-to-requires : tie.Need-span-to-requires
-span-to-requires c κs =
+span_to_requires : tie.Need-span-to-requires
+span_to_requires c κs =
     let s = c.before.before.before in
-    rw (quarter-is s.requires.0, radius-is s.requires.0, there c) (tolled-after s.requires.0 s.args.cycles)
+    rw (quarter_is s.requires.0, radius_is s.requires.0, there c) (tolled_after s.requires.0 s.args.cycles)
 
-quadrant-charges-requires : tie.Need-quadrant-charges-requires
-quadrant-charges-requires c κs = let b = start-bounds c.before.before.before.before.requires.0 in (b.quarter, b.radius)
+quadrant_charges_requires : tie.Need-quadrant-charges-requires
+quadrant_charges_requires c κs = let b = start_bounds c.before.before.before.before.requires.0 in (b.quarter, b.radius)
 
-mul-round : tie.Need-overflow-mul-round
-mul-round c = omega (arith, round_is c, (start-bounds c.before.before.before.before.before.requires.0).round)
+mul_round : tie.Need-overflow-mul-round
+mul_round c = omega (arith, round_is c, (start_bounds c.before.before.before.before.before.requires.0).round)
 
-way-on-requires : tie.Need-way-on-requires
-way-on-requires c κs =
+way_on_requires : tie.Need-way-on-requires
+way_on_requires c κs =
     let w = c.before in
     let s = w.before.before.before.before in
-    let b = start-bounds s.requires.0 in
-    rw (round_is c, w.span_to.ensures, there w.before) (omega (arith, toll-after s.requires.0 s.args.cycles))
+    let b = start_bounds s.requires.0 in
+    rw (round_is c, w.span_to.ensures, there w.before) (omega (arith, toll_after s.requires.0 s.args.cycles))
 
 returns : tie.Need-returns
 returns c =
@@ -48,9 +48,9 @@ returns c =
     let w = r.before in
     let q = w.before in
     let s = q.before.before.before in
-    reached-is s.requires.0 s.args.cycles c.way_on.result q.place_at.result s.requires.1 s.requires.2 q.place_at.ensures
+    reached_is s.requires.0 s.args.cycles c.way_on.result q.place_at.result s.requires.1 s.requires.2 q.place_at.ensures
     (c.way_on.ensures ∙ rw (round_is r, w.span_to.ensures))
 
-pub after-spec : {M : Type 1} → statement M
-after-spec =
-    tie.close (tie.spec add-place-at place-at-requires span-to-requires quadrant-charges-requires mul-round way-on-requires returns)
+pub after_spec : {M : Type 1} → statement M
+after_spec =
+    tie.close (tie.spec add_place_at place_at_requires span_to_requires quadrant_charges_requires mul_round way_on_requires returns)

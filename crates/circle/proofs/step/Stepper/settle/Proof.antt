@@ -4,14 +4,14 @@ use borrow.Author.Rules.{rules}
 use Rattle.circle.proofs.step.Stepper.settle.Statement.{statement}
 use Rattle.circle.proofs.step.Stepper.settle.Tie as tie
 
-next-quadrant-requires : tie.Need-next-quadrant-requires
-next-quadrant-requires c κs = search rules
+next_quadrant_requires : tie.Need-next-quadrant-requires
+next_quadrant_requires c κs = search rules
 
 returns : tie.Need-returns
-returns c = rw (eq-eqb c.before.before.before.args.self.along 0 c.before.if1.true, c.next-quadrant.ensures)
+returns c = rw (eq-eqb c.before.before.before.args.self.along 0 c.before.if1.true, c.next_quadrant.ensures)
 
-returns-2 : tie.Need-returns-2
-returns-2 c = rw (ne_eqb c.before.before.args.self.along 0 c.if1.false)
+returns_2 : tie.Need-returns-2
+returns_2 c = rw (ne_eqb c.before.before.args.self.along 0 c.if1.false)
 
-pub settle-spec : {M : Type 1} → statement M
-settle-spec = tie.close (tie.spec next-quadrant-requires returns returns-2)
+pub settle_spec : {M : Type 1} → statement M
+settle_spec = tie.close (tie.spec next_quadrant_requires returns returns_2)

@@ -3,65 +3,65 @@ use borrow.Author.Rules.{rules}
 use mathlib.Core.Path.{sym, ap, ◌∙◌}
 use Prim.Native.Nat.{ℕ}
 use Rattle.plane.specs.declared.point.Point.{Point}
-use Rattle.plane.specs.laws.Point.{length-x, length-y}
+use Rattle.plane.specs.laws.Point.{length_x, length_y}
 use Rattle.line.specs.declared.line.Line.{Line}
-use Rattle.line.specs.Line.{axisSteps}
-use Rattle.line.specs.computed.Line.{steppedOf}
-use Rattle.line.specs.laws.Pulses.{pulses-next, codes-are}
-use Rattle.line.specs.laws.Work.{LineAt, line-at, some-cycle, axis-x, axis-y, gone-x, gone-y}
+use Rattle.line.specs.Line.{axis_steps}
+use Rattle.line.specs.computed.Line.{stepped_of}
+use Rattle.line.specs.laws.Pulses.{pulses_next, codes_are}
+use Rattle.line.specs.laws.Work.{LineAt, line_at_lem, some_cycle, axis_x, axis_y, gone_x, gone_y}
 use Rattle.line.proofs.line.Line.codes.Statement.{statement}
 use Rattle.line.proofs.line.Line.codes.Tie as tie
 
 -- the line and its point, as the code has them
-abbrev line-in : tie.After-between2 → Line
-line-in c = c.before.before.before.before.args.self
+abbrev line_in : tie.After-between2 → Line
+line_in c = c.before.before.before.before.args.self
 
 abbrev at_in : tie.After-between2 → Point
 at_in c = c.before.before.before.before.args.at
 
-in-work : (c : tie.After-between2) → LineAt (line-in c) (at_in c)
-in-work c = line-at c.before.before.before.before.requires
+in_work_lem : (c : tie.After-between2) → LineAt (line_in c) (at_in c)
+in_work_lem c = line_at_lem c.before.before.before.before.requires
 
-between-requires : tie.Need-between-requires
-between-requires c κs = search rules
+between_requires : tie.Need-between-requires
+between_requires c κs = search rules
 
-between-requires-2 : tie.Need-between-requires-2
-between-requires-2 c κs = search rules
+between_requires_2 : tie.Need-between-requires-2
+between_requires_2 c κs = search rules
 
-axis-code-requires : tie.Need-axis-code-requires
-axis-code-requires c κs =
+axis_code_requires : tie.Need-axis-code-requires
+axis_code_requires c κs =
     let b = c.before.before.before.before in
-    let l = line-in b in
-    let way = length-x l.start l.end b.before.between.ensures in (
-      rw way (axis-x l (in-work b).drawing),
-      length-x l.start (at_in b) b.between2.ensures ∙ gone-x l (at_in b) (in-work b)
-          ∙ ap (λ (a : ℕ). axisSteps l.cycles a l.done) (sym way),
+    let l = line_in b in
+    let way = length_x l.start l.end b.before.between.ensures in (
+      rw way (axis_x l (in_work_lem b).drawing),
+      length_x l.start (at_in b) b.between2.ensures ∙ gone_x l (at_in b) (in_work_lem b)
+          ∙ ap (λ (a : ℕ). axis_steps l.cycles a l.done) (sym way),
     )
 
-axis-code-requires-2 : tie.Need-axis-code-requires-2
-axis-code-requires-2 c κs =
+axis_code_requires_2 : tie.Need-axis-code-requires-2
+axis_code_requires_2 c κs =
     let b = c.before.before.before.before.before in
-    let l = line-in b in
-    let way = length-y l.start l.end b.before.between.ensures in (
-      rw way (axis-y l (in-work b).drawing),
-      length-y l.start (at_in b) b.between2.ensures ∙ gone-y l (at_in b) (in-work b)
-          ∙ ap (λ (a : ℕ). axisSteps l.cycles a l.done) (sym way),
+    let l = line_in b in
+    let way = length_y l.start l.end b.before.between.ensures in (
+      rw way (axis_y l (in_work_lem b).drawing),
+      length_y l.start (at_in b) b.between2.ensures ∙ gone_y l (at_in b) (in_work_lem b)
+          ∙ ap (λ (a : ℕ). axis_steps l.cycles a l.done) (sym way),
     )
 
 returns : tie.Need-returns
-unfolding steppedOf
+unfolding stepped_of
 returns c =
     let b = c.before.before.before.before.before.before in
-    let l = line-in b in
-    let d = (in-work b).drawing in
-    let some = some-cycle l d in
-    let x-is = c.before.axis-code.ensures in
-    let y-is = c.axis-code2.ensures in
-    (λ i. record { x = x-is i; y = y-is i })
-    ∙ codes-are l.start l.end some l.done b.before.between.ensures d.own
-    ∙ sym (pulses-next l.start l.end some l.done)
+    let l = line_in b in
+    let d = (in_work_lem b).drawing in
+    let some = some_cycle l d in
+    let x_is = c.before.axis-code.ensures in
+    let y_is = c.axis-code2.ensures in
+    (λ i. record { x = x_is i; y = y_is i })
+    ∙ codes_are l.start l.end some l.done b.before.between.ensures d.own
+    ∙ sym (pulses_next l.start l.end some l.done)
 
-pub codes-spec : {M : Type 1} → statement M
-codes-spec =
+pub codes_spec : {M : Type 1} → statement M
+codes_spec =
     tie.close
-    (tie.spec between-requires between-requires-2 axis-code-requires axis-code-requires-2 returns)
+    (tie.spec between_requires between_requires_2 axis_code_requires axis_code_requires_2 returns)

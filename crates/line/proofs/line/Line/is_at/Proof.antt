@@ -6,21 +6,21 @@ use Rattle.line.specs.computed.Line.{line_at}
 use Rattle.line.proofs.line.Line.is_at.Statement.{statement}
 use Rattle.line.proofs.line.Line.is_at.Tie as tie
 
-is-drawn-requires : tie.Need-is-drawn-requires
-is-drawn-requires c κs = search rules
+is_drawn_requires : tie.Need-is-drawn-requires
+is_drawn_requires c κs = search rules
 
 returns : tie.Need-returns
 unfolding line_at
 returns c = rw (sym c.before.is-drawn.ensures ∙ not-true _ c.if1.true)
 
-has-reached-requires : tie.Need-has-reached-requires
-has-reached-requires c κs = sym c.before.is-drawn.ensures ∙ not-false _ c.if1.false
+has_reached_requires : tie.Need-has-reached-requires
+has_reached_requires c κs = sym c.before.is-drawn.ensures ∙ not-false _ c.if1.false
 
-returns-2 : tie.Need-returns-2
+returns_2 : tie.Need-returns-2
 unfolding line_at
-returns-2 c =
+returns_2 c =
     let e = c.before in
     c.has-reached.ensures ∙ rw (sym e.before.is-drawn.ensures ∙ not-false _ e.if1.false)
 
-pub is-at-spec : {M : Type 1} → statement M
-is-at-spec = tie.close (tie.spec is-drawn-requires returns has-reached-requires returns-2)
+pub is_at_spec : {M : Type 1} → statement M
+is_at_spec = tie.close (tie.spec is_drawn_requires returns has_reached_requires returns_2)

@@ -8,62 +8,62 @@ use borrow.Author.Tests.{not-true, not-false, eqb-true, eqb-false, ltb-true, lt-
 use lib.Dec.{eqb}
 use lib.IntN.{nat_abs}
 use Rattle.whole.specs.laws.Test.{refuted, same_test}
-use Rattle.plane.specs.laws.Point.{length-x, length-y}
+use Rattle.plane.specs.laws.Point.{length_x, length_y}
 use Rattle.line.specs.declared.line.Line.{Line}
-use Rattle.line.specs.Line.{incrementX, incrementY, lineCycles}
-use Rattle.line.specs.laws.Work.{Drawn, drawn, drawn-test}
+use Rattle.line.specs.Line.{increment_x, increment_y, line_cycles}
+use Rattle.line.specs.laws.Work.{Drawn, drawn, drawn_test}
 use Rattle.line.proofs.line.Line.is_drawn.Statement.{statement}
 use Rattle.line.proofs.line.Line.is_drawn.Tie as tie
 
 -- the increments that the code works on
-abbrev line-in : tie.After-between → Line
-line-in c = c.before.before.before.args.self
+abbrev line_in : tie.After-between → Line
+line_in c = c.before.before.before.args.self
 
-x-is : (c : tie.After-between) → c.between.result.x.magnitude ≡ nat_abs (incrementX (line-in c).start (line-in c).end)
-x-is c = length-x (line-in c).start (line-in c).end c.between.ensures
+x_is : (c : tie.After-between) → c.between.result.x.magnitude ≡ nat_abs (increment_x (line_in c).start (line_in c).end)
+x_is c = length_x (line_in c).start (line_in c).end c.between.ensures
 
-y-is : (c : tie.After-between) → c.between.result.y.magnitude ≡ nat_abs (incrementY (line-in c).start (line-in c).end)
-y-is c = length-y (line-in c).start (line-in c).end c.between.ensures
+y_is : (c : tie.After-between) → c.between.result.y.magnitude ≡ nat_abs (increment_y (line_in c).start (line_in c).end)
+y_is c = length_y (line_in c).start (line_in c).end c.between.ensures
 
-between-requires : tie.Need-between-requires
-between-requires c κs = search rules
+between_requires : tie.Need-between-requires
+between_requires c κs = search rules
 
 returns : tie.Need-returns
-returns c = sym (refuted _ (λ e. let d = drawn e in omega (arith, x-is c.before.before.before.before)))
+returns c = sym (refuted _ (λ e. let d = drawn e in omega (arith, x_is c.before.before.before.before)))
 
-returns-2 : tie.Need-returns-2
-returns-2 c = sym (refuted _ (λ e. let d = drawn e in omega (arith, y-is c.before.before.before.before.before.before)))
+returns_2 : tie.Need-returns-2
+returns_2 c = sym (refuted _ (λ e. let d = drawn e in omega (arith, y_is c.before.before.before.before.before.before)))
 
-takes-requires : tie.Need-takes-requires
-takes-requires c κs = search rules
+takes_requires : tie.Need-takes-requires
+takes_requires c κs = search rules
 
 -- what `takes` says, over the definition
 abbrev increments : (c : tie.After-takes) → tie.After-between
 increments c = c.before.before.before.before.before.before.before
 
-takes-is : (c : tie.After-takes) {b : Bool} → c.takes.result ≡ b
-    → eqb (line-in (increments c)).cycles (lineCycles (line-in (increments c)).start (line-in (increments c)).end) ≡ b
-unfolding lineCycles
-takes-is c e = rw (← x-is (increments c), ← y-is (increments c)) (sym c.takes.ensures ∙ e)
+takes_is : (c : tie.After-takes) {b : Bool} → c.takes.result ≡ b
+    → eqb (line_in (increments c)).cycles (line_cycles (line_in (increments c)).start (line_in (increments c)).end) ≡ b
+unfolding line_cycles
+takes_is c e = rw (← x_is (increments c), ← y_is (increments c)) (sym c.takes.ensures ∙ e)
 
-returns-3 : tie.Need-returns-3
-returns-3 c = sym (refuted _ (λ e. let d = drawn e in eqb-false _ _ (takes-is c.before (not-true _ c.if3.true)) d.own))
+returns_3 : tie.Need-returns-3
+returns_3 c = sym (refuted _ (λ e. let d = drawn e in eqb-false _ _ (takes_is c.before (not-true _ c.if3.true)) d.own))
 
-returns-4 : tie.Need-returns-4
-returns-4 c =
+returns_4 : tie.Need-returns-4
+returns_4 c =
     let e = c.before in
     let t = e.before in
     let w = increments t in
-    let l = line-in w in
+    let l = line_in w in
     let short : (h : l.done < l.cycles) → Drawn l = λ h. record {
-      short-x = omega (arith, x-is w);
-      short-y = omega (arith, y-is w);
-      own = eqb-true _ _ (takes-is t (not-false _ e.if3.false));
+      short_x = omega (arith, x_is w);
+      short_y = omega (arith, y_is w);
+      own = eqb-true _ _ (takes_is t (not-false _ e.if3.false));
       due = h;
     } in
-    same_test (λ b. drawn-test (short (ltb-true _ _ b))) (λ b. lt-ltb _ _ (drawn b).due)
+    same_test (λ b. drawn_test (short (ltb-true _ _ b))) (λ b. lt-ltb _ _ (drawn b).due)
 
-pub is-drawn-spec : {M : Type 1} → statement M
-is-drawn-spec =
+pub is_drawn_spec : {M : Type 1} → statement M
+is_drawn_spec =
     tie.close
-    (tie.spec between-requires returns returns-2 takes-requires returns-3 returns-4)
+    (tie.spec between_requires returns returns_2 takes_requires returns_3 returns_4)

@@ -6,22 +6,22 @@ use Prim.Native.Nat.{◌+◌}
 use Rattle.plane.specs.declared.point.Point.{Point}
 use Rattle.line.specs.declared.line.Line.{Line}
 use Rattle.plane.specs.declared.pulse.Pulses.{Pulses}
-use Rattle.plane.specs.Pulse.{shiftedOf}
-use Rattle.line.specs.computed.Line.{steppedOf}
+use Rattle.plane.specs.Pulse.{shifted_of}
+use Rattle.line.specs.computed.Line.{stepped_of}
 use Rattle.plane.specs.laws.Fits.{FitsPoint}
-use Rattle.line.specs.laws.Work.{line-at, axis-x, stepped-at, stepped-fits}
+use Rattle.line.specs.laws.Work.{line_at_lem, axis_x, stepped_at, stepped_fits}
 use Rattle.line.proofs.line.Line.step.Statement.{statement}
 use Rattle.line.proofs.line.Line.step.Tie as tie
 
 -- a step is its line, its point and its pulses
-stepped : (l : Line) {at : Point} {pulses : Pulses} → at ≡ (steppedOf l).at → pulses ≡ (steppedOf l).pulses
+stepped : (l : Line) {at : Point} {pulses : Pulses} → at ≡ (stepped_of l).at → pulses ≡ (stepped_of l).pulses
     → record {
       line = record { start = l.start; end = l.end; feed = l.feed; cycles = l.cycles; done = l.done + 1 };
       at = at;
       pulses =
           pulses;
-    } ≡ steppedOf l
-unfolding steppedOf
+    } ≡ stepped_of l
+unfolding stepped_of
 stepped l at pulses = λ i. record {
   line =
       record { start = l.start; end = l.end; feed = l.feed; cycles = l.cycles; done = l.done + 1 };
@@ -29,19 +29,19 @@ stepped l at pulses = λ i. record {
   pulses = pulses i;
 }
 
-codes-requires : tie.Need-codes-requires
-codes-requires c κs = search rules
+codes_requires : tie.Need-codes-requires
+codes_requires c κs = search rules
 
-add-line : tie.Need-overflow-add-line
-add-line c = let s = c.before.before in let d = (line-at s.requires).drawing in omega (arith, d.due, (axis-x s.args.self d).wide)
+add_line : tie.Need-overflow-add-line
+add_line c = let s = c.before.before in let d = (line_at_lem s.requires).drawing in omega (arith, d.due, (axis_x s.args.self d).wide)
 
-pulsed-requires : tie.Need-pulsed-requires
-pulsed-requires c κs =
+pulsed_requires : tie.Need-pulsed-requires
+pulsed_requires c κs =
     let s = c.before.before in
     let l = s.args.self in
     let start : FitsPoint l.start = record { x = search rules; y = search rules } in
     let end : FitsPoint l.end = record { x = search rules; y = search rules } in
-    let f = stepped-fits l s.args.at (line-at s.requires) start end in
+    let f = stepped_fits l s.args.at (line_at_lem s.requires) start end in
     rw c.before.codes.ensures (f.x, f.y)
 
 returns : tie.Need-returns
@@ -49,10 +49,10 @@ returns c =
     let k = c.before.before in
     let s = k.before in
     let l = s.args.self in
-    let next = stepped-at l s.args.at (line-at s.requires) in
-    let at = c.pulsed.ensures ∙ ap (shiftedOf s.args.at) k.codes.ensures ∙ next in
+    let next = stepped_at l s.args.at (line_at_lem s.requires) in
+    let at = c.pulsed.ensures ∙ ap (shifted_of s.args.at) k.codes.ensures ∙ next in
     let pulses = k.codes.ensures in
     stepped l at pulses
 
 pub step_spec : {M : Type 1} → statement M
-step_spec = tie.close (tie.spec codes-requires add-line pulsed-requires returns)
+step_spec = tie.close (tie.spec codes_requires add_line pulsed_requires returns)

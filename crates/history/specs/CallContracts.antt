@@ -12,39 +12,39 @@ use Rattle.machine.specs.declared.Ran.{Ran}
 use Rattle.reader.specs.declared.Reader.{Reader}
 use Rattle.textline.specs.declared.ReadLine.{ReadLine}
 use Rattle.look.specs.declared.Ahead.{Ahead}
-use Rattle.machine.proofs.Machine.is_sound.Reads as sound-reads
-use Rattle.machine.proofs.Machine.make.Reads as make-reads
-use Rattle.machine.proofs.Machine.load.Reads as load-reads
-use Rattle.machine.proofs.Machine.tick.Reads as tick-reads
-use Rattle.machine.proofs.Machine.run.Reads as run-reads
-use Rattle.machine.proofs.Machine.hold.Reads as hold-reads
-use Rattle.machine.proofs.Machine.release.Reads as release-reads
-use Rattle.machine.proofs.Machine.stop.Reads as stop-reads
+use Rattle.machine.proofs.Machine.is_sound.Reads as sound_reads
+use Rattle.machine.proofs.Machine.make.Reads as make_reads
+use Rattle.machine.proofs.Machine.load.Reads as load_reads
+use Rattle.machine.proofs.Machine.tick.Reads as tick_reads
+use Rattle.machine.proofs.Machine.run.Reads as run_reads
+use Rattle.machine.proofs.Machine.hold.Reads as hold_reads
+use Rattle.machine.proofs.Machine.release.Reads as release_reads
+use Rattle.machine.proofs.Machine.stop.Reads as stop_reads
 use Rattle.textline.proofs.read_line.Reads as line_reads_lem
-use Rattle.look.proofs.look_ahead.Reads as look-reads
+use Rattle.look.proofs.look_ahead.Reads as look_reads
 
 -- make, from settings, may return r
 abbrev pub Makes : Settings → Answered → Type 0
-Makes s r = make-reads.Learnt tt (s, tt) r (s, tt)
+Makes s r = make_reads.Learnt tt (s, tt) r (s, tt)
 
 abbrev pub Loads : Machine → Block → Answered → Type 0
-Loads m b r = load-reads.Learnt tt (m, (b, tt)) r (m, (b, tt))
+Loads m b r = load_reads.Learnt tt (m, (b, tt)) r (m, (b, tt))
 
 abbrev pub Ticks : Machine → Ticked → Type 0
-Ticks m r = tick-reads.Learnt tt (m, tt) r (m, tt)
+Ticks m r = tick_reads.Learnt tt (m, tt) r (m, tt)
 
 -- run, lent the buffer out, may return r and leave the buffer as out'
 abbrev pub Runs : Lfts 1 → Machine → (budget : ℕ) (out out' : Bor (List ℕ)) → Ran → Type 0
-Runs κs m budget out out' r = run-reads.Learnt κs (m, (budget, (out, tt))) r (m, (budget, (out', tt)))
+Runs κs m budget out out' r = run_reads.Learnt κs (m, (budget, (out, tt))) r (m, (budget, (out', tt)))
 
 abbrev pub Holds : Machine → Answered → Type 0
-Holds m r = hold-reads.Learnt tt (m, tt) r (m, tt)
+Holds m r = hold_reads.Learnt tt (m, tt) r (m, tt)
 
 abbrev pub Releases : Machine → Answered → Type 0
-Releases m r = release-reads.Learnt tt (m, tt) r (m, tt)
+Releases m r = release_reads.Learnt tt (m, tt) r (m, tt)
 
 abbrev pub Stops : Machine → Answered → Type 0
-Stops m r = stop-reads.Learnt tt (m, tt) r (m, tt)
+Stops m r = stop_reads.Learnt tt (m, tt) r (m, tt)
 
 -- read_line, at a reader and a record and lent the bytes of a line, may return r
 abbrev pub ReadsLine : Lfts 1 → Reader → Machine → Bor (List ℕ) → ReadLine → Type 0
@@ -52,11 +52,11 @@ ReadsLine κs k m line r = line_reads_lem.Learnt κs (k, (m, (line, tt))) r (k, 
 
 -- is_sound, the code's own test of a record, may answer r; that it says so of 01's sound records alone is the claim `every_record`
 abbrev pub Tests : Machine → Bool → Type 0
-Tests m r = sound-reads.Learnt tt (m, tt) r (m, tt)
+Tests m r = sound_reads.Learnt tt (m, tt) r (m, tt)
 
 abbrev pub PassesTest : Machine → Type 0
 PassesTest m = Tests m true
 
 -- look_ahead, on a record and a number of ticks, may return r
 abbrev pub Looks : Machine → (ticks : ℕ) → Ahead → Type 0
-Looks m n r = look-reads.Learnt tt (m, (n, tt)) r (m, (n, tt))
+Looks m n r = look_reads.Learnt tt (m, (n, tt)) r (m, (n, tt))
