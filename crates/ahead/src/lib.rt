@@ -1,5 +1,7 @@
 // The bench after so many ticks. No tick is done: the block in work gives its point by closed forms, so the cost does not grow with the
 // ticks, on lines and arcs alike. At a block's end nothing comes into work: a job loads its next block itself.
+#![tactic(auto)]
+
 ghost use Rattle.std.specs.Prelude.{◌≡◌, true};
 ghost use Rattle.bench.specs.computed.Bench.{sound_of};
 ghost use Rattle.ahead.specs.computed.Ahead.{ticking_of};

@@ -17,7 +17,7 @@ use plane::point::Point;
 use plane::pulse::{Pulses, changes};
 use plane::travel::{Range, Travel, inside};
 
-#[derive(Drop)]
+#[derive(Clone, Copy)]
 pub struct Arc {
     pub centre: Point,
     // Document 01's N, the square of the radius.

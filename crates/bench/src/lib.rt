@@ -1,5 +1,7 @@
 // The bench of a cutting table: 01's machine, which works one block at a time. Crate machine puts a queue behind it; the check of a job
 // works at a bench alone. It goes in by value and comes back by value, beside the answer.
+#![tactic(auto)]
+
 ghost use Rattle.std.specs.Prelude.{◌≡◌, true, length};
 ghost use Rattle.bench.specs.computed.Bench.{sound_parts, sound_of};
 ghost use Rattle.bench.specs.Bench.{fresh_of, moved_of};
@@ -16,7 +18,7 @@ use run::run_work;
 use settings::{Settings, capacity, settings_no, standard};
 use work::{Work, begin, is_nothing, work_sound, work_tick};
 
-#[derive(Drop)]
+#[derive(Clone, Copy)]
 pub struct Bench {
     pub settings: Settings,
     // The position: document 01's point.
@@ -44,7 +46,7 @@ pub struct Answered {
 }
 
 // What a tick answers.
-#[derive(Drop)]
+#[derive(Clone, Copy)]
 pub enum Tick {
     Byte(u8),
     Refused(u64),

@@ -1,5 +1,7 @@
 // The calls of the machine on 134 words that a caller in C owns. Each answers for any words: those that are no sound record get 9 and stay
 // as they are, and so do those of a refused load. No record is built: a call reads the words that it needs and writes those that change.
+#![tactic(auto)]
+
 ghost use Rattle.std.specs.Prelude.{◌≡◌};
 ghost use Rattle.encoding.specs.Words.{settings_of};
 ghost use Rattle.machine.specs.computed.Calls.{load_of};

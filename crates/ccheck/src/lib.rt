@@ -1,6 +1,8 @@
 // The check of a job text for C, on 19 words of its own: "Each block is loaded once the one before has ended", so none ever waits, and the
 // record is that of a bench. What the check has come to stands in 9 words beside it. Words that are no sound record, or tell no progress,
 // get 9 and stay as they are.
+#![tactic(auto)]
+
 ghost use Rattle.std.specs.Prelude.{◌≡◌};
 ghost use Rattle.encoding.specs.Words.{settings_of};
 ghost use Rattle.calls.specs.computed.Calls.{tells, bench_made};
@@ -15,8 +17,7 @@ use job::Check;
 use progress::progress::{decode_progress, encode_progress};
 
 // Settings are read and answered as by vz_make. Whatever the words were, they are a check after it.
-#[unsafe(no_mangle)]
-pub extern "C" fn vz_check_start(
+pub fn vz_check_start(
     bench: &mut [i64; 19],
     progress: &mut [i64; 9],
     p: i64,
@@ -40,8 +41,7 @@ pub extern "C" fn vz_check_start(
 }
 
 // Whole rows go to the front of the buffer, as long as one more surely fits; the rest of it stays.
-#[unsafe(no_mangle)]
-pub extern "C" fn vz_check_fill(
+pub fn vz_check_fill(
     bench: &mut [i64; 19],
     progress: &mut [i64; 9],
     text: &[u8],

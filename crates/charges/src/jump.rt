@@ -13,7 +13,7 @@ use circle::quadrant::{Place, place_of};
 use whole::root::nearest_root;
 
 // A circle with its roots, each taken once, and the point from which cycles are counted.
-#[derive(Drop)]
+#[derive(Clone, Copy)]
 pub struct Start {
     pub n: u64,
     pub turn: Turn,
@@ -27,7 +27,7 @@ pub struct Start {
 }
 
 // So many cycles, their charges, and the place after them.
-#[derive(Drop)]
+#[derive(Clone, Copy)]
 pub struct Arrived {
     pub cycles: u64,
     pub charges: u64,

@@ -1,4 +1,6 @@
 // What a way round a circle comes to, without walking it. A cycle is charged 1,000 where its step is straight, 1,414 where it is diagonal.
+#![tactic(auto)]
+
 use circle::plane::Offset;
 
 pub mod jump;
@@ -6,7 +8,7 @@ pub mod search;
 pub mod sum;
 
 // From one place on to another.
-#[derive(Drop)]
+#[derive(Clone, Copy)]
 pub struct Span {
     pub cycles: u64,
     // The sum of what these cycles are charged.

@@ -1,6 +1,5 @@
--- To be believed, in this order: Circle, Next, Charge. What the code computes, or asks of its callers: computed. Proved: laws.
+-- To be believed, in this order: Circle, Next, Charge. What the code computes, or asks of its callers: computed. Proved: proofs/laws.
 pub mod Circle
 pub mod Next
 pub mod Charge
 pub mod computed
-pub mod laws

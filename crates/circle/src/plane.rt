@@ -8,14 +8,14 @@ use whole::sign::part;
 const LARGEST_N: u64 = 2_000_000_000_000;
 
 // A point seen from the centre, in pulses.
-#[derive(Drop)]
+#[derive(Clone, Copy)]
 pub struct Offset {
     pub x: i64,
     pub y: i64,
 }
 
 // The way round, X right and Y up: kinds 2 and 3.
-#[derive(Drop)]
+#[derive(Clone, Copy)]
 pub enum Turn {
     Clockwise,
     Counterclockwise,

@@ -7,7 +7,7 @@ use whole::sign::part;
 
 // The point (along, across) of the first quadrant after so many quarter turns counterclockwise.
 // A circle point has quadrant 0..3 and along at least 1, and then this form is its only one.
-#[derive(Drop)]
+#[derive(Clone, Copy)]
 pub struct Place {
     pub quadrant: u64,
     pub along: u64,

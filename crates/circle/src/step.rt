@@ -17,7 +17,7 @@ pub const STRAIGHT: u64 = 1_000;
 pub const DIAGONAL: u64 = 1_414;
 
 // What a step does in its quadrant: across grows, or along falls and across grows, or along falls.
-#[derive(Drop)]
+#[derive(Clone, Copy)]
 pub enum Move {
     Rise,
     Slant,
@@ -25,7 +25,7 @@ pub enum Move {
 }
 
 // A point in quadrant form with its excess, for long runs: a cycle costs a few additions and comparisons, and no product.
-#[derive(Drop)]
+#[derive(Clone, Copy)]
 pub struct Stepper {
     pub turn: Turn,
     // 0..3, for clockwise in the mirror

@@ -1,4 +1,6 @@
 // Whether an arc stays inside travel, without walking it.
+#![tactic(auto)]
+
 ghost use Rattle.std.specs.Prelude.{◌≡◌, true, false, ◌≤◌, ◌<◌, ◌^◌, nat_abs};
 ghost use Rattle.circle.specs.declared.plane.Offset.{Offset};
 ghost use Rattle.circle.specs.Circle.{Circle, largest_n, on_circle};
@@ -13,7 +15,7 @@ use circle::quadrant::{Place, place_of, turned_by};
 use whole::sign::part;
 
 // How far travel reaches from the centre on each side; negative where the centre is outside.
-#[derive(Drop)]
+#[derive(Clone, Copy)]
 pub struct Room {
     pub right: i64,
     pub up: i64,

@@ -1,5 +1,7 @@
 // The calls for C on a record of 134 words that the caller owns. `include/verdaizka.h` declares them. Each answers for any words: those
 // that are no sound record get 9 and stay as they are, and so do those of a refused load.
+#![tactic(auto)]
+
 ghost use Rattle.std.specs.Prelude.{◌≡◌};
 ghost use Rattle.circle.specs.declared.plane.Turn.{Turn};
 ghost use Rattle.block.specs.declared.Path.{Path};
@@ -20,8 +22,7 @@ pub mod text;
 // ---- make
 
 // Whatever the words were, those in front are a record after it.
-#[unsafe(no_mangle)]
-pub extern "C" fn vz_make(
+pub fn vz_make(
     words: &mut [i64; 134],
     p: i64,
     w: i64,
@@ -37,22 +38,13 @@ pub extern "C" fn vz_make(
 
 // ---- load
 
-#[unsafe(no_mangle)]
-pub extern "C" fn vz_load_line(words: &mut [i64; 134], x: i64, y: i64, feed: i64) -> i64
+pub fn vz_load_line(words: &mut [i64; 134], x: i64, y: i64, feed: i64) -> i64
     ensures { tells result words.new ≡ told_of words.old (WordCall.load (block_given Path.Line x y feed)) }
 {
     load(words, block(Path::Line, x, y, feed))
 }
 
-#[unsafe(no_mangle)]
-pub extern "C" fn vz_load_cw(
-    words: &mut [i64; 134],
-    x: i64,
-    y: i64,
-    feed: i64,
-    i: i64,
-    j: i64,
-) -> i64
+pub fn vz_load_cw(words: &mut [i64; 134], x: i64, y: i64, feed: i64, i: i64, j: i64) -> i64
     ensures { tells result words.new
         ≡ told_of words.old (WordCall.load (block_given (arc_path Turn.Clockwise i j) x y feed)) }
 {
@@ -60,15 +52,7 @@ pub extern "C" fn vz_load_cw(
     load(words, block(path, x, y, feed))
 }
 
-#[unsafe(no_mangle)]
-pub extern "C" fn vz_load_ccw(
-    words: &mut [i64; 134],
-    x: i64,
-    y: i64,
-    feed: i64,
-    i: i64,
-    j: i64,
-) -> i64
+pub fn vz_load_ccw(words: &mut [i64; 134], x: i64, y: i64, feed: i64, i: i64, j: i64) -> i64
     ensures { tells result words.new
         ≡ told_of words.old (WordCall.load (block_given (arc_path Turn.Counterclockwise i j) x y feed)) }
 {
@@ -78,21 +62,14 @@ pub extern "C" fn vz_load_ccw(
 
 // ---- ticks
 
-#[unsafe(no_mangle)]
-pub extern "C" fn vz_tick(words: &mut [i64; 134]) -> i64
+pub fn vz_tick(words: &mut [i64; 134]) -> i64
     ensures { tells result words.new ≡ told_of words.old WordCall.tick }
 {
     tick(words)
 }
 
 // The tick bytes go to the front of the buffer; the rest of it stays.
-#[unsafe(no_mangle)]
-pub extern "C" fn vz_run(
-    words: &mut [i64; 134],
-    budget: u64,
-    out: &mut [u8],
-    ticks: &mut u64,
-) -> i64
+pub fn vz_run(words: &mut [i64; 134], budget: u64, out: &mut [u8], ticks: &mut u64) -> i64
     ensures { tells_run result ticks.new words.new out.new
         ≡ told_run_of words.old budget out.old }
 {
@@ -101,22 +78,19 @@ pub extern "C" fn vz_run(
 
 // ---- hold, release, stop
 
-#[unsafe(no_mangle)]
-pub extern "C" fn vz_hold(words: &mut [i64; 134]) -> i64
+pub fn vz_hold(words: &mut [i64; 134]) -> i64
     ensures { tells result words.new ≡ told_of words.old WordCall.hold }
 {
     hold(words)
 }
 
-#[unsafe(no_mangle)]
-pub extern "C" fn vz_release(words: &mut [i64; 134]) -> i64
+pub fn vz_release(words: &mut [i64; 134]) -> i64
     ensures { tells result words.new ≡ told_of words.old WordCall.release }
 {
     release(words)
 }
 
-#[unsafe(no_mangle)]
-pub extern "C" fn vz_stop(words: &mut [i64; 134]) -> i64
+pub fn vz_stop(words: &mut [i64; 134]) -> i64
     ensures { tells result words.new ≡ told_of words.old WordCall.stop }
 {
     stop(words)

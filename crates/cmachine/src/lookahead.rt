@@ -55,13 +55,7 @@ fn after_ticks(words: &mut [i64; 134], ticks: u64)
     }
 }
 
-#[unsafe(no_mangle)]
-pub extern "C" fn vz_ahead(
-    words: &[i64; 134],
-    ticks: u64,
-    then: &mut [i64; 134],
-    sums: &mut [i64; 2],
-) -> i64
+pub fn vz_ahead(words: &[i64; 134], ticks: u64, then: &mut [i64; 134], sums: &mut [i64; 2]) -> i64
     ensures { tells_ahead result then.new sums.new ≡ told_ahead_of words.now ticks }
 {
     // What is tested is what is used: the words that were lent are read once.

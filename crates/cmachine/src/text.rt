@@ -92,8 +92,7 @@ fn take(words: &mut [i64; 134], k: Bench, start: Point, before: Reader, a: Asked
 }
 
 // A line without its LF.
-#[unsafe(no_mangle)]
-pub extern "C" fn vz_read_line(words: &mut [i64; 134], known: &mut [i64; 2], line: &[u8]) -> i64
+pub fn vz_read_line(words: &mut [i64; 134], known: &mut [i64; 2], line: &[u8]) -> i64
     ensures { tells_line result words.new known.new
         ≡ told_line_of words.old known.old line.now }
 {

@@ -1,5 +1,7 @@
 // The check on the operator panel for C, from pieces of a text that is never held whole: on 19 words of a bench, as a check has them, and
 // on 10 of how far it has come. Words that are no sound record, or tell no panel's check, get 9 and stay as they are.
+#![tactic(auto)]
+
 ghost use Rattle.std.specs.Prelude.{◌≡◌};
 ghost use Rattle.encoding.specs.Words.{settings_of};
 ghost use Rattle.calls.specs.computed.Calls.{tells, bench_made};
@@ -19,8 +21,7 @@ pub mod decode;
 pub mod encode;
 
 // Settings are read and answered as by vz_make. Whatever the words were, they are a panel's check after it.
-#[unsafe(no_mangle)]
-pub extern "C" fn vz_panel_start(
+pub fn vz_panel_start(
     bench: &mut [i64; 19],
     panel: &mut [i64; 10],
     p: i64,
@@ -50,8 +51,7 @@ fn is_last(last: i64) -> bool
 }
 
 // The next piece of the text, the last one where `last` is not 0. A row goes to the front of `rows`; its later bytes stay.
-#[unsafe(no_mangle)]
-pub extern "C" fn vz_panel_read(
+pub fn vz_panel_read(
     bench: &mut [i64; 19],
     panel: &mut [i64; 10],
     scratch: &mut [u8],

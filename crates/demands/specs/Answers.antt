@@ -1,7 +1,7 @@
 -- Demand 1 as one claim: "An answer comes back from every call, for any machine record, block, job text or buffer length. A refusal carries
 -- its number, given for its own cause alone, and returns record and buffers unchanged. No caller need test first."
 use Rattle.std.specs.Prelude.{◌≡◌, List, ℕ, take, pos}
-use Rattle.std.specs.Borrow.{Bor}
+use Rattle.std.specs.Borrow.{Bor, MutBor}
 use contract.Lifetimes.{Lfts}
 use Rattle.block.specs.declared.Block.{Block}
 use Rattle.settings.specs.declared.Settings.{Settings}
@@ -40,8 +40,8 @@ pub record Comes : Type 0 where
   pub make : (s : Settings) → (r : Answered) × Makes s r
   pub load : (m : Machine) (b : Block) → (r : Answered) × Loads m b r
   pub tick : (m : Machine) → (r : Ticked) × Ticks m r
-  pub run : (κs : Lfts 1) (m : Machine) (budget : ℕ) (out : Bor (List ℕ))
-      → (out' : Bor (List ℕ)) × (r : Ran) × Runs κs m budget out out' r
+  pub run : (κs : Lfts 1) (m : Machine) (budget : ℕ) (out : MutBor (List ℕ))
+      → (out' : MutBor (List ℕ)) × (r : Ran) × Runs κs m budget out out' r
   pub hold : (m : Machine) → (r : Answered) × Holds m r
   pub release : (m : Machine) → (r : Answered) × Releases m r
   pub stop : (m : Machine) → (r : Answered) × Stops m r
@@ -66,7 +66,7 @@ pub record EveryAnswer : Type 0 where
   pub load : (m : Machine) (b : Block) (r : Answered) → Loads m b r
       → AsAsked (load_questions m b) (answer_reply r.answer) (r.machine ≡ m)
   pub tick : (m : Machine) (r : Ticked) → Ticks m r → AsAsked (sound_question m none) (tick_reply r.tick) (r.machine ≡ m)
-  pub run : (κs : Lfts 1) (m : Machine) (budget : ℕ) (out out' : Bor (List ℕ)) (r : Ran) → Runs κs m budget out out' r
+  pub run : (κs : Lfts 1) (m : Machine) (budget : ℕ) (out out' : MutBor (List ℕ)) (r : Ran) → Runs κs m budget out out' r
       → AsAsked (sound_question m none) (ran_reply r out'.now) (Untouched m out.now out'.now r)
   pub hold : (m : Machine) (r : Answered) → Holds m r → AsAsked (sound_question m none) (answer_reply r.answer) (r.machine ≡ m)
   pub release : (m : Machine) (r : Answered) → Releases m r

@@ -1,6 +1,6 @@
 -- 02 §5, "Checking on the panel": what the panel lists of a text, and its check's calls, which are handed the text in pieces.
 use Rattle.std.specs.Prelude.{◌≡◌, Bool, true, false, ◌⊎◌, ◌↔◌, List, [], ◌++◌, ℕ, suc, ◌+◌, ◌-◌, ◌≤◌, ◌<◌, pos, length, take, drop}
-use Rattle.std.specs.Borrow.{Bor}
+use Rattle.std.specs.Borrow.{Bor, MutBor}
 use contract.Lifetimes.{Lfts}
 use Rattle.settings.specs.declared.Settings.{Settings}
 use Rattle.settings.specs.Settings.{feed_unit, capacity_of}
@@ -15,9 +15,8 @@ use Rattle.panel.specs.declared.Told.{Told}
 use Rattle.panel.specs.declared.PieceRead.{PieceRead}
 use Rattle.panel.specs.Whole.{lfs_in, whole_lines}
 use Rattle.panel.specs.computed.Listing.{panel_job}
-use Rattle.panel.proofs.PanelCheck.start.Reads as start_reads
-use Rattle.panel.proofs.PanelCheck.read.Reads as read_reads
-use Rattle.panel.proofs.PanelCheck.is_over.Reads as over_reads
+use Rattle.panel.specs.computed.Over.{is_over}
+use Rattle.panel.specs.computed.Piece.{start_of, ReadsPiece}
 use Rattle.demands.specs.Asked.{AllYes}
 use Rattle.demands.specs.Bench.{settings_questions}
 use Rattle.demands.specs.Texts.{LinesMean, TextMeans, EveryCounted, FrontOf}
@@ -42,17 +41,17 @@ pub data PanelMeans (s : Settings) (text : List ℕ) : List Made → End → Typ
 
 -- the check that begins at this bench
 abbrev pub StartsPanel : Bench → PanelCheck → Type 0
-StartsPanel m c = start_reads.Learnt tt (m, tt) c (m, tt)
+StartsPanel m c = c ≡ start_of m
 
 -- read, lent a scratch buffer, a piece and a buffer for rows, may return f and leave the buffers as free and rows'
-abbrev pub ReadsPanel : Lfts 3 → PanelCheck → (scratch free piece : Bor (List ℕ)) (last : Bool) (rows rows' : Bor (List ℕ)) → PieceRead
+abbrev pub ReadsPanel : Lfts 3 → PanelCheck → (scratch free : MutBor (List ℕ)) (piece : Bor (List ℕ)) (last : Bool) (rows rows' : MutBor (List ℕ)) → PieceRead
     → Type 0
 ReadsPanel κs c scratch free piece last rows rows' f =
-    read_reads.Learnt κs (c, (scratch, (piece, (last, (rows, tt))))) f (c, (free, (piece, (last, (rows', tt)))))
+    ReadsPiece c scratch.now piece.now last rows.now f free.now rows'.now
 
 -- is_over may answer r
 abbrev pub TellsPanelOver : PanelCheck → Bool → Type 0
-TellsPanelOver c r = over_reads.Learnt tt (c, tt) r (c, tt)
+TellsPanelOver c r = r ≡ is_over c
 
 -- what a call with buffers that are long enough does to them: of the piece its first bytes are taken, those of "one line at a time", so
 -- that only the last of them may be an LF; a row goes to the front of the buffer for rows, and its later bytes keep their contents. What
@@ -83,7 +82,7 @@ LongEnough scratch rows = (81 ≤ length scratch) × (160 ≤ length rows)
 pub data RowsRead (text : List ℕ) (c : PanelCheck) : (left scratch bytes : List ℕ) (d : PanelCheck) → Type 0 where
   none : (scratch : List ℕ) → RowsRead text c text scratch [] c
   read : {left before bytes : List ℕ} {d : PanelCheck} → RowsRead text c left before bytes d
-      → (κs : Lfts 3) (scratch free piece : Bor (List ℕ)) (last : Bool) (rows rows' : Bor (List ℕ)) (f : PieceRead) (rest : List ℕ)
+      → (κs : Lfts 3) (scratch free : MutBor (List ℕ)) (piece : Bor (List ℕ)) (last : Bool) (rows rows' : MutBor (List ℕ)) (f : PieceRead) (rest : List ℕ)
       → take d.held scratch.now ≡ take d.held before → piece.now ++ rest ≡ left → (last ≡ true → rest ≡ [])
       → ReadsPanel κs d scratch free piece last rows rows' f
       → RowsRead text c (drop f.took piece.now ++ rest) free.now (bytes ++ take f.wrote rows'.now) f.check
@@ -91,7 +90,7 @@ pub data RowsRead (text : List ℕ) (c : PanelCheck) : (left scratch bytes : Lis
 -- so many calls on a check, none of them after its end, each with buffers that are long enough and with a byte or the end of the text
 pub data CallsOn : PanelCheck → (calls : ℕ) → Type 0 where
   none : {c : PanelCheck} → CallsOn c 0
-  read : {c : PanelCheck} {n : ℕ} (κs : Lfts 3) (scratch free piece : Bor (List ℕ)) (last : Bool) (rows rows' : Bor (List ℕ))
+  read : {c : PanelCheck} {n : ℕ} (κs : Lfts 3) (scratch free : MutBor (List ℕ)) (piece : Bor (List ℕ)) (last : Bool) (rows rows' : MutBor (List ℕ))
       (f : PieceRead)
       → TellsPanelOver c false → LongEnough scratch.now rows.now → (length piece.now ≡ 0 → last ≡ true)
       → ReadsPanel κs c scratch free piece last rows rows' f → CallsOn f.check n → CallsOn c (suc n)
@@ -105,10 +104,10 @@ pub record EveryPanel : Type 0 where
   pub same : (s : Settings) (text : List ℕ) → length text ≤ 65536
       → job_listing (capacity_of s) (panel_job s text) ≡ job_listing (capacity_of s) (job_at feed_unit s text)
   -- any call answers, on any check whatever
-  pub read : (κs : Lfts 3) (c : PanelCheck) (scratch free piece : Bor (List ℕ)) (last : Bool) (rows rows' : Bor (List ℕ)) (f : PieceRead)
+  pub read : (κs : Lfts 3) (c : PanelCheck) (scratch free : MutBor (List ℕ)) (piece : Bor (List ℕ)) (last : Bool) (rows rows' : MutBor (List ℕ)) (f : PieceRead)
       → ReadsPanel κs c scratch free piece last rows rows' f → LongEnough scratch.now rows.now
       → Reading piece.now rows.now rows'.now f
-  pub short : (κs : Lfts 3) (c : PanelCheck) (scratch free piece : Bor (List ℕ)) (last : Bool) (rows rows' : Bor (List ℕ)) (f : PieceRead)
+  pub short : (κs : Lfts 3) (c : PanelCheck) (scratch free : MutBor (List ℕ)) (piece : Bor (List ℕ)) (last : Bool) (rows rows' : MutBor (List ℕ)) (f : PieceRead)
       → ReadsPanel κs c scratch free piece last rows rows' f → (length scratch.now < 81) ⊎ (length rows.now < 160)
       → Unread c scratch.now free.now rows.now rows'.now f
   -- whoever hands a text to a check that began at a fresh machine, however it is cut, gets the panel's listing, to the byte

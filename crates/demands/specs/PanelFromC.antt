@@ -1,20 +1,20 @@
 -- 02 §5, the check on the operator panel from C: in 19 words of a bench, as a check has them, and in 10 of how far it has come. The text
 -- comes in pieces, cut anywhere, and is never held whole.
 use Rattle.std.specs.Prelude.{◌≡◌, true, List, [], ◌++◌, ℕ, suc, ◌≤◌, ℤ, pos, length, take, drop}
-use Rattle.std.specs.Borrow.{Bor}
+use Rattle.std.specs.Borrow.{Bor, MutBor}
 use contract.Lifetimes.{Lfts}
 use Rattle.settings.specs.declared.Settings.{Settings}
 use Rattle.bench.specs.declared.Bench.{Bench}
 use Rattle.machine.specs.declared.Answered.{Answered}
 use Rattle.history.specs.CallContracts.{Makes}
-use Rattle.encoding.specs.Words.{encode_of, count_of, at}
+use Rattle.encoding.specs.Words.{encode_of, count_of, at, settings_of}
 use Rattle.calls.specs.Calls.{answer_number}
+use Rattle.calls.specs.computed.Calls.{tells, bench_made}
 use Rattle.panel.specs.declared.PanelCheck.{PanelCheck}
 use Rattle.panel.specs.declared.PieceRead.{PieceRead}
 use Rattle.cpanel.specs.Words.{encode_panel, panel_in}
 use Rattle.cpanel.specs.Read.{told_number, is_last, ToldRead, tells_read, unchanged}
-use Rattle.cpanel.proofs.vz_panel_start.Reads as start_reads
-use Rattle.cpanel.proofs.vz_panel_read.Reads as read_reads
+use Rattle.cpanel.specs.computed.Panel.{start_panel, TellsRead}
 use Rattle.demands.specs.Bench.{BenchSound}
 use Rattle.demands.specs.Panel.{StartsPanel, ReadsPanel, LongEnough}
 
@@ -24,10 +24,9 @@ pub record TellsPanel (c : PanelCheck) (ws ps : List ℤ) : Type 0 where
   pub panel : ps ≡ encode_panel c
 
 -- a start may answer n
-abbrev pub StartsPanelFromC : Lfts 2 → (words words' panel panel' : Bor (List ℤ)) (p w xlo xhi ylo yhi n : ℤ) → Type 0
+abbrev pub StartsPanelFromC : Lfts 2 → (words words' panel panel' : MutBor (List ℤ)) (p w xlo xhi ylo yhi n : ℤ) → Type 0
 StartsPanelFromC κs words words' panel panel' p w xlo xhi ylo yhi n =
-    start_reads.Learnt κs (words, (panel, (p, (w, (xlo, (xhi, (ylo, (yhi, tt)))))))) n
-    (words', (panel', (p, (w, (xlo, (xhi, (ylo, (yhi, tt))))))))
+    let s = settings_of p w xlo xhi ylo yhi in (tells n words'.now ≡ bench_made s) × (panel'.now ≡ start_panel s)
 
 -- the words of a panel's check that begins at the bench of the machine that a make answers
 abbrev pub StartedPanel : Settings → (n : ℤ) (ws ps : List ℤ) → Type 0
@@ -37,29 +36,27 @@ StartedPanel s n ws ps =
 -- what a call is lent, and what that is after it, and its answer; a piece is lent for reading
 pub record ReadCall : Type 0 where
   pub lifetimes : Lfts 7
-  pub words : Bor (List ℤ)
-  pub words' : Bor (List ℤ)
-  pub panel : Bor (List ℤ)
-  pub panel' : Bor (List ℤ)
-  pub scratch : Bor (List ℕ)
-  pub free : Bor (List ℕ)
+  pub words : MutBor (List ℤ)
+  pub words' : MutBor (List ℤ)
+  pub panel : MutBor (List ℤ)
+  pub panel' : MutBor (List ℤ)
+  pub scratch : MutBor (List ℕ)
+  pub free : MutBor (List ℕ)
   pub piece : Bor (List ℕ)
   pub last : ℤ
-  pub rows : Bor (List ℕ)
-  pub rows' : Bor (List ℕ)
-  pub took : Bor ℕ
-  pub took' : Bor ℕ
-  pub written : Bor ℕ
-  pub written' : Bor ℕ
+  pub rows : MutBor (List ℕ)
+  pub rows' : MutBor (List ℕ)
+  pub took : MutBor ℕ
+  pub took' : MutBor ℕ
+  pub written : MutBor ℕ
+  pub written' : MutBor ℕ
   pub answer : ℤ
 
 -- a call may do so
 abbrev pub ReadsFromC : ReadCall → Type 0
 ReadsFromC f =
-    read_reads.Learnt f.lifetimes
-    (f.words, (f.panel, (f.scratch, (f.piece, (f.last, (f.rows, (f.took, (f.written, tt))))))))
-    f.answer
-    (f.words', (f.panel', (f.free, (f.piece, (f.last, (f.rows', (f.took', (f.written', tt))))))))
+    TellsRead f.words.now f.panel.now f.scratch.now f.piece.now f.last f.rows.now
+    (tells_read f.answer f.took'.now f.written'.now f.words'.now f.panel'.now f.free.now f.rows'.now)
 
 -- what it told; and that all is as it was, but for this answer
 abbrev pub read_told : ReadCall → ToldRead

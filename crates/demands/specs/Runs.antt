@@ -1,6 +1,6 @@
 -- Demand 2, runs: "A run does every tick that its budget, buffer and block allow.", for every sound record, made-up ones too.
 use Rattle.std.specs.Prelude.{◌≡◌, true, false, ◌≢◌, ◌↔◌, List, [], ◌∷◌, ℕ, ◌+◌, ◌-◌, ◌*◌, ◌/◌, ◌≤◌, ◌<◌, min, max, length, take, drop}
-use Rattle.std.specs.Borrow.{Bor}
+use Rattle.std.specs.Borrow.{MutBor}
 use contract.Lifetimes.{Lfts}
 use Rattle.plane.specs.Byte.{cycles_marked}
 use Rattle.work.specs.declared.Work.{Work}
@@ -80,5 +80,5 @@ pub record RunOf (m : Machine) (budget : ℕ) (old new : List ℕ) (r : Ran) : T
 
 abbrev pub EveryRun : Type 0
 EveryRun =
-    (κs : Lfts 1) (m : Machine) (budget : ℕ) (out out' : Bor (List ℕ)) (r : Ran) → Runs κs m budget out out' r → Sound m
+    (κs : Lfts 1) (m : Machine) (budget : ℕ) (out out' : MutBor (List ℕ)) (r : Ran) → Runs κs m budget out out' r → Sound m
     → RunOf m budget out.now out'.now r

@@ -1,6 +1,6 @@
 -- Demand 2, texts: "A job text means the blocks that document 01 gives it."
 use Rattle.std.specs.Prelude.{◌≡◌, Bool, true, false, ◌↔◌, List, [], ◌∷◌, ◌++◌, ℕ, ◌+◌, ◌≤◌, ◌<◌, pos, length, take, drop}
-use Rattle.std.specs.Borrow.{Bor}
+use Rattle.std.specs.Borrow.{Bor, MutBor}
 use contract.Lifetimes.{Lfts}
 use Rattle.plane.specs.declared.point.Point.{Point}
 use Rattle.settings.specs.declared.Settings.{Settings}
@@ -19,9 +19,7 @@ use Rattle.job.specs.Job.{Made, End}
 use Rattle.job.specs.computed.Job.{job_at}
 use Rattle.job.specs.Listing.{job_listing}
 use Rattle.job.specs.Check.{is_over}
-use Rattle.job.proofs.Check.start.Reads as start_reads
-use Rattle.job.proofs.Check.fill.Reads as fill_reads
-use Rattle.job.proofs.Check.is_over.Reads as over_reads
+use Rattle.job.specs.computed.Check.{Fills, check_from}
 use Rattle.demands.specs.Asked.{FirstNo, AllYes}
 use Rattle.demands.specs.Bench.{settings_questions}
 use Rattle.demands.specs.Questions.{line_block, makes_block, text_questions}
@@ -76,20 +74,20 @@ pub record FrontOf (whole bytes : List ℕ) (EndTold : Type 0) : Type 0 where
 
 -- the check of a job that begins at this machine
 abbrev pub Starts : Bench → Check → Type 0
-Starts m c = start_reads.Learnt tt (m, tt) c (m, tt)
+Starts m c = c ≡ check_from m
 
 -- fill, lent the text and the buffer out, may return f and leave the buffer as out'
-abbrev pub FillsCheck : Lfts 2 → Check → (text out out' : Bor (List ℕ)) → Filled → Type 0
-FillsCheck κs c text out out' f = fill_reads.Learnt κs (c, (text, (out, tt))) f (c, (text, (out', tt)))
+abbrev pub FillsCheck : Lfts 2 → Check → (text : Bor (List ℕ)) (out out' : MutBor (List ℕ)) → Filled → Type 0
+FillsCheck κs c text out out' f = Fills c text.now out.now f out'.now
 
 -- is_over may answer r
 abbrev pub TellsOver : Check → Bool → Type 0
-TellsOver c r = over_reads.Learnt tt (c, tt) r (c, tt)
+TellsOver c r = r ≡ is_over c
 
 -- fills of one text, one after the other, into buffers of any length and contents, lead from the check c to d and hand these bytes out
 pub data RowsOut (text : List ℕ) (c : Check) : List ℕ → Check → Type 0 where
   none : RowsOut text c [] c
-  fill : {bytes : List ℕ} {d : Check} → RowsOut text c bytes d → (κs : Lfts 2) (lent out out' : Bor (List ℕ)) (f : Filled)
+  fill : {bytes : List ℕ} {d : Check} → RowsOut text c bytes d → (κs : Lfts 2) (lent : Bor (List ℕ)) (out out' : MutBor (List ℕ)) (f : Filled)
       → lent.now ≡ text → FillsCheck κs d lent out out' f → RowsOut text c (bytes ++ take f.len out'.now) f.check
 
 pub record EveryText : Type 0 where
@@ -98,7 +96,7 @@ pub record EveryText : Type 0 where
       → TextMeans u s text made end ↔ (job_at u s text ≡ record { blocks = made; end = end })
   pub counts : (s : Settings) (text : List ℕ) → EveryCounted (job_at feed_unit s text).blocks
   -- 160 bytes hold every row
-  pub fill : (κs : Lfts 2) (c : Check) (text out out' : Bor (List ℕ)) (f : Filled) → FillsCheck κs c text out out' f
+  pub fill : (κs : Lfts 2) (c : Check) (text : Bor (List ℕ)) (out out' : MutBor (List ℕ)) (f : Filled) → FillsCheck κs c text out out' f
       → Filling 160 out.now out'.now f.len (is_over f.check)
   -- "The check program": whoever fills a check that began at a fresh machine gets the listing of this job, to the byte
   pub listing : (s : Settings) → AllYes (settings_questions s) → (c : Check) → Starts (fresh_of s) c → (text bytes : List ℕ) (d : Check)

@@ -1,7 +1,7 @@
 -- Demand 2, the tick bytes of a job: the answers of its ticks. "Each block is loaded once the one before has ended, remainder kept.": so
 -- none ever waits, and the stream works at the bench alone; the bytes are those of the machine's own calls.
 use Rattle.std.specs.Prelude.{◌≡◌, true, List, [], ◌∷◌, ◌++◌, ℕ, length, take}
-use Rattle.std.specs.Borrow.{Bor}
+use Rattle.std.specs.Borrow.{Bor, MutBor}
 use contract.Lifetimes.{Lfts}
 use Rattle.plane.specs.Byte.{cycles_marked}
 use Rattle.block.specs.Block.{block_width}
@@ -20,8 +20,7 @@ use Rattle.job.specs.computed.Job.{job_at}
 use Rattle.job.specs.Listing.{all_cycles, all_ticks}
 use Rattle.stream.specs.declared.Stream.{Stream}
 use Rattle.stream.specs.declared.Filled.{Filled}
-use Rattle.stream.proofs.Stream.start.Reads as start_reads
-use Rattle.stream.proofs.Stream.fill.Reads as fill_reads
+use Rattle.stream.specs.computed.Stream.{Fills, stream_from}
 use Rattle.demands.specs.Asked.{AllYes}
 use Rattle.demands.specs.Bench.{settings_questions}
 use Rattle.demands.specs.Runs.{TicksTo, ticks_left}
@@ -46,19 +45,19 @@ pub record JobBytes (s : Settings) (text bytes : List ℕ) : Type 0 where
 -- ---- as they are handed out
 
 abbrev pub StartsStream : Bench → Stream → Type 0
-StartsStream m t = start_reads.Learnt tt (m, tt) t (m, tt)
+StartsStream m t = t ≡ stream_from m
 
-abbrev pub FillsStream : Lfts 2 → Stream → (text out out' : Bor (List ℕ)) → Filled → Type 0
-FillsStream κs t text out out' f = fill_reads.Learnt κs (t, (text, (out, tt))) f (t, (text, (out', tt)))
+abbrev pub FillsStream : Lfts 2 → Stream → (text : Bor (List ℕ)) (out out' : MutBor (List ℕ)) → Filled → Type 0
+FillsStream κs t text out out' f = Fills t text.now out.now f out'.now
 
 -- fills of one text, one after the other, into buffers of any length and contents, lead from the stream t to u and hand these bytes out
 pub data BytesOut (text : List ℕ) (t : Stream) : List ℕ → Stream → Type 0 where
   none : BytesOut text t [] t
-  fill : {bytes : List ℕ} {u : Stream} → BytesOut text t bytes u → (κs : Lfts 2) (lent out out' : Bor (List ℕ)) (f : Filled)
+  fill : {bytes : List ℕ} {u : Stream} → BytesOut text t bytes u → (κs : Lfts 2) (lent : Bor (List ℕ)) (out out' : MutBor (List ℕ)) (f : Filled)
       → lent.now ≡ text → FillsStream κs u lent out out' f → BytesOut text t (bytes ++ take f.len out'.now) f.stream
 
 pub record EveryTickByte : Type 0 where
-  pub fill : (κs : Lfts 2) (t : Stream) (text out out' : Bor (List ℕ)) (f : Filled) → FillsStream κs t text out out' f
+  pub fill : (κs : Lfts 2) (t : Stream) (text : Bor (List ℕ)) (out out' : MutBor (List ℕ)) (f : Filled) → FillsStream κs t text out out' f
       → Filling 1 out.now out'.now f.len f.stream.over
   -- whoever fills a stream that began at a fresh machine's bench gets the tick bytes of the text's job
   pub bytes : (s : Settings) → AllYes (settings_questions s) → (t : Stream) → StartsStream (fresh_bench s) t → (text : List ℕ)

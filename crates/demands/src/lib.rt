@@ -1,4 +1,6 @@
 // What the user demands, claim by claim. The functions do nothing: each contract is a claim, so that the check names it as proved.
+#![tactic(auto)]
+
 ghost use Rattle.history.specs.Demand.{EveryHistory, EveryList};
 ghost use Rattle.history.specs.Figure.{EveryFigure};
 ghost use Rattle.history.specs.Look.{EveryLook, EveryLookOn, EveryLookSum};

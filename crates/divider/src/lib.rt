@@ -1,6 +1,8 @@
 // The feed divider (document 01, "Feed divider"; source 000): a DDA integrator whose overflows are the cycles of the block in work.
 // Document 02 §2 charges cycles, so the capacity at which it overflows is the due of the next cycle, its charge times q0; a tick adds 1,000
 // times the feed number.
+#![tactic(auto)]
+
 ghost use Rattle.std.specs.Prelude.{◌≡◌, ◌+◌, ◌*◌, ◌^◌, ◌≤◌, ◌<◌};
 ghost use Rattle.divider.specs.Divider.{fed_of};
 ghost use Rattle.divider.specs.computed.Divider.{gone_of, last_tick, ending_of};

@@ -2,8 +2,6 @@
 -- the mark, the remainder, and eight words for what is in work. They are words 0 to 18 of a machine's record, and all that a check keeps.
 use Rattle.std.specs.Prelude.{Bool, true, false, cond, List, [], ◌∷◌, ℕ, ◌^◌, ltb, get_or, ℤ, pos, negsuc, neg_ℤ}
 use Rattle.circle.specs.declared.plane.Turn.{Turn}
-use Rattle.line.specs.declared.line.Line.{Line}
-use Rattle.arc.specs.declared.arc.Arc.{Arc}
 use Rattle.work.specs.declared.Work.{Work}
 use Rattle.settings.specs.declared.Settings.{Settings}
 use Rattle.bench.specs.declared.Bench.{Bench}

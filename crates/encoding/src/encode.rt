@@ -13,7 +13,7 @@ use work::Work;
 pub const ABI: i64 = 4;
 
 // Words 1 to 10: the settings, the position, the mark and the remainder.
-#[derive(Drop)]
+#[derive(Clone, Copy)]
 pub struct Head {
     pub p: i64,
     pub w: i64,

@@ -1,4 +1,6 @@
 // A run to the end of the block in work, without its bytes: the charges left give the ticks, so none is walked.
+#![tactic(auto)]
+
 ghost use Rattle.std.specs.Prelude.{◌≡◌, true};
 ghost use Rattle.bench.specs.computed.Bench.{sound_of};
 ghost use Rattle.finish.specs.computed.Finish.{works_of, finish_of};

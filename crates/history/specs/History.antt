@@ -1,7 +1,7 @@
 -- 01, The book of a history: "Each further call gets the record that the one before returned. Runs are lent buffers of any length and
 -- contents."
 use Rattle.std.specs.Prelude.{List, [], ◌∷◌, ℕ, length, take}
-use Rattle.std.specs.Borrow.{Bor}
+use Rattle.std.specs.Borrow.{MutBor}
 use contract.Lifetimes.{Lfts}
 use Rattle.block.specs.declared.Block.{Block}
 use Rattle.machine.specs.declared.Machine.{Machine}
@@ -20,7 +20,7 @@ pub data History : Machine → List Call → List Reply → Machine → Type 0 w
       → History m (Call.load b ∷ cs) (answer_reply r.answer ∷ rs) m'
   ticks : {m m' : Machine} {cs : List Call} {rs : List Reply} (r : Ticked) → Ticks m r → History r.machine cs rs m'
       → History m (Call.tick ∷ cs) (tick_reply r.tick ∷ rs) m'
-  runs : {m m' : Machine} {cs : List Call} {rs : List Reply} (κs : Lfts 1) (budget : ℕ) (out out' : Bor (List ℕ)) (r : Ran)
+  runs : {m m' : Machine} {cs : List Call} {rs : List Reply} (κs : Lfts 1) (budget : ℕ) (out out' : MutBor (List ℕ)) (r : Ran)
       → Runs κs m budget out out' r → History r.machine cs rs m'
       → History m (Call.run budget (length out.now) ∷ cs) (run_reply r.report r.ticks (take r.ticks out'.now) ∷ rs) m'
   holds : {m m' : Machine} {cs : List Call} {rs : List Reply} (r : Answered) → Holds m r → History r.machine cs rs m'

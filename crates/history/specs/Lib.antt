@@ -1,4 +1,4 @@
--- To be believed, in this order: Agree, Reply, CallContracts, History, Demand, Figure, Look. Proved: laws.
+-- To be believed, in this order: Agree, Reply, CallContracts, History, Demand, Figure, Look. Proved: proofs/laws.
 pub mod Agree
 pub mod Reply
 pub mod CallContracts
@@ -6,4 +6,3 @@ pub mod History
 pub mod Demand
 pub mod Figure
 pub mod Look
-pub mod laws

@@ -1,1 +1,2 @@
 // Each call on a sound record leaves a sound one: laws of the machine's definitions; no code.
+#![tactic(auto)]

@@ -1,5 +1,7 @@
 // The check of a job text: its listing, handed out piece by piece into a lent buffer. How far it has come goes in by value and comes back
 // by value.
+#![tactic(auto)]
+
 ghost use Rattle.std.specs.Prelude.{◌≡◌, true, false};
 ghost use Rattle.row.specs.computed.Buffer.{has_room};
 ghost use Rattle.job.specs.computed.Check.{Steps, Fills, check_from, last_of};
@@ -11,14 +13,14 @@ use row::lines::has_room;
 use tally::{Tally, next_place};
 
 // What comes next: the header, the row of the next text line, or nothing any more.
-#[derive(Drop)]
+#[derive(Clone, Copy)]
 pub enum Stage {
     Header,
     Lines,
     Over,
 }
 
-#[derive(Drop)]
+#[derive(Clone, Copy)]
 pub struct Check {
     pub stage: Stage,
     // Where the next line begins in the text.

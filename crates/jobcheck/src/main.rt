@@ -1,13 +1,17 @@
 // The check program: reads a job on standard input and writes its listing (document 01, "The check program").
+#![tactic(auto)]
+
 ghost use Rattle.settings.specs.Settings.{standard_settings};
 ghost use Rattle.job.specs.computed.Check.{Lists};
 
 use bench::Bench;
-use input::Input;
+use input::{Input, fail, unwritten};
 use job::Check;
-use libc::{STDIN_FILENO, STDOUT_FILENO};
 use reader::LONGEST_TEXT;
 use settings::standard;
+use std::io;
+use std::io::{Stdout, Write};
+use std::process::ExitCode;
 
 // What the check has to hand out is the listing, whatever the text.
 fn start() -> Check
@@ -18,33 +22,34 @@ fn start() -> Check
     Check::start(bench)
 }
 
-// Writes the listing in pieces. What fill promises makes them the listing, each in its turn. Answers whether all of it was written. For a
+// Writes the listing in pieces. What fill promises makes them the listing, each in its turn. All of it is written, or it is an error. For a
 // larger buffer the system would have to find memory first, which takes longer than the calls that it saves.
-fn write_listing(text: &[u8]) -> bool {
+fn write_listing(to: &mut Stdout, text: &[u8]) -> io::Result<()> {
     let mut out = [0u8; 8192];
     let mut check = start();
     while !check.is_over() {
         let filled = check.fill(text, &mut out);
         let piece = filled.len;
-        if !io::write_all(STDOUT_FILENO, &out[..piece]) {
-            return false;
-        }
+        to.write_all(&out[..piece])?;
         check = filled.check;
     }
-    true
+    Ok(())
 }
 
 // A job that cannot be read to its end has no listing: half of it is another job.
-fn main() {
+fn main(rt: HostRuntime) -> ExitCode {
     // One byte more than a text may have, so that a longer one is seen to be longer.
     let mut text = [0u8; LONGEST_TEXT + 1];
-    let input = input::read(STDIN_FILENO, &mut text);
+    let input = input::read(&mut rt.stdin(), &mut text);
     match input {
-        Input::Bytes(len) => {
-            if !write_listing(&text[..len]) {
-                os::fail(b"jobcheck: cannot write the listing");
-            }
-        }
-        Input::Failed => os::fail(b"jobcheck: cannot read the job"),
+        Input::Bytes(len) => match write_listing(&mut rt.stdout(), &text[..len]) {
+            Ok(()) => ExitCode::SUCCESS,
+            Err(error) => unwritten(
+                &mut rt.stderr(),
+                b"jobcheck: cannot write the listing",
+                error,
+            ),
+        },
+        Input::Failed(error) => fail(&mut rt.stderr(), b"jobcheck: cannot read the job", error),
     }
 }

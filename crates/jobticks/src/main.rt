@@ -1,12 +1,16 @@
 // Reads a job on standard input and writes the tick bytes of its blocks, one after the other; at a refused line it ends.
+#![tactic(auto)]
+
 ghost use Rattle.settings.specs.Settings.{standard_settings};
 ghost use Rattle.stream.specs.computed.Stream.{Tells};
 
 use bench::Bench;
-use input::Input;
-use libc::{STDIN_FILENO, STDOUT_FILENO};
+use input::{Input, fail, unwritten};
 use reader::LONGEST_TEXT;
 use settings::standard;
+use std::io;
+use std::io::{Stdout, Write};
+use std::process::ExitCode;
 use stream::Stream;
 
 // What the stream has to hand out are the tick bytes, whatever the text.
@@ -18,32 +22,33 @@ fn start() -> Stream
     Stream::start(bench)
 }
 
-// Writes them in large pieces. What fill promises makes the pieces the tick bytes, each in its turn. Answers whether all were written.
-fn write_ticks(text: &[u8]) -> bool {
-    let mut out = io::large_buffer();
+// Writes them in large pieces. What fill promises makes the pieces the tick bytes, each in its turn. All are written, or it is an error.
+fn write_ticks(to: &mut Stdout, text: &[u8]) -> io::Result<()> {
+    let mut out = [0u8; 65_536];
     let mut stream = start();
     while !stream.over {
         let filled = stream.fill(text, &mut out);
         let piece = filled.len;
-        if !io::write_all(STDOUT_FILENO, &out[..piece]) {
-            return false;
-        }
+        to.write_all(&out[..piece])?;
         stream = filled.stream;
     }
-    true
+    Ok(())
 }
 
 // A job that cannot be read to its end has no tick bytes: half of it is another job.
-fn main() {
+fn main(rt: HostRuntime) -> ExitCode {
     // One byte more than a text may have, so that a longer one is seen to be longer.
     let mut text = [0u8; LONGEST_TEXT + 1];
-    let input = input::read(STDIN_FILENO, &mut text);
+    let input = input::read(&mut rt.stdin(), &mut text);
     match input {
-        Input::Bytes(len) => {
-            if !write_ticks(&text[..len]) {
-                os::fail(b"jobticks: cannot write the tick bytes");
-            }
-        }
-        Input::Failed => os::fail(b"jobticks: cannot read the job"),
+        Input::Bytes(len) => match write_ticks(&mut rt.stdout(), &text[..len]) {
+            Ok(()) => ExitCode::SUCCESS,
+            Err(error) => unwritten(
+                &mut rt.stderr(),
+                b"jobticks: cannot write the tick bytes",
+                error,
+            ),
+        },
+        Input::Failed(error) => fail(&mut rt.stderr(), b"jobticks: cannot read the job", error),
     }
 }

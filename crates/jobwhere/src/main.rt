@@ -3,6 +3,8 @@
 // `specs/computed/Row.antt` names. `1 1 1 720 2225 5 11 0 1 0 0 1000 2000 5000000 2237 12`: block 1, of line 1, is in work after 720 of
 // its ticks, with 2,225 cycles left, at X 5 Y 11, remainder 0; it is a line from (0, 0) to (1000, 2000), f 5,000,000, and 12 of its 2,237
 // cycles are done.
+#![tactic(auto)]
+
 ghost use Rattle.std.specs.Prelude.{◌≡◌};
 ghost use Rattle.settings.specs.Settings.{standard_settings};
 ghost use Rattle.seek.specs.computed.Seek.{seek_of};
@@ -14,13 +16,15 @@ ghost use Rattle.jobwhere.specs.computed.Row.{standing_of, row_with};
 
 use encoding::encode::{WorkWords, work_words};
 use encoding::number::{refusal, word};
-use input::Input;
-use libc::{STDIN_FILENO, STDOUT_FILENO};
+use input::{Input, fail, refuse, unwritten};
 use reader::LONGEST_TEXT;
 use row::lines::Place;
 use row::numbers;
 use seek::{Found, Sought, seek};
 use settings::standard;
+use std::io;
+use std::io::{ErrorKind, Write};
+use std::process::ExitCode;
 
 const LF: u8 = 10;
 
@@ -177,36 +181,42 @@ fn lay(out: &mut [u8], s: Sought) -> Place
     numbers::line(out, 0, &numbers)
 }
 
-// Answers whether all of it was written.
-fn write_row(s: Sought) -> bool {
+// All of it is written, or it is an error.
+fn write_row(to: &mut io::Stdout, s: Sought) -> io::Result<()> {
     // 22 bytes for each of 16 numbers, and once more.
     let mut out = [0u8; 374];
     let place = lay(&mut out, s);
     match place {
-        Place::Next(len) => io::write_all(STDOUT_FILENO, &out[..len]),
-        Place::NoRoom => false,
+        Place::Next(len) => to.write_all(&out[..len]),
+        Place::NoRoom => Err(io::Error::from(ErrorKind::WriteZero)),
     }
 }
 
-fn answer(text: &[u8]) {
+fn answer(rt: &HostRuntime, text: &[u8]) -> ExitCode {
     let asked = ask(text);
     match asked {
-        Asked::Ticks(ticks, at) => {
-            if !write_row(find(&text[at..], ticks)) {
-                os::fail(b"jobwhere: cannot write where the job stands");
-            }
-        }
-        Asked::Nothing => os::fail(b"jobwhere: the first line is no number of ticks"),
+        Asked::Ticks(ticks, at) => match write_row(&mut rt.stdout(), find(&text[at..], ticks)) {
+            Ok(()) => ExitCode::SUCCESS,
+            Err(error) => unwritten(
+                &mut rt.stderr(),
+                b"jobwhere: cannot write where the job stands",
+                error,
+            ),
+        },
+        Asked::Nothing => refuse(
+            &mut rt.stderr(),
+            b"jobwhere: the first line is no number of ticks: Success",
+        ),
     }
 }
 
 // A job that cannot be read to its end is another job.
-fn main() {
+fn main(rt: HostRuntime) -> ExitCode {
     // The digits, their LF, and one byte more than a text may have, so that a longer one is seen to be longer.
     let mut text = [0u8; MOST_DIGITS + 1 + LONGEST_TEXT + 1];
-    let input = input::read(STDIN_FILENO, &mut text);
+    let input = input::read(&mut rt.stdin(), &mut text);
     match input {
-        Input::Bytes(len) => answer(&text[..len]),
-        Input::Failed => os::fail(b"jobwhere: cannot read the job"),
+        Input::Bytes(len) => answer(&rt, &text[..len]),
+        Input::Failed(error) => fail(&mut rt.stderr(), b"jobwhere: cannot read the job", error),
     }
 }

@@ -7,7 +7,7 @@ use crate::letter::{Letter, index};
 use crate::word::{Word, Words};
 
 // Sets of letters: the bit of a letter is 2 to the power of its index.
-#[derive(Drop)]
+#[derive(Clone, Copy)]
 pub struct Found {
     // The letters that stand.
     pub stands: u64,

@@ -4,7 +4,7 @@ ghost use Rattle.letters.specs.Letter.{takes_sign, takes_point};
 ghost use Rattle.letters.specs.computed.Scan.{letter_of};
 ghost use Rattle.letters.specs.computed.Found.{index_of};
 
-#[derive(Drop)]
+#[derive(Clone, Copy)]
 pub enum Letter {
     N,
     G,

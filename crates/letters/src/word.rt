@@ -5,7 +5,7 @@ ghost use Rattle.letters.specs.computed.Scan.{no_words};
 
 // A letter's word. The magnitude is in thousandths for a letter that takes a point (below 10^10), else a plain number (below 10^7).
 // A letter that does not stand, or stands twice, has no value: plus 0.
-#[derive(Drop)]
+#[derive(Clone, Copy)]
 pub struct Word {
     pub stands: bool,
     pub twice: bool,
@@ -13,7 +13,7 @@ pub struct Word {
     pub magnitude: u64,
 }
 
-#[derive(Drop)]
+#[derive(Clone, Copy)]
 pub struct Words {
     pub n: Word,
     pub g: Word,

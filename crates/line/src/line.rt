@@ -15,7 +15,7 @@ use plane::point::{Point, between};
 use plane::pulse::{Pulses, code, pulsed};
 use whole::sign::{SignMagnitude, join};
 
-#[derive(Drop)]
+#[derive(Clone, Copy)]
 pub struct Line {
     pub start: Point,
     pub end: Point,

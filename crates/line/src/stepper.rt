@@ -12,7 +12,7 @@ use plane::pulse::{Pulses, code};
 use whole::sign::SignMagnitude;
 
 // One axis. Its register is kept as the room that is left in it, so that one comparison decides both the pulse and the next room.
-#[derive(Drop)]
+#[derive(Clone, Copy)]
 pub struct Track {
     // Magnitude of the axis's increment.
     pub increment: u64,
@@ -29,7 +29,7 @@ pub struct Tracked {
     pub code: u8,
 }
 
-#[derive(Drop)]
+#[derive(Clone, Copy)]
 pub struct Stepper {
     // The line's q.
     pub capacity: u64,

@@ -1,5 +1,7 @@
 // Where the machine will be: the record after so many ticks, and the pulses on the way there. No tick is done: the block in work gives its
 // point by closed forms, and so does each one that waits, so the cost grows with the blocks on the way and not with the ticks.
+#![tactic(auto)]
+
 ghost use Rattle.std.specs.Prelude.{◌≡◌, true};
 ghost use Rattle.plane.specs.Point.{Near};
 ghost use Rattle.finish.specs.computed.Finish.{works_of};

@@ -1,5 +1,7 @@
 // The machine of a cutting table: the bench, which works one block at a time, and behind it the blocks that wait. It goes in by value and
 // comes back by value from each call, beside the answer. A call tests the record first, so that any record whatever gets an answer.
+#![tactic(auto)]
+
 ghost use Rattle.std.specs.Prelude.{◌≡◌, true, length};
 ghost use Rattle.run.specs.computed.Run.{written};
 ghost use Rattle.bench.specs.declared.Answer.TheVariants.{Done, Refused};
@@ -21,7 +23,7 @@ use work::{Work, begin, is_nothing};
 
 pub mod waiting;
 
-#[derive(Drop)]
+#[derive(Clone, Copy)]
 pub struct Machine {
     // 01's machine: settings, position, mark, remainder and what is in work.
     pub bench: Bench,

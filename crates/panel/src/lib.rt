@@ -2,6 +2,8 @@
 // line that is being read a lent scratch buffer holds the first 81 bytes, enough to see that a line has more than 80. How far the check has
 // come goes in by value and comes back by value. Between two calls the caller keeps the scratch buffer's first `held` bytes; its others are
 // free, and all of them once a line is whole.
+#![tactic(auto)]
+
 ghost use Rattle.std.specs.Prelude.{◌≡◌, true, min, ◌≤◌, length};
 ghost use Rattle.row.specs.computed.Buffer.{has_room};
 ghost use Rattle.job.specs.computed.Check.{totals};
@@ -19,7 +21,7 @@ use words::text::end_of_line;
 // One byte more than a line may have, so that a longer one is seen to be longer.
 pub const SCRATCH: usize = LONGEST_LINE as usize + 1;
 
-#[derive(Drop)]
+#[derive(Clone, Copy)]
 pub struct PanelCheck {
     pub stage: Stage,
     // Bytes that the text may still have: 65,536 at first.

@@ -1,15 +1,20 @@
 // The check of a job as the operator panel does it: standard input, never held whole, to the panel's listing (document 02 §5).
+#![tactic(auto)]
+
 ghost use Rattle.std.specs.Prelude.{◌≡◌, ◌≤◌, length};
 ghost use Rattle.settings.specs.Settings.{standard_settings};
 ghost use Rattle.panel.specs.computed.Rest.{Lists};
 ghost use Rattle.panelcheck.specs.computed.Rows.{used_up, ReadsBehind, RoomLeft};
+ghost use Rattle.std.specs.Process.{exit_status};
 
 use bench::Bench;
-use input::{Input, read_some};
-use libc::{STDERR_FILENO, STDIN_FILENO, STDOUT_FILENO};
+use input::{ENDED_BY_PIPE, Input, read_some};
 use panel::{PanelCheck, PieceRead, SCRATCH};
 use row::lines::has_room;
 use settings::standard;
+use std::io;
+use std::io::{Error, ErrorKind, Stderr, Stdin, Stdout, Write};
+use std::process::ExitCode;
 
 // Bytes that are read at once, and bytes of rows that are written at once. With the scratch buffer and the stack all is less than 4 KiB:
 // tests/panel adds it up.
@@ -21,7 +26,7 @@ const ROWS: usize = 1792;
 #[derive(Drop)]
 enum Rows {
     Waiting(usize),
-    Unwritten,
+    Unwritten(Error),
 }
 
 // How a listing ended: with its last row, or before it.
@@ -29,7 +34,7 @@ enum Rows {
 enum Listing {
     Whole,
     Unread,
-    Unwritten,
+    Unwritten(Error),
 }
 
 // What the check has to hand out is the panel's listing, whatever the text.
@@ -66,22 +71,21 @@ fn read(
     check.read(scratch, piece, last, &mut rows[waiting..])
 }
 
-// Writes all of the bytes, or stops at the first write that takes nothing or fails. (`io::write_all` has a buffer of 4 KiB of its own.)
-fn put(fd: i32, bytes: &[u8]) -> bool {
+// Writes all of the bytes, or stops at the first write that takes nothing or fails.
+fn put<W: Write>(to: &mut W, bytes: &[u8]) -> io::Result<()> {
     let mut done = 0;
     while done < bytes.len() {
-        let took = libc::write(fd, &bytes[done..]);
-        let more = io::count(took, &bytes[done..]);
+        let more = to.write(&bytes[done..])?;
         if more == 0 {
-            return false;
+            return Err(Error::from(ErrorKind::WriteZero));
         }
         done += more;
     }
-    true
+    Ok(())
 }
 
 // Writes the rows that wait, if all shall go or no further one surely fits.
-fn write(rows: &[u8], waiting: usize, all: bool) -> Rows
+fn write(to: &mut Stdout, rows: &[u8], waiting: usize, all: bool) -> Rows
     requires { waiting ≤ length rows.now }
     ensures { RoomLeft result (length rows.now) }
 {
@@ -90,15 +94,15 @@ fn write(rows: &[u8], waiting: usize, all: bool) -> Rows
             return Rows::Waiting(waiting);
         }
     }
-    if put(STDOUT_FILENO, &rows[..waiting]) {
-        return Rows::Waiting(0);
+    match put(to, &rows[..waiting]) {
+        Ok(()) => Rows::Waiting(0),
+        Err(error) => Rows::Unwritten(error),
     }
-    Rows::Unwritten
 }
 
 // Hands the text to the check piece after piece, and writes the rows, all of them before it gets the next piece, for which it may have to
 // wait. What the check promises makes them the listing, each in its turn.
-fn list() -> Listing {
+fn list(from_in: &mut Stdin, to: &mut Stdout) -> Listing {
     let mut scratch = [0u8; SCRATCH];
     let mut piece = [0u8; PIECE];
     let mut rows = [0u8; ROWS];
@@ -109,7 +113,7 @@ fn list() -> Listing {
     let mut waiting = 0;
     while !check.is_over() {
         if used_up(from, len, last) {
-            let input = read_some(STDIN_FILENO, &mut piece);
+            let input = read_some(from_in, &mut piece);
             let Input::Bytes(got) = input else {
                 return Listing::Unread;
             };
@@ -128,29 +132,42 @@ fn list() -> Listing {
         );
         check = done.check;
         from += done.took;
-        let written = write(&rows, waiting + done.wrote, from == len);
-        let Rows::Waiting(still) = written else {
-            return Listing::Unwritten;
-        };
-        waiting = still;
+        let written = write(to, &rows, waiting + done.wrote, from == len);
+        match written {
+            Rows::Unwritten(error) => return Listing::Unwritten(error),
+            Rows::Waiting(still) => {
+                waiting = still;
+            }
+        }
     }
-    let written = write(&rows, waiting, true);
+    let written = write(to, &rows, waiting, true);
     match written {
         Rows::Waiting(_) => Listing::Whole,
-        Rows::Unwritten => Listing::Unwritten,
+        Rows::Unwritten(error) => Listing::Unwritten(error),
     }
 }
 
-// A job that cannot be read to its end has no last row: half of it is another job. (`os::fail` would tell errno too, and takes 4 KiB.)
-fn main() {
-    let listing = list();
+// Why a listing is not whole; the status says nothing of it.
+fn tell(to: &mut Stderr, why: &[u8]) -> ExitCode
+    ensures { exit_status result ≡ 0 }
+{
+    // Where it cannot be written, nothing is left to tell it to.
+    let _ = put(to, why);
+    ExitCode::SUCCESS
+}
+
+// A job that cannot be read to its end has no last row: half of it is another job. (`input::fail` would tell the error too, and takes more
+// memory than there is.)
+fn main(rt: HostRuntime) -> ExitCode {
+    let listing = list(&mut rt.stdin(), &mut rt.stdout());
     match listing {
-        Listing::Whole => {}
-        Listing::Unread => {
-            put(STDERR_FILENO, b"panelcheck: cannot read the job\n");
-        }
-        Listing::Unwritten => {
-            put(STDERR_FILENO, b"panelcheck: cannot write the listing\n");
+        Listing::Whole => ExitCode::SUCCESS,
+        Listing::Unread => tell(&mut rt.stderr(), b"panelcheck: cannot read the job\n"),
+        Listing::Unwritten(error) => {
+            if error.kind() == ErrorKind::BrokenPipe {
+                return ExitCode::from(ENDED_BY_PIPE);
+            }
+            tell(&mut rt.stderr(), b"panelcheck: cannot write the listing\n")
         }
     }
 }

@@ -6,7 +6,7 @@ ghost use Rattle.plane.specs.Point.{equal_point};
 use whole::equal::equal;
 use whole::sign::SignMagnitude;
 
-#[derive(Drop)]
+#[derive(Clone, Copy)]
 pub struct Point {
     pub x: i64,
     pub y: i64,

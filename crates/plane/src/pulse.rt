@@ -7,7 +7,7 @@ ghost use Rattle.plane.specs.Pulse.{pulse_of, code_of, shifted_of, change_of, pu
 use crate::point::Point;
 
 // The codes of a tick byte: 0 none, 1 plus, 2 minus.
-#[derive(Drop)]
+#[derive(Clone, Copy)]
 pub struct Pulses {
     pub x: u8,
     pub y: u8,

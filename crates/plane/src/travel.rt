@@ -4,13 +4,13 @@ ghost use Rattle.plane.specs.Travel.{within_of, inside_of};
 
 use crate::point::Point;
 
-#[derive(Drop)]
+#[derive(Clone, Copy)]
 pub struct Range {
     pub lower: i64,
     pub upper: i64,
 }
 
-#[derive(Drop)]
+#[derive(Clone, Copy)]
 pub struct Travel {
     pub x: Range,
     pub y: Range,

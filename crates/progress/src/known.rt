@@ -10,7 +10,7 @@ use plane::travel::{Range, within};
 use reader::{Feed, Motion, Reader, motion_of};
 use whole::sign::part;
 
-#[derive(Drop)]
+#[derive(Clone, Copy)]
 pub struct Known {
     pub motion: i64,
     pub feed: i64,

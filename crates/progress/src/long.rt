@@ -7,7 +7,7 @@ use encoding::number::{count, is_count, word};
 use plane::travel::{Range, within};
 use row::long::LongCount;
 
-#[derive(Drop)]
+#[derive(Clone, Copy)]
 pub struct LongWords {
     pub low: i64,
     pub high: i64,

@@ -13,7 +13,7 @@ use job::{Check, Stage};
 use plane::travel::{Range, within};
 use tally::Tally;
 
-#[derive(Drop)]
+#[derive(Clone, Copy)]
 pub struct Progress {
     pub stage: i64,
     pub at: i64,

@@ -1,5 +1,7 @@
 // The blocks that wait behind the one in work: sixteen places, the first to be cut first.
 // What the places from `len` on hold is free, and no answer depends on it.
+#![tactic(auto)]
+
 ghost use Rattle.std.specs.Prelude.{◌≡◌, true, ◌&&◌, eqb, ◌≤◌, ◌<◌};
 ghost use Rattle.plane.specs.Travel.{inside_of};
 ghost use Rattle.plane.specs.computed.Travel.{Wide};
@@ -15,14 +17,14 @@ use plane::point::Point;
 use plane::travel::Travel;
 
 // A block as its load was given it, with its root: so its cycles can be counted again at every call without taking one.
-#[derive(Drop)]
+#[derive(Clone, Copy)]
 pub struct Waiting {
     pub block: Block,
     // Of a line its cycles, of an arc those of a quarter turn.
     pub root: u64,
 }
 
-#[derive(Drop)]
+#[derive(Clone, Copy)]
 pub struct Queue {
     pub blocks: [Waiting; 16],
     // How many wait: 0 to 16.

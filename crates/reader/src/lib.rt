@@ -1,4 +1,6 @@
 // The reader of a job text: what one line asks of the machine.
+#![tactic(auto)]
+
 ghost use Rattle.std.specs.Prelude.{◌≡◌};
 ghost use Rattle.reader.specs.Reader.{unknown};
 
@@ -17,21 +19,21 @@ pub const LONGEST_TEXT: usize = 65_536;
 pub const LONGEST_LINE: u64 = 80;
 
 // The G and the F that are known.
-#[derive(Drop)]
+#[derive(Clone, Copy)]
 pub enum Motion {
     Unknown,
     Line,
     Arc(Turn),
 }
 
-#[derive(Drop)]
+#[derive(Clone, Copy)]
 pub enum Feed {
     Unknown,
     // Millimetres per minute, and thousandths of one.
     Known(u32, u32),
 }
 
-#[derive(Drop)]
+#[derive(Clone, Copy)]
 pub struct Reader {
     pub motion: Motion,
     pub feed: Feed,

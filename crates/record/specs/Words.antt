@@ -1,6 +1,6 @@
 -- The record as words, signed numbers of 64 bits: 0 to 18 the number of the layout and the bench, 19 the root of the block in work, 20 the
 -- cycles still to do, 21 how many blocks wait, and from 22 on seven words for each of these, the first to be cut first.
-use Rattle.std.specs.Prelude.{List, [], ◌∷◌, ◌++◌, ℕ, ◌+◌, ℤ, pos, length, drop}
+use Rattle.std.specs.Prelude.{List, [], ◌∷◌, ◌++◌, ℕ, ℤ, pos, length, drop}
 use Rattle.block.specs.declared.Path.{Path}
 use Rattle.queue.specs.declared.Waiting.{Waiting}
 use Rattle.queue.specs.Queue.{places}

@@ -24,7 +24,7 @@ pub struct Figures {
 }
 
 // The seven words of a block that waits: its kind, its end, its feed number, its centre seen from its start, its root.
-#[derive(Drop)]
+#[derive(Clone, Copy)]
 pub struct BlockWords {
     pub kind: i64,
     pub x: i64,

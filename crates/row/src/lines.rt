@@ -21,7 +21,7 @@ pub enum Kind {
 }
 
 // The place after the line, or that there is no room for every line from the given place on.
-#[derive(Drop)]
+#[derive(Clone, Copy)]
 pub enum Place {
     Next(usize),
     NoRoom,

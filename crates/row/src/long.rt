@@ -6,7 +6,7 @@ ghost use Rattle.row.specs.computed.Long.{low_limit, none_counted, plus_of};
 pub const LOW_LIMIT: u64 = 1_000_000_000_000_000_000;
 
 // low + high × 10^18.
-#[derive(Drop)]
+#[derive(Clone, Copy)]
 pub struct LongCount {
     // Below 10^18 in every count that began at 0.
     pub low: u64,

@@ -14,7 +14,7 @@ pub struct Gap {
 }
 
 // A due beside what a tick adds: so many whole ticks, and what is over.
-#[derive(Drop)]
+#[derive(Clone, Copy)]
 pub struct Divided {
     pub whole: u64,
     pub over: u64,

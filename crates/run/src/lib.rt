@@ -1,5 +1,7 @@
 // The ticks of a run, over what is in work. A run does not go tick by tick: it clears its bytes at once, since most ticks have byte 0, and
 // then goes from cycle to cycle and writes the bytes of those.
+#![tactic(auto)]
+
 ghost use Rattle.std.specs.Prelude.{◌≡◌, min, length};
 ghost use Rattle.run.specs.computed.Run.{strip_of, ran_of, written, SoundIn};
 

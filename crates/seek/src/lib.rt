@@ -1,5 +1,7 @@
 // Where a whole job stands after so many ticks: the block in work then, its line and cycles left, and the record. No tick is done: the
 // blocks before it are finished, and the record after some of its own ticks is found, by closed forms. The cost grows with the text alone.
+#![tactic(auto)]
+
 ghost use Rattle.std.specs.Prelude.{◌≡◌, true};
 ghost use Rattle.bench.specs.computed.Bench.{sound_of};
 ghost use Rattle.seek.specs.computed.Seek.{seek_of};
@@ -14,14 +16,14 @@ use settings::Settings;
 use work::rest::work_left;
 
 // What the ticks come to: a block is in work, or all blocks have ended, or a line before that is refused, with the number of the question.
-#[derive(Drop)]
+#[derive(Clone, Copy)]
 pub enum Found {
     InWork,
     Over,
     Refused(u64),
 }
 
-#[derive(Drop)]
+#[derive(Clone, Copy)]
 pub struct Sought {
     pub found: Found,
     // The block in work, counted from 1; else how many blocks have ended.

@@ -1,11 +1,13 @@
 // The settings of a table, and questions 1 to 3.
+#![tactic(auto)]
+
 ghost use Rattle.std.specs.Prelude.{◌≡◌};
 ghost use Rattle.settings.specs.Settings.{capacity_of, standard_settings};
 ghost use Rattle.settings.specs.computed.Settings.{in_range, axis_right, travel_right, settings_no};
 
 use plane::travel::{Range, Travel, within};
 
-#[derive(Drop)]
+#[derive(Clone, Copy)]
 pub struct Settings {
     // p, pulses per millimetre
     pub scale: u64,

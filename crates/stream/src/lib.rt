@@ -1,4 +1,6 @@
 // The tick bytes of a job text, handed out piece by piece into a lent buffer. How far it has come goes in by value and comes back by value.
+#![tactic(auto)]
+
 ghost use Rattle.std.specs.Prelude.{◌≡◌, false};
 ghost use Rattle.stream.specs.computed.Stream.{NextLine, Fills, is_refused, stream_from, ended_of, at_machine};
 

@@ -1,5 +1,7 @@
 // The listing of a job, line by line: document 01, "The check program". What has been read so far is a tally, which goes in by value and
 // comes back by value beside the row, as the machine does. Blocks are not walked: each is finished by the closed forms.
+#![tactic(auto)]
+
 ghost use Rattle.std.specs.Prelude.{◌≡◌, true, ◌≤◌, length};
 ghost use Rattle.bench.specs.computed.Bench.{sound_of};
 ghost use Rattle.words.specs.computed.Scan.{first_line};
@@ -24,7 +26,7 @@ const MOST_BLOCK_CYCLES: u64 = 8_000_000;
 // nor more ticks.
 pub const MOST_BLOCK_TICKS: u64 = 11_280_000_000_000_000;
 
-#[derive(Drop)]
+#[derive(Clone, Copy)]
 pub struct Tally {
     pub reader: Reader,
     // Idle between lines: each block has ended before the next line is read.

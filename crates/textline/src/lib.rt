@@ -1,5 +1,7 @@
 // One line of a job, read at a machine: what it leaves out is that of the place where the next block starts, and its block may wait. The
 // reader and the record go in and come back beside the answer.
+#![tactic(auto)]
+
 ghost use Rattle.std.specs.Prelude.{◌≡◌};
 ghost use Rattle.machine.specs.computed.Calls.{load_of};
 ghost use Rattle.reader.specs.declared.text_line.Read.TheVariants.{Refused};

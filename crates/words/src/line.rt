@@ -15,7 +15,7 @@ use letters::word::Words;
 use letters::{found, letter, word};
 
 // The answer about a line. Where it is not formed, the rest is as of an empty line.
-#[derive(Drop)]
+#[derive(Clone, Copy)]
 pub struct Line {
     // Question 32: "Is it made of zero or more words ..?"
     pub formed: bool,

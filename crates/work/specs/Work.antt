@@ -1,9 +1,7 @@
 -- 01, Job and machine: "What is in work is nothing, a line with its numbers or an arc with its numbers."
 use Rattle.std.specs.Prelude.{Bool, true, false, ℕ, ◌-◌, ◌*◌}
 use Rattle.plane.specs.declared.point.Point.{Point}
-use Rattle.line.specs.declared.line.Line.{Line}
 use Rattle.line.specs.Line.{line_of}
-use Rattle.arc.specs.declared.arc.Arc.{Arc}
 use Rattle.arc.specs.computed.Arc.{arc_cycles}
 use Rattle.arc.specs.computed.Charge.{arc_charges_in}
 use Rattle.circle.specs.Charge.{straight}

@@ -1,5 +1,7 @@
 // What is in work: nothing, a line or an arc; its test, and what a working tick does to it.
 // The functions take the few numbers that they need and no machine, so that a tick copies little.
+#![tactic(auto)]
+
 ghost use Rattle.std.specs.Prelude.{◌≡◌, true, ◌≤◌};
 ghost use Rattle.plane.specs.Travel.{inside_of};
 ghost use Rattle.plane.specs.computed.Travel.{Wide};
@@ -23,7 +25,7 @@ use plane::travel::{Travel, inside};
 
 pub mod rest;
 
-#[derive(Drop)]
+#[derive(Clone, Copy)]
 pub enum Work {
     Nothing,
     Line(Line),

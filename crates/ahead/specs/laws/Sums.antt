@@ -32,8 +32,8 @@ use Rattle.bench.specs.computed.Calls.{ticks, working, tick_of}
 use Rattle.bench.specs.laws.Sound.{sound}
 use Rattle.invariant.specs.laws.Calls.{tick_keeps}
 use Rattle.book.specs.Sums.{pulses_in}
-use Rattle.book.specs.laws.Byte.{sent_one, onward}
-use Rattle.book.specs.laws.Way.{arc_way}
+use Rattle.book.proofs.laws.Byte.{sent_one, onward}
+use Rattle.book.proofs.laws.Way.{arc_way}
 use Rattle.ahead.specs.computed.Ahead.{in_front, ticking_of}
 
 -- these bytes lead from one point to the other

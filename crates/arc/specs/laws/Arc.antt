@@ -14,7 +14,7 @@ use Rattle.circle.specs.Circle.{Circle}
 use Rattle.circle.specs.Next.{ToVisit}
 use Rattle.circle.specs.computed.Step.{after_of}
 use Rattle.circle.specs.computed.Count.{circle_cycles}
-use Rattle.circle.specs.laws.Walk.{walk_of, walk_to, ends, ends_cycles}
+use Rattle.circle.proofs.laws.Walk.{walk_of, walk_to, ends, ends_cycles}
 use Rattle.clearance.specs.declared.Room.{Room}
 use Rattle.clearance.specs.computed.Inside.{Inside as InRoom}
 use Rattle.clearance.specs.computed.Travel.{stays_inside}

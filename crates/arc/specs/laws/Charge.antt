@@ -14,7 +14,7 @@ use Rattle.plane.specs.Pulse.{change_of, pulses_between}
 use Rattle.circle.specs.declared.plane.Offset.{Offset}
 use Rattle.circle.specs.computed.Step.{step_of, after_of}
 use Rattle.circle.specs.computed.Charge.{charge_between, step_charge, move_charge}
-use Rattle.circle.specs.laws.Charge.{charge_range, move_charge_lem}
+use Rattle.circle.proofs.laws.Charge.{charge_range, move_charge_lem}
 use Rattle.charges.specs.computed.Sum.{charges_in, charges_of}
 use Rattle.charges.specs.laws.Sum.{charges_range, charges_closed, charges_front, charges_bound}
 use Rattle.charges.specs.laws.Paid.{Grows, Most, most_unique, charges_grow}

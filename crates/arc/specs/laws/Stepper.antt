@@ -18,8 +18,8 @@ use Rattle.circle.specs.declared.step.Move.TheVariants.{Rise, Slant, Fall}
 use Rattle.circle.specs.declared.step.Stepper.{Stepper}
 use Rattle.circle.specs.computed.Step.{next_quadrant, step_of, after_of}
 use Rattle.circle.specs.computed.Stepper.{enter_of, leave_of, move_of, advanced_by, step_pulse, Entered}
-use Rattle.circle.specs.laws.Circle.{on_circle_small}
-use Rattle.circle.specs.laws.Stepper.{entered_bounds, enter_entered, advance_enter, advance_turn, leave_enter, pulse_enter}
+use Rattle.circle.proofs.laws.Circle.{on_circle_small}
+use Rattle.circle.proofs.laws.Stepper.{entered_bounds, enter_entered, advance_enter, advance_turn, leave_enter, pulse_enter}
 use Rattle.arc.specs.declared.arc.Arc.{Arc}
 use Rattle.arc.specs.declared.stepper.Tracer.{Tracer}
 use Rattle.arc.specs.computed.Centre.{Reach}

@@ -10,9 +10,9 @@ use Rattle.circle.specs.declared.plane.Offset.{Offset}
 use Rattle.circle.specs.declared.plane.Turn.{Turn}
 use Rattle.circle.specs.Circle.{on_circle}
 use Rattle.circle.specs.computed.Step.{step_of, after_of}
-use Rattle.circle.specs.laws.Circle.{on_circle_to}
-use Rattle.circle.specs.laws.Next.{step_close}
-use Rattle.circle.specs.laws.Stepper.{after_on}
+use Rattle.circle.proofs.laws.Circle.{on_circle_to}
+use Rattle.circle.proofs.laws.Next.{step_close}
+use Rattle.circle.proofs.laws.Stepper.{after_on}
 use Rattle.arc.specs.declared.arc.Arc.{Arc}
 use Rattle.arc.specs.Centre.{seen_from}
 use Rattle.arc.specs.computed.Arc.{arc_cycles}

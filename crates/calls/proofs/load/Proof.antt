@@ -1,52 +1,39 @@
 -- `load` is right because on words of a sound record it asks and takes as the machine's load, from the place of the definition.
 use borrow.Author.Rules.{rules}
-use borrow.Author.Tests.{not-true, not-false}
-use mathlib.Core.Path.{◌≡◌, sym, ◌∙◌}
-use mathlib.Core.Bool.{true}
+use mathlib.Core.Path.{sym, ◌∙◌}
 use mir.Syntax.{w64}
 use mir.Val.{SFits}
 use mir.Facts.{to_z-of_z}
-use Rattle.record.specs.computed.Words.{sound_words}
 use Rattle.calls.specs.laws.Told.{told_refused, load_told}
 use Rattle.calls.specs.laws.Load.{sixteen_most}
 use Rattle.calls.proofs.load.Statement.{statement}
 use Rattle.calls.proofs.load.Tie as tie
 
--- what the test has shown
-sound : (c : tie.Else1) → sound_words c.before.before.before.args.words.now ≡ true
-sound c = sym c.before.is-sound.ensures ∙ not-false _ c.if1.false
+is_sound-requires : tie.Need-is_sound-requires
+is_sound-requires c κs = search rules
 
-is_sound_requires : tie.Need-is-sound-requires
-is_sound_requires c κs = search rules
+returns-then-not-is_sound : tie.Need-returns-then-not-is_sound
+returns-then-not-is_sound c = told_refused _ (sym c.is_sound.ensures ∙ c.if-not-is_sound.true) _
+
+bench_in-k-requires : tie.Need-bench_in-k-requires
+bench_in-k-requires c κs = search rules
+
+start_in-start-requires : tie.Need-start_in-start-requires
+start_in-start-requires c κs = sixteen_most _ (sym c.is_sound.ensures ∙ c.if-not-is_sound.false)
+
+load_sound-answer-requires : tie.Need-load_sound-answer-requires
+load_sound-answer-requires c κs =
+    record { sound = (sym c.is_sound.ensures ∙ c.if-not-is_sound.false); bench_is = c.bench_in-k.ensures; start_is = c.start_in-start.ensures }
+
+answer_number-requires : tie.Need-answer_number-requires
+answer_number-requires c κs = search rules
 
 returns : tie.Need-returns
-returns c = told_refused _ (sym c.before.is-sound.ensures ∙ not-true _ c.if1.true) _
-
-bench_in_requires : tie.Need-bench-in-requires
-bench_in_requires c κs = search rules
-
-start_in_requires : tie.Need-start-in-requires
-start_in_requires c κs = sixteen_most _ (sound c.before.before.before)
-
-load_sound_requires : tie.Need-load-sound-requires
-load_sound_requires c κs =
-    let p = c.before in
-    let k = p.before.before in
-    record { sound = sound k.before.before; bench_is = k.bench-in.ensures; start_is = p.start_in.ensures }
-
-answer_number_requires : tie.Need-answer-number-requires
-answer_number_requires c κs = search rules
-
-returns_2 : tie.Need-returns-2
-returns_2 c =
-    let n : SFits w64 c.answer-number.result = search rules in
-    let a = c.before in
-    let e = a.before.before.before.before.before.before in
+returns c =
+    let n : SFits w64 c.answer_number.result = search rules in
     simp to_z-of_z
-    (simp c.answer-number.ensures
-    (load_told _ (sound e) e.before.before.before.args.b a.load-sound.ensures.0 a.load-sound.ensures.1))
+    (simp c.answer_number.ensures
+    (load_told _ (sym c.is_sound.ensures ∙ c.if-not-is_sound.false) c.args.b c.load_sound-answer.ensures.0 c.load_sound-answer.ensures.1))
 
 pub load_spec : {M : Type 1} → statement M
-load_spec =
-    tie.close
-    (tie.spec is_sound_requires returns bench_in_requires start_in_requires load_sound_requires answer_number_requires returns_2)
+load_spec = tie.close (tie.spec is_sound-requires returns-then-not-is_sound bench_in-k-requires start_in-start-requires load_sound-answer-requires answer_number-requires returns)

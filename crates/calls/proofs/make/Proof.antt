@@ -8,64 +8,48 @@ use Rattle.calls.specs.laws.Make.{make_told}
 use Rattle.calls.proofs.make.Statement.{statement}
 use Rattle.calls.proofs.make.Tie as tie
 
-seen_requires : tie.Need-seen-requires
-seen_requires c κs = search rules
+seen-requires : tie.Need-seen-requires
+seen-requires c κs = search rules
 
-settings_requires : tie.Need-settings-requires
-settings_requires c κs = search rules
+settings-requires : tie.Need-settings-requires
+settings-requires c κs = search rules
 
-make_requires : tie.Need-make-requires
-make_requires c κs = search rules
+make-a-requires : tie.Need-make-a-requires
+make-a-requires c κs = search rules
 
-encode_requires : tie.Need-encode-requires
-encode_requires c κs = search rules
+encode-front-requires : tie.Need-encode-front-requires
+encode-front-requires c κs = search rules
 
-lay_requires : tie.Need-lay-requires
-lay_requires c κs = search rules
+lay-requires : tie.Need-lay-requires
+lay-requires c κs = search rules
 
-element_set_of_words : tie.Need-element-set-of-words
-element_set_of_words c = search rules
+bounds-words-19 : tie.Need-bounds-words-19
+bounds-words-19 c = search rules
 
-element_set_of_words_2 : tie.Need-element-set-of-words-2
-element_set_of_words_2 c = search rules
+bounds-words-20 : tie.Need-bounds-words-20
+bounds-words-20 c = search rules
 
-element_set_of_words_3 : tie.Need-element-set-of-words-3
-element_set_of_words_3 c = search rules
+bounds-words-21 : tie.Need-bounds-words-21
+bounds-words-21 c = search rules
 
-answer_number_requires : tie.Need-answer-number-requires
-answer_number_requires c κs = search rules
+answer_number-requires : tie.Need-answer_number-requires
+answer_number-requires c κs = search rules
 
 returns : tie.Need-returns
 returns c =
-    let r : SFits w64 c.answer-number.result = search rules in
-    let f = c.before.before.before.before in
-    let a = f.before in
-    let l = a.before.before in
-    let s = l.before.before.before in
-    let g = s.args in
-    let p = s.ranges.p in
-    let w = s.ranges.w in
-    let xlo = s.ranges.xlo in
-    let xhi = s.ranges.xhi in
-    let ylo = s.ranges.ylo in
-    let yhi = s.ranges.yhi in
-    let given = simp to_z-of_z at a.before.settings.ensures in
-    let made = simp given at a.make.ensures in
+    let r : SFits w64 c.answer_number.result = search rules in
+    let g = c.args in
+    let p = c.ranges.p in
+    let w = c.ranges.w in
+    let xlo = c.ranges.xlo in
+    let xhi = c.ranges.xhi in
+    let ylo = c.ranges.ylo in
+    let yhi = c.ranges.yhi in
+    let given = simp to_z-of_z at c.settings.ensures in
+    let made = simp given at c.make-a.ensures in
     simp to_z-of_z
-    (simp (c.answer-number.ensures, c.before.lay.ensures, f.encode.ensures)
-    (make_told g.words.now l.before.seen-arg2.given.0 (settings_of g.p g.w g.xlo g.xhi g.ylo g.yhi) made))
+    (simp (c.answer_number.ensures, c.lay.ensures, c.encode-front.ensures)
+    (make_told g.words.now c.seen-arg-2-1.given (settings_of g.p g.w g.xlo g.xhi g.ylo g.yhi) made))
 
 pub make_spec : {M : Type 1} → statement M
-make_spec =
-    tie.close
-    (tie.spec
-    seen_requires
-    settings_requires
-    make_requires
-    encode_requires
-    lay_requires
-    element_set_of_words
-    element_set_of_words_2
-    element_set_of_words_3
-    answer_number_requires
-    returns)
+make_spec = tie.close (tie.spec seen-requires settings-requires make-a-requires encode-front-requires lay-requires bounds-words-19 bounds-words-20 bounds-words-21 answer_number-requires returns)

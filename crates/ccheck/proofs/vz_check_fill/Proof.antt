@@ -1,9 +1,7 @@
 -- `vz_check_fill` is right because it fills only where the words are a check.
 use borrow.Author.Rules.{rules}
 use borrow.Author.Tests.{not-true, not-false}
-use mathlib.Core.Path.{◌≡◌, sym, ap, ◌∙◌}
-use mathlib.Core.Bool.{true}
-use Rattle.encoding.specs.computed.Words.{sound_words}
+use mathlib.Core.Path.{sym, ap, ◌∙◌}
 use Rattle.encoding.specs.Words.{mark_word}
 use Rattle.encoding.specs.laws.Number.{mark_fits, through}
 use Rattle.job.specs.Check.{is_over}
@@ -11,75 +9,53 @@ use Rattle.ccheck.specs.laws.Check.{fill_no_record, fill_no_progress, fill_rows}
 use Rattle.ccheck.proofs.vz_check_fill.Statement.{statement}
 use Rattle.ccheck.proofs.vz_check_fill.Tie as tie
 
--- what the first test has shown
-sound : (c : tie.Else1) → sound_words c.before.before.before.before.before.args.bench.now ≡ true
-sound c = sym c.before.is-sound.ensures ∙ not-false _ c.if1.false
+is_sound-requires : tie.Need-is_sound-requires
+is_sound-requires c κs = search rules
 
-is_sound_requires : tie.Need-is-sound-requires
-is_sound_requires c κs = search rules
+returns-then-not-is_sound : tie.Need-returns-then-not-is_sound
+returns-then-not-is_sound c = fill_no_record _ _ (sym c.is_sound.ensures ∙ c.if-not-is_sound.true)
+
+bench_read-m-requires : tie.Need-bench_read-m-requires
+bench_read-m-requires c κs = search rules
+
+decode_progress-p-requires : tie.Need-decode_progress-p-requires
+decode_progress-p-requires c κs = search rules
+
+returns-then-not-p : tie.Need-returns-then-not-p
+returns-then-not-p c =
+    fill_no_progress _ _ (rw c.bench_read-m.ensures at c.decode_progress-p.ensures)
+    (sym c.is_sound.ensures ∙ c.if-not-is_sound.false) (not-true _ c.if-not-p.true)
+
+fill-f-requires : tie.Need-fill-f-requires
+fill-f-requires c κs = search rules
+
+encode-after-requires : tie.Need-encode-after-requires
+encode-after-requires c κs = search rules
+
+encode_progress-come-requires : tie.Need-encode_progress-come-requires
+encode_progress-come-requires c κs = search rules
+
+is_over-requires : tie.Need-is_over-requires
+is_over-requires c κs = search rules
+
+mark_word-requires : tie.Need-mark_word-requires
+mark_word-requires c κs = search rules
+
+shape_of-out : tie.Need-shape_of-out
+shape_of-out c = search rules
 
 returns : tie.Need-returns
-returns c = fill_no_record _ _ (sym c.before.is-sound.ensures ∙ not-true _ c.if1.true)
-
-bench_read_requires : tie.Need-bench-read-requires
-bench_read_requires c κs = search rules
-
-decode_progress_requires : tie.Need-decode-progress-requires
-decode_progress_requires c κs = search rules
-
-returns_2 : tie.Need-returns-2
-returns_2 c =
-    let p = c.before.before.before in
-    fill_no_progress _ _ (rw p.before.before.bench_read.ensures at p.decode-progress.ensures)
-    (sound c.before.before.before.before.before.before.before) (not-true _ c.if2.true)
-
-fill_requires : tie.Need-fill-requires
-fill_requires c κs = search rules
-
-encode_requires : tie.Need-encode-requires
-encode_requires c κs = search rules
-
-encode_progress_requires : tie.Need-encode-progress-requires
-encode_progress_requires c κs = search rules
-
-is_over_requires : tie.Need-is-over-requires
-is_over_requires c κs = search rules
-
-mark_word_requires : tie.Need-mark-word-requires
-mark_word_requires c κs = search rules
-
-same_length : tie.Need-same-length
-same_length c = search rules
-
-returns_3 : tie.Need-returns-3
-returns_3 c =
-    let k = c.before.before.before.before.before.before.before.before.before in
-    let e2 = k.before.before in
-    let next = k.fill.result.check in
-    let p = e2.before.before.before in
-    fill_rows _ _ (rw p.before.before.bench_read.ensures at p.decode-progress.ensures)
-    (sound e2.before.before.before.before.before.before.before) (not-false _ e2.if2.false)
+returns c =
+    let next = c.fill-f.result.check in
+    fill_rows _ _ (rw c.bench_read-m.ensures at c.decode_progress-p.ensures)
+    (sym c.is_sound.ensures ∙ c.if-not-is_sound.false) (not-false _ c.if-not-p.false)
     (record {
       next = next;
-      fills = k.fill.ensures;
-      words = c.before.before.before.encode.ensures;
-      progress = c.before.before.encode-progress.ensures;
-      over = through (mark_fits (is_over next)) (c.mark-word.ensures ∙ ap mark_word c.before.is-over.ensures);
+      fills = c.fill-f.ensures;
+      words = c.encode-after.ensures;
+      progress = c.encode_progress-come.ensures;
+      over = through (mark_fits (is_over next)) (c.mark_word.ensures ∙ ap mark_word c.is_over.ensures);
     })
 
 pub vz_check_fill_spec : {M : Type 1} → statement M
-vz_check_fill_spec =
-    tie.close
-    (tie.spec
-    is_sound_requires
-    returns
-    bench_read_requires
-    decode_progress_requires
-    returns_2
-    fill_requires
-    encode_requires
-    encode_progress_requires
-    is_over_requires
-    mark_word_requires
-    same_length
-    returns_3)
+vz_check_fill_spec = tie.close (tie.spec is_sound-requires returns-then-not-is_sound bench_read-m-requires decode_progress-p-requires returns-then-not-p fill-f-requires encode-after-requires encode_progress-come-requires is_over-requires mark_word-requires shape_of-out returns)

@@ -19,15 +19,15 @@ use Rattle.circle.specs.Circle.{Circle, largest_n, on_circle}
 use Rattle.circle.specs.computed.Step.{place, seen, point_at, seen_place, step_of, after_of}
 use Rattle.circle.specs.computed.Count.{rank_of, onward, places_to, circle_cycles}
 use Rattle.circle.specs.Circle.{quarter_of}
-use Rattle.circle.specs.laws.Octant.{Octant, Axis, apart, apart_le, self_square, some, within_axis, nearest_axis}
-use Rattle.circle.specs.laws.Circle.{OnCircle, on_circle_to, radius_bound, seen_seen}
-use Rattle.circle.specs.laws.Code.{turned_small}
-use Rattle.circle.specs.laws.Next.{On, seen_form}
-use Rattle.circle.specs.laws.Rank.{After, more, wrap, rank_low, rank_above, place_lt, place_injective, move, rank_move}
-use Rattle.circle.specs.laws.Rank.{onward_lt, onward_ge}
-use Rattle.circle.specs.laws.Walk.{after_circle, quarter_axis, seen_step}
-use Rattle.circle.specs.laws.Count.{rank_bound}
-use Rattle.circle.specs.laws.Stepper.{after_on}
+use Rattle.circle.proofs.laws.Octant.{Octant, Axis, apart, apart_le, self_square, some, within_axis, nearest_axis}
+use Rattle.circle.proofs.laws.Circle.{OnCircle, on_circle_to, radius_bound, seen_seen}
+use Rattle.circle.proofs.laws.Code.{turned_small}
+use Rattle.circle.proofs.laws.Next.{On, seen_form}
+use Rattle.circle.proofs.laws.Rank.{After, more, wrap, rank_low, rank_above, place_lt, place_injective, move, rank_move}
+use Rattle.circle.proofs.laws.Rank.{onward_lt, onward_ge}
+use Rattle.circle.proofs.laws.Walk.{after_circle, quarter_axis, seen_step}
+use Rattle.circle.proofs.laws.Count.{rank_bound}
+use Rattle.circle.proofs.laws.Stepper.{after_on}
 use Rattle.charges.specs.declared.Span.{Span}
 use Rattle.charges.specs.declared.jump.Start.{Start}
 use Rattle.charges.specs.computed.Sum.{charges_in, toll_of, round_charges_of, charges_of, span_to}

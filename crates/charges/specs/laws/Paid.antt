@@ -13,9 +13,9 @@ use Rattle.circle.specs.declared.plane.Turn.{Turn}
 use Rattle.circle.specs.declared.quadrant.Place.{Place}
 use Rattle.circle.specs.Circle.{on_circle}
 use Rattle.circle.specs.computed.Step.{seen, point_at, after_of}
-use Rattle.circle.specs.laws.Octant.{unless}
-use Rattle.circle.specs.laws.Circle.{on_circle_to}
-use Rattle.circle.specs.laws.Stepper.{after_on}
+use Rattle.circle.proofs.laws.Octant.{unless}
+use Rattle.circle.proofs.laws.Circle.{on_circle_to}
+use Rattle.circle.proofs.laws.Stepper.{after_on}
 use Rattle.charges.specs.declared.jump.Arrived.{Arrived}
 use Rattle.charges.specs.declared.jump.Start.{Start}
 use Rattle.charges.specs.Paid.{most_paid}

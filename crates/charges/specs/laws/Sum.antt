@@ -15,15 +15,15 @@ use Rattle.circle.specs.computed.Step.{first_step, in_quadrant, next_place, step
 use Rattle.circle.specs.computed.Count.{rank_of, onward, places_to, circle_cycles}
 use Rattle.circle.specs.Circle.{quarter_of}
 use Rattle.circle.specs.computed.Charge.{step_charge}
-use Rattle.circle.specs.laws.Octant.{Axis, unique, under_axis, nearest_axis, some}
-use Rattle.circle.specs.laws.Step.{Step, step_is, stays, ahead}
-use Rattle.circle.specs.laws.Circle.{circle_some, on_circle_to, radius_bound}
-use Rattle.circle.specs.laws.Next.{On, seen_form}
-use Rattle.circle.specs.laws.Rank.{NextQuadrant, next, home, next_quadrant_lem, axis_point, rank_low, rank_above, rank_step}
-use Rattle.circle.specs.laws.Rank.{place_lt, place_injective, onward_lt, onward_ge, onward_range}
-use Rattle.circle.specs.laws.Walk.{after_front, after_circle, quarter_axis, seen_step, cycles_range, after_cycles}
-use Rattle.circle.specs.laws.Charge.{by_pulses, step_charge_lem, charge_range}
-use Rattle.circle.specs.laws.Count.{quarter_bound, ranked, rank_bound}
+use Rattle.circle.proofs.laws.Octant.{Axis, unique, under_axis, nearest_axis, some}
+use Rattle.circle.proofs.laws.Step.{Step, step_is, stays, ahead}
+use Rattle.circle.proofs.laws.Circle.{circle_some, on_circle_to, radius_bound}
+use Rattle.circle.proofs.laws.Next.{On, seen_form}
+use Rattle.circle.proofs.laws.Rank.{NextQuadrant, next, home, next_quadrant_lem, axis_point, rank_low, rank_above, rank_step}
+use Rattle.circle.proofs.laws.Rank.{place_lt, place_injective, onward_lt, onward_ge, onward_range}
+use Rattle.circle.proofs.laws.Walk.{after_front, after_circle, quarter_axis, seen_step, cycles_range, after_cycles}
+use Rattle.circle.proofs.laws.Charge.{by_pulses, step_charge_lem, charge_range}
+use Rattle.circle.proofs.laws.Count.{quarter_bound, ranked, rank_bound}
 use Rattle.charges.specs.computed.Sum.{charges_in, span_of, pulses_to, toll_of, round_charges_of, charges_of}
 use Rattle.charges.specs.computed.Asked.{Tolled}
 

@@ -6,19 +6,19 @@ use mir.Facts.{to_z-of_z}
 use Rattle.clearance.proofs.smaller.Statement.{statement}
 use Rattle.clearance.proofs.smaller.Tie as tie
 
-returns : tie.Need-returns
-returns c =
-    let f = c.before.ranges.a in
-    let g = c.before.ranges.b in
-    let e : le_z c.before.args.a c.before.args.b ≡ true = simp to_z-of_z at c.if1.true in
+returns-then-a-b : tie.Need-returns-then-a-b
+returns-then-a-b c =
+    let f = c.ranges.a in
+    let g = c.ranges.b in
+    let e : le_z c.args.a c.args.b ≡ true = simp to_z-of_z at c.if-a-b.true in
     simp (to_z-of_z, e)
 
-returns_2 : tie.Need-returns-2
-returns_2 c =
-    let f = c.before.ranges.a in
-    let g = c.before.ranges.b in
-    let e : le_z c.before.args.a c.before.args.b ≡ false = simp to_z-of_z at c.if1.false in
+returns-else-a-b : tie.Need-returns-else-a-b
+returns-else-a-b c =
+    let f = c.ranges.a in
+    let g = c.ranges.b in
+    let e : le_z c.args.a c.args.b ≡ false = simp to_z-of_z at c.if-a-b.false in
     simp (to_z-of_z, e)
 
 pub smaller_spec : {M : Type 1} → statement M
-smaller_spec = tie.close (tie.spec returns returns_2)
+smaller_spec = tie.close (tie.spec returns-then-a-b returns-else-a-b)

@@ -7,7 +7,7 @@ use Rattle.circle.specs.declared.plane.Offset.{Offset}
 use Rattle.circle.specs.declared.plane.Turn.{Turn}
 use Rattle.circle.specs.Circle.{largest_n, on_circle}
 use Rattle.circle.specs.computed.Step.{seen_place}
-use Rattle.circle.specs.laws.Count.{ranked}
+use Rattle.circle.proofs.laws.Count.{ranked}
 use Rattle.clearance.specs.computed.Travel.{reaches}
 use Rattle.clearance.specs.computed.Asked.{Crossing}
 

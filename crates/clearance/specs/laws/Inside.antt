@@ -26,11 +26,11 @@ use Rattle.circle.specs.Next.{Walk, ToVisit}
 use Rattle.circle.specs.computed.Step.{seen, quarter_turn, turned, point_at, next_place, seen_place, step_of, after_of}
 use Rattle.circle.specs.computed.Count.{onward, circle_cycles}
 use Rattle.circle.specs.Circle.{quarter_of}
-use Rattle.circle.specs.laws.Octant.{Axis, nearest_axis, axis_within, within_axis}
-use Rattle.circle.specs.laws.Circle.{circle_some, under_radius}
-use Rattle.circle.specs.laws.Next.{On, seen_form, step_circle}
-use Rattle.circle.specs.laws.Walk.{quarter_axis, seen_step, seen_injective, after_front, walk_to, walk_of, Ahead, at_end_lem, goes_on, ahead}
-use Rattle.circle.specs.laws.Walk.{cycles_range, ends, ends_cycles}
+use Rattle.circle.proofs.laws.Octant.{Axis, nearest_axis, axis_within, within_axis}
+use Rattle.circle.proofs.laws.Circle.{circle_some, under_radius}
+use Rattle.circle.proofs.laws.Next.{On, seen_form, step_circle}
+use Rattle.circle.proofs.laws.Walk.{quarter_axis, seen_step, seen_injective, after_front, walk_to, walk_of, Ahead, at_end_lem, goes_on, ahead}
+use Rattle.circle.proofs.laws.Walk.{cycles_range, ends, ends_cycles}
 use Rattle.clearance.specs.declared.Room.{Room}
 use Rattle.clearance.specs.computed.Inside.{Inside}
 use Rattle.clearance.specs.computed.Travel.{below_test, inside_test, reaches, axes_passed, axis_test, axes_test, way_inside, seen_room}

@@ -17,12 +17,12 @@ use Rattle.whole.specs.laws.Difference.{up, down}
 use Rattle.circle.specs.declared.quadrant.Place.{Place}
 use Rattle.circle.specs.computed.Step.{place, next_quadrant, next_place}
 use Rattle.circle.specs.computed.Count.{rank_in, rank_of, onward, places_to}
-use Rattle.circle.specs.laws.Octant.{Octant, Axis, Quadrant, unless, unique, falls, minor, some, under_axis}
-use Rattle.circle.specs.laws.Step.{stays, ahead}
-use Rattle.circle.specs.laws.Next.{On}
-use Rattle.circle.specs.laws.Rank.{rank_low, rank_above, rank_lt, rank_step, rank_injective, NextQuadrant, next, home, next_quadrant_lem}
-use Rattle.circle.specs.laws.Rank.{next_quadrant_lt, Move, within, onto, move, axis_point, on_next, place_lt, place_injective, rank_move}
-use Rattle.circle.specs.laws.Rank.{onward_lt, onward_ge, onward_range, onward_more, onward_full, Left, last, rest, left}
+use Rattle.circle.proofs.laws.Octant.{Octant, Axis, Quadrant, unless, unique, falls, minor, some, under_axis}
+use Rattle.circle.proofs.laws.Step.{stays, ahead}
+use Rattle.circle.proofs.laws.Next.{On}
+use Rattle.circle.proofs.laws.Rank.{rank_low, rank_above, rank_lt, rank_step, rank_injective, NextQuadrant, next, home, next_quadrant_lem}
+use Rattle.circle.proofs.laws.Rank.{next_quadrant_lt, Move, within, onto, move, axis_point, on_next, place_lt, place_injective, rank_move}
+use Rattle.circle.proofs.laws.Rank.{onward_lt, onward_ge, onward_range, onward_more, onward_full, Left, last, rest, left}
 use Rattle.clearance.specs.declared.Room.{Room}
 use Rattle.clearance.specs.computed.Travel.{axes_passed}
 

@@ -10,14 +10,14 @@ use Rattle.calls.specs.computed.Calls.{told_of}
 use Rattle.cmachine.proofs.vz_load_ccw.Statement.{statement}
 use Rattle.cmachine.proofs.vz_load_ccw.Tie as tie
 
-arc_requires : tie.Need-arc-requires
-arc_requires c κs = search rules
+arc-path-requires : tie.Need-arc-path-requires
+arc-path-requires c κs = search rules
 
-block_requires : tie.Need-block-requires
-block_requires c κs = search rules
+block-requires : tie.Need-block-requires
+block-requires c κs = search rules
 
-load_requires : tie.Need-load-requires
-load_requires c κs = search rules
+load-requires : tie.Need-load-requires
+load-requires c κs = search rules
 
 returns : tie.Need-returns
 returns c =
@@ -29,7 +29,7 @@ returns c =
     let i = s.ranges.i in
     let j = s.ranges.j in
     simp to_z-of_z (c.load.ensures ∙ ap (λ (b : Block). told_of s.args.words.now (WordCall.load b)) (simp
-    (to_z-of_z, c.before.before.before.arc.ensures) at c.before.block.ensures))
+    (to_z-of_z, c.arc-path.ensures) at c.block.ensures))
 
 pub vz_load_ccw_spec : {M : Type 1} → statement M
-vz_load_ccw_spec = tie.close (tie.spec arc_requires block_requires load_requires returns)
+vz_load_ccw_spec = tie.close (tie.spec arc-path-requires block-requires load-requires returns)

@@ -10,11 +10,11 @@ use Rattle.calls.specs.computed.Calls.{told_of}
 use Rattle.cmachine.proofs.vz_load_line.Statement.{statement}
 use Rattle.cmachine.proofs.vz_load_line.Tie as tie
 
-block_requires : tie.Need-block-requires
-block_requires c κs = search rules
+block-requires : tie.Need-block-requires
+block-requires c κs = search rules
 
-load_requires : tie.Need-load-requires
-load_requires c κs = search rules
+load-requires : tie.Need-load-requires
+load-requires c κs = search rules
 
 returns : tie.Need-returns
 returns c =
@@ -24,7 +24,7 @@ returns c =
     let y = s.ranges.y in
     let feed = s.ranges.feed in
     simp to_z-of_z (c.load.ensures ∙ ap (λ (b : Block). told_of s.args.words.now (WordCall.load b)) (simp to_z-of_z at
-    c.before.block.ensures))
+    c.block.ensures))
 
 pub vz_load_line_spec : {M : Type 1} → statement M
-vz_load_line_spec = tie.close (tie.spec block_requires load_requires returns)
+vz_load_line_spec = tie.close (tie.spec block-requires load-requires returns)

@@ -13,7 +13,7 @@ use Rattle.arc.specs.Arc.{arc_width}
 use Rattle.block.specs.declared.Block.{Block}
 use Rattle.block.specs.declared.Path.{Path}
 use Rattle.block.specs.Block.{arc_of, width_along, block_width}
-use Rattle.block.specs.laws.Begin.{offset_right_lem, square_some, square_most}
+use Rattle.block.proofs.laws.Begin.{offset_right_lem, square_some, square_most}
 use Rattle.block.specs.Questions.{load_no}
 use Rattle.work.specs.Work.{begun_of}
 use Rattle.work.specs.computed.Asked.{Loadable}

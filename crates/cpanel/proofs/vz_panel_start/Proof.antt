@@ -6,28 +6,28 @@ use mir.Facts.{to_z-of_z}
 use Rattle.cpanel.proofs.vz_panel_start.Statement.{statement}
 use Rattle.cpanel.proofs.vz_panel_start.Tie as tie
 
-settings_requires : tie.Need-settings-requires
-settings_requires c κs = search rules
+settings-requires : tie.Need-settings-requires
+settings-requires c κs = search rules
 
-make_requires : tie.Need-make-requires
-make_requires c κs = search rules
+make-a-requires : tie.Need-make-a-requires
+make-a-requires c κs = search rules
 
-encode_requires : tie.Need-encode-requires
-encode_requires c κs = search rules
+encode-after-requires : tie.Need-encode-after-requires
+encode-after-requires c κs = search rules
 
-start_requires : tie.Need-start-requires
-start_requires c κs = search rules
+start-requires : tie.Need-start-requires
+start-requires c κs = search rules
 
-encode_panel_requires : tie.Need-encode-panel-requires
-encode_panel_requires c κs = search rules
+encode_panel-begun-requires : tie.Need-encode_panel-begun-requires
+encode_panel-begun-requires c κs = search rules
 
-answer_number_requires : tie.Need-answer-number-requires
-answer_number_requires c κs = search rules
+answer_number-requires : tie.Need-answer_number-requires
+answer_number-requires c κs = search rules
 
 returns : tie.Need-returns
 returns c =
     let s = c.before.before.before.before.before.before.before in
-    let r : SFits w64 c.answer-number.result = search rules in
+    let r : SFits w64 c.answer_number.result = search rules in
     let p = s.ranges.p in
     let w = s.ranges.w in
     let xlo = s.ranges.xlo in
@@ -35,19 +35,10 @@ returns c =
     let ylo = s.ranges.ylo in
     let yhi = s.ranges.yhi in
     let a = c.before.before.before.before.before in
-    let given = simp to_z-of_z at a.before.settings.ensures in (
-      simp to_z-of_z (simp (c.answer-number.ensures, c.before.before.before.encode.ensures, a.make.ensures, given)),
-      simp (c.before.encode-panel.ensures, c.before.before.start.ensures, a.make.ensures, given),
+    let given = simp to_z-of_z at a.settings.ensures in (
+      simp to_z-of_z (simp (c.answer_number.ensures, c.encode-after.ensures, a.make-a.ensures, given)),
+      simp (c.encode_panel-begun.ensures, c.start.ensures, a.make-a.ensures, given),
     )
 
 pub vz_panel_start_spec : {M : Type 1} → statement M
-vz_panel_start_spec =
-    tie.close
-    (tie.spec
-    settings_requires
-    make_requires
-    encode_requires
-    start_requires
-    encode_panel_requires
-    answer_number_requires
-    returns)
+vz_panel_start_spec = tie.close (tie.spec settings-requires make-a-requires encode-after-requires start-requires encode_panel-begun-requires answer_number-requires returns)

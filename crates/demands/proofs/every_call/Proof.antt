@@ -1,5 +1,5 @@
 -- `every_call` is right because each contract is an equation, whose refusals no question asks for.
-use Rattle.demands.specs.laws.Calls.{every_call}
+use Rattle.demands.proofs.laws.Calls.{every_call}
 use Rattle.demands.proofs.every_call.Statement.{statement}
 use Rattle.demands.proofs.every_call.Tie as tie
 

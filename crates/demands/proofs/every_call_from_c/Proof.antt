@@ -1,5 +1,5 @@
 -- `every_call_from_c` is right because words and sound records tell each other.
-use Rattle.demands.specs.laws.FromC.{every_call_from_c}
+use Rattle.demands.proofs.laws.FromC.{every_call_from_c}
 use Rattle.demands.proofs.every_call_from_c.Statement.{statement}
 use Rattle.demands.proofs.every_call_from_c.Tie as tie
 

@@ -1,5 +1,5 @@
 -- `every_figure` is right because every call leaves a sound record sound, and soundness asks for the figure.
-use Rattle.history.specs.laws.Figure.{every_figure}
+use Rattle.history.proofs.laws.Figure.{every_figure}
 use Rattle.demands.proofs.every_figure.Statement.{statement}
 use Rattle.demands.proofs.every_figure.Tie as tie
 

@@ -1,5 +1,5 @@
 -- `every_history` is right because each call follows the book, and the book has what demand 3 asks.
-use Rattle.history.specs.laws.Claim.{every_history}
+use Rattle.history.proofs.laws.Claim.{every_history}
 use Rattle.demands.proofs.every_history.Statement.{statement}
 use Rattle.demands.proofs.every_history.Tie as tie
 

@@ -1,5 +1,5 @@
 -- `every_list` is right because each call's contract is an equation, which its definition meets.
-use Rattle.history.specs.laws.Claim.{every_list}
+use Rattle.history.proofs.laws.Claim.{every_list}
 use Rattle.demands.proofs.every_list.Statement.{statement}
 use Rattle.demands.proofs.every_list.Tie as tie
 

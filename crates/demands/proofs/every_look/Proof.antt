@@ -1,5 +1,5 @@
 -- `every_look` is right because the look's contract is the ticks' own definition, and a history and its ticks are a history.
-use Rattle.history.specs.laws.Look.{every_look}
+use Rattle.history.proofs.laws.Look.{every_look}
 use Rattle.demands.proofs.every_look.Statement.{statement}
 use Rattle.demands.proofs.every_look.Tie as tie
 

@@ -1,5 +1,5 @@
 -- `every_look_on` is right because s ticks and then t are s + t ticks.
-use Rattle.history.specs.laws.Look.{every_look_on}
+use Rattle.history.proofs.laws.Look.{every_look_on}
 use Rattle.demands.proofs.every_look_on.Statement.{statement}
 use Rattle.demands.proofs.every_look_on.Tie as tie
 

@@ -1,5 +1,5 @@
 -- `every_look_sum` is right because the pulses of ticks lead from the point to the point after them.
-use Rattle.history.specs.laws.Look.{every_look_sum}
+use Rattle.history.proofs.laws.Look.{every_look_sum}
 use Rattle.demands.proofs.every_look_sum.Statement.{statement}
 use Rattle.demands.proofs.every_look_sum.Tie as tie
 

@@ -1,5 +1,5 @@
 -- `every_panel` is right because each call hands out the next of what was to come, and 81 bytes of a line are enough.
-use Rattle.demands.specs.laws.Panel.{every_panel}
+use Rattle.demands.proofs.laws.Panel.{every_panel}
 use Rattle.demands.proofs.every_panel.Statement.{statement}
 use Rattle.demands.proofs.every_panel.Tie as tie
 

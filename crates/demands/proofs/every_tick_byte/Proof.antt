@@ -1,5 +1,5 @@
 -- `every_tick_byte` is right because a block run to its end is its ticks, and pieces of a run are the run.
-use Rattle.demands.specs.laws.TickBytes.{every_tick_byte}
+use Rattle.demands.proofs.laws.TickBytes.{every_tick_byte}
 use Rattle.demands.proofs.every_tick_byte.Statement.{statement}
 use Rattle.demands.proofs.every_tick_byte.Tie as tie
 

@@ -1,5 +1,5 @@
 -- `every_whole_feed` is right because the unit does not show in the divider, and so neither in the book nor in a listing.
-use Rattle.demands.specs.laws.Before.{every_whole_feed}
+use Rattle.demands.proofs.laws.Before.{every_whole_feed}
 use Rattle.demands.proofs.every_whole_feed.Statement.{statement}
 use Rattle.demands.proofs.every_whole_feed.Tie as tie
 

@@ -6,28 +6,28 @@ use Rattle.divider.specs.laws.Last.{last_tick_lem, last_most}
 use Rattle.divider.proofs.ending.Statement.{statement}
 use Rattle.divider.proofs.ending.Tie as tie
 
-most : (c : tie.After-last-tick) → (let s = c.before.args in
-    s.remainder + c.last_tick.result * s.added ≤ s.due + s.added + s.remainder)
+most : (c : tie.After-last_tick-tick) → (let s = c.args in
+    s.remainder + c.last_tick-tick.result * s.added ≤ s.due + s.added + s.remainder)
 most c =
-    let s = c.before.args in
-    rw c.last_tick.ensures (last_most s.due s.added s.remainder s.cycles c.before.requires.0 c.before.requires.1)
+    let s = c.args in
+    rw c.last_tick-tick.ensures (last_most s.due s.added s.remainder s.cycles c.requires.0 c.requires.1)
 
-last_tick_requires : tie.Need-last-tick-requires
-last_tick_requires c κs = search rules
+last_tick-tick-requires : tie.Need-last_tick-tick-requires
+last_tick-tick-requires c κs = search rules
 
-mul_t6 : tie.Need-overflow-mul-t6
-mul_t6 c = omega (arith, most c, c.before.requires.2)
+overflow_mul-result : tie.Need-overflow_mul-result
+overflow_mul-result c = omega (arith, most c, c.requires.2)
 
-add_t7 : tie.Need-overflow-add-t7
-add_t7 c = omega (arith, most c, c.before.requires.2)
+overflow_add-result : tie.Need-overflow_add-result
+overflow_add-result c = omega (arith, most c, c.requires.2)
 
-sub_t8 : tie.Need-overflow-sub-t8
-sub_t8 c =
-    let s = c.before.args in
-    rw c.last_tick.ensures (last_tick_lem s.due s.added s.remainder s.cycles c.before.requires.0).reached
+overflow_sub-result : tie.Need-overflow_sub-result
+overflow_sub-result c =
+    let s = c.args in
+    rw c.last_tick-tick.ensures (last_tick_lem s.due s.added s.remainder s.cycles c.requires.0).reached
 
 returns : tie.Need-returns
-returns c = rw c.last_tick.ensures
+returns c = rw c.last_tick-tick.ensures
 
 pub ending_spec : {M : Type 1} → statement M
-ending_spec = tie.close (tie.spec last_tick_requires mul_t6 add_t7 sub_t8 returns)
+ending_spec = tie.close (tie.spec last_tick-tick-requires overflow_mul-result overflow_add-result overflow_sub-result returns)

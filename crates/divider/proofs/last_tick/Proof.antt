@@ -7,29 +7,28 @@ use Rattle.divider.specs.laws.Last.{last_paid}
 use Rattle.divider.proofs.last_tick.Statement.{statement}
 use Rattle.divider.proofs.last_tick.Tie as tie
 
-returns : tie.Need-returns
-returns c = let s = c.before.args in sym (last_paid s.due s.added s.remainder s.cycles c.before.requires.0 c.if1.true)
+returns-then-due-remainder : tie.Need-returns-then-due-remainder
+returns-then-due-remainder c = let s = c.args in sym (last_paid s.due s.added s.remainder s.cycles c.requires.0 c.if-due-remainder.true)
 
-sub_ticks : tie.Need-overflow-sub-ticks
-sub_ticks c = search rules
+overflow_sub-ticks : tie.Need-overflow_sub-ticks
+overflow_sub-ticks c = search rules
 
-sub_ticks_2 : tie.Need-overflow-sub-ticks-2
-sub_ticks_2 c = search rules
+overflow_sub-ticks-2 : tie.Need-overflow_sub-ticks-2
+overflow_sub-ticks-2 c = search rules
 
-add_ticks : tie.Need-overflow-add-ticks
-add_ticks c = search rules
+overflow_add-ticks : tie.Need-overflow_add-ticks
+overflow_add-ticks c = search rules
 
-div_ticks : tie.Need-nonzero-div-ticks
-div_ticks c = search rules
+nonzero_div-ticks : tie.Need-nonzero_div-ticks
+nonzero_div-ticks c = search rules
 
-returns_2 : tie.Need-returns-2
+returns-then-ticks-cycles : tie.Need-returns-then-ticks-cycles
 unfolding last_tick end_tick
-returns_2 c = search rules
+returns-then-ticks-cycles c = search rules
 
-returns_3 : tie.Need-returns-3
+returns-else-ticks-cycles : tie.Need-returns-else-ticks-cycles
 unfolding last_tick end_tick
-returns_3 c = search rules
+returns-else-ticks-cycles c = search rules
 
 pub last_tick_spec : {M : Type 1} → statement M
-last_tick_spec =
-    tie.close (tie.spec returns sub_ticks sub_ticks_2 add_ticks div_ticks returns_2 returns_3)
+last_tick_spec = tie.close (tie.spec returns-then-due-remainder overflow_sub-ticks overflow_sub-ticks-2 overflow_add-ticks nonzero_div-ticks returns-then-ticks-cycles returns-else-ticks-cycles)

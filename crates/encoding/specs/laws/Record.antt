@@ -6,7 +6,7 @@ use Rattle.whole.specs.laws.Test.{both}
 use Rattle.plane.specs.declared.point.Point.{Point}
 use Rattle.plane.specs.declared.travel.Travel.{Travel}
 use Rattle.circle.specs.declared.plane.Turn.{Turn}
-use Rattle.circle.specs.laws.Circle.{on_circle_to}
+use Rattle.circle.proofs.laws.Circle.{on_circle_to}
 use Rattle.line.specs.declared.line.Line.{Line}
 use Rattle.line.specs.laws.Cycles.{cycles_bound}
 use Rattle.arc.specs.declared.arc.Arc.{Arc}

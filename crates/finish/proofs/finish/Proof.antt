@@ -4,7 +4,6 @@ use borrow.Author.Rules.{rules}
 use mathlib.Core.Path.{sym, ◌∙◌}
 use Prim.Native.Nat.{◌+◌, ◌*◌, ◌^◌, ◌≤◌, ◌<◌}
 use native.Mathlib.Omega.{arith}
-use borrow.Author.Tests.{not-true, not-false}
 use Rattle.run.specs.laws.Skip.{skip_counts, end_asks}
 use Rattle.bench.specs.laws.Sound.{sound}
 use Rattle.finish.specs.computed.Finish.{finish_of}
@@ -13,61 +12,50 @@ use Rattle.finish.proofs.finish.Statement.{statement}
 use Rattle.finish.proofs.finish.Tie as tie
 
 -- what the test before has shown
-working : (c : tie.Else1) → AtWork c.before.before.args.m
-working c = works (sym c.before.works.ensures ∙ not-false _ c.if1.false)
+working : (c : tie.Else-not-works) → AtWork c.args.m
+working c = works (sym c.works.ensures ∙ c.if-not-works.false)
 
-works_requires : tie.Need-works-requires
-works_requires c κs = search rules
+works-requires : tie.Need-works-requires
+works-requires c κs = search rules
 
-returns : tie.Need-returns
+returns-then-not-works : tie.Need-returns-then-not-works
 unfolding finish_of
-returns c = simp (sym c.before.works.ensures ∙ not-true _ c.if1.true)
+returns-then-not-works c = simp (sym c.works.ensures ∙ c.if-not-works.true)
 
-capacity_requires : tie.Need-capacity-requires
-capacity_requires c κs = (sound (working c.before.before).sound).settings
+capacity-q0-requires : tie.Need-capacity-q0-requires
+capacity-q0-requires c κs = (sound (working c.before.before).sound).settings
 
-work_left_requires : tie.Need-work-left-requires
-work_left_requires c κs = skip_counts (at_work (working c.before.before.before))
+work_left-left-requires : tie.Need-work_left-left-requires
+work_left-left-requires c κs = skip_counts (at_work (working c.before.before.before))
 
 -- what the divider asks of what is left, with its dues
-asked : (c : tie.After-struct-known) → (let l = c.before.before.work-left.result in
-    let q0 = c.before.before.before.capacity.result in
+asked : (c : tie.After-struct_known-1) → (let l = c.work_left-left.result in
+    let q0 = c.capacity-q0.result in
     (1 ≤ 1000 * l.feed) × (l.cycles * (1000 * l.feed) ≤ l.charges * q0)
-    × (l.charges * q0 + 1000 * l.feed + c.before.before.before.before.before.before.before.before.args.m.remainder < 2 ^ 64))
+    × (l.charges * q0 + 1000 * l.feed + c.args.m.remainder < 2 ^ 64))
 asked c =
     let l = c.before.before in
     let w = at_work (working c.before.before.before.before.before.before) in
-    rw l.before.capacity.ensures (end_asks w l.work-left.ensures)
+    rw l.capacity-q0.ensures (end_asks w l.work_left-left.ensures)
 
-mul_ending : tie.Need-overflow-mul-ending
-mul_ending c = omega (arith, asked c)
+overflow_mul-left : tie.Need-overflow_mul-left
+overflow_mul-left c = omega (arith, asked c)
 
-mul_ending_2 : tie.Need-overflow-mul-ending-2
-mul_ending_2 c = omega (arith, asked c.before)
+overflow_mul-left-2 : tie.Need-overflow_mul-left-2
+overflow_mul-left-2 c = omega (arith, asked c.before)
 
-ending_requires : tie.Need-ending-requires
-ending_requires c κs = asked c.before
+ending-last-requires : tie.Need-ending-last-requires
+ending-last-requires c κs = asked c.before
 
-moved_requires : tie.Need-moved-requires
-moved_requires c κs = search rules
+moved-requires : tie.Need-moved-requires
+moved-requires c κs = search rules
 
-returns_2 : tie.Need-returns-2
-returns_2 c =
+returns : tie.Need-returns
+returns c =
     let e = c.before in
     let l = c.before.before.before.before.before in
-    rw (c.moved.ensures, e.ending.ensures, l.before.capacity.ensures, l.work-left.ensures)
+    rw (c.moved.ensures, e.ending-last.ensures, l.capacity-q0.ensures, l.work_left-left.ensures)
     (sym (finishes _ (working c.before.before.before.before.before.before.before.before.before)))
 
 pub finish_spec : {M : Type 1} → statement M
-finish_spec =
-    tie.close
-    (tie.spec
-    works_requires
-    returns
-    capacity_requires
-    work_left_requires
-    mul_ending
-    mul_ending_2
-    ending_requires
-    moved_requires
-    returns_2)
+finish_spec = tie.close (tie.spec works-requires returns-then-not-works capacity-q0-requires work_left-left-requires overflow_mul-left overflow_mul-left-2 ending-last-requires moved-requires returns)

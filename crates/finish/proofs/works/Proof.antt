@@ -5,16 +5,16 @@ use Rattle.finish.specs.computed.Finish.{works_of}
 use Rattle.finish.proofs.works.Statement.{statement}
 use Rattle.finish.proofs.works.Tie as tie
 
-is_nothing_requires : tie.Need-is-nothing-requires
-is_nothing_requires c κs = search rules
+is_nothing-requires : tie.Need-is_nothing-requires
+is_nothing-requires c κs = search rules
+
+returns-then-is_nothing : tie.Need-returns-then-is_nothing
+unfolding works_of
+returns-then-is_nothing c = simp (c.requires, sym c.is_nothing.ensures ∙ c.if-is_nothing.true)
 
 returns : tie.Need-returns
 unfolding works_of
-returns c = simp (c.before.before.requires, sym c.before.is-nothing.ensures ∙ c.if1.true)
-
-returns_2 : tie.Need-returns-2
-unfolding works_of
-returns_2 c = simp (c.before.before.requires, sym c.before.is-nothing.ensures ∙ c.if1.false)
+returns c = simp (c.requires, sym c.is_nothing.ensures ∙ c.if-is_nothing.false)
 
 pub works_spec : {M : Type 1} → statement M
-works_spec = tie.close (tie.spec is_nothing_requires returns returns_2)
+works_spec = tie.close (tie.spec is_nothing-requires returns-then-is_nothing returns)

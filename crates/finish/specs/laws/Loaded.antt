@@ -8,13 +8,12 @@ use Rattle.block.specs.declared.Path.{Path}
 use Rattle.block.specs.Block.{arc_of, cycles_along, block_cycles}
 use Rattle.block.specs.Charge.{charges_to, block_charges}
 use Rattle.block.specs.Questions.{load_no}
-use Rattle.block.specs.laws.Charge.{charges_line, charges_arc}
+use Rattle.block.proofs.laws.Charge.{charges_line, charges_arc}
 use Rattle.work.specs.Work.{is_nothing, feed_of, cycles_left, charges_left, end_of, work_along, begun_of}
 use Rattle.bench.specs.declared.Bench.{Bench}
 use Rattle.settings.specs.Settings.{capacity_of}
 use Rattle.bench.specs.Bench.{moved_of}
 use Rattle.bench.specs.computed.Calls.{load_of}
-use Rattle.bench.specs.laws.Sound.{sound}
 use Rattle.invariant.specs.laws.Calls.{load_keeps}
 use Rattle.finish.specs.computed.Finish.{finished_of, finish_of}
 use Rattle.finish.specs.laws.Record.{AtWork, AtRest, finishes}

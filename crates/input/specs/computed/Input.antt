@@ -5,9 +5,10 @@ use Rattle.input.specs.declared.Once.{Once}
 
 abbrev pub CountFits : Input → List ℕ → Type 0
 CountFits (Input.Bytes n) buf = n ≤ length buf
-CountFits Input.Failed buf = Unit
+CountFits (Input.Failed e) buf = Unit
 
-abbrev pub Read : Once → List ℕ → Type 0
-Read (Once.Bytes n) buf = n ≤ length buf
-Read Once.Interrupted buf = Unit
-Read Once.Failed buf = Unit
+-- the same of a single read
+abbrev pub Came : Once → List ℕ → Type 0
+Came (Once.Bytes n) buf = n ≤ length buf
+Came (Once.Interrupted e) buf = Unit
+Came (Once.Failed e) buf = Unit

@@ -16,7 +16,7 @@ use Rattle.block.specs.declared.Path.{Path}
 use Rattle.block.specs.Block.{arc_of}
 use Rattle.block.specs.Questions.{offset_right, path_no}
 use Rattle.whole.specs.laws.Ask.{answered}
-use Rattle.block.specs.laws.Begin.{begins}
+use Rattle.block.proofs.laws.Begin.{begins}
 use Rattle.work.specs.computed.Work.{work_sound}
 use Rattle.work.specs.Work.{work_along}
 use Rattle.work.specs.computed.Asked.{Loadable}

@@ -12,7 +12,7 @@ use Rattle.block.specs.Charge.{block_charges}
 use Rattle.block.specs.Questions.{load_no}
 use Rattle.book.specs.Bench.{added_by}
 use Rattle.book.specs.Ledger.{block_ticks}
-use Rattle.book.specs.laws.Begins.{Begun, accepted_begins}
+use Rattle.book.proofs.laws.Begins.{Begun, accepted_begins}
 use Rattle.work.specs.Work.{is_nothing}
 use Rattle.bench.specs.declared.Bench.{Bench}
 use Rattle.bench.specs.declared.Report.{Report}

@@ -9,8 +9,8 @@ use Rattle.plane.specs.declared.point.Point.{Point}
 use Rattle.block.specs.declared.Block.{Block}
 use Rattle.block.specs.Feed.{finer}
 use Rattle.block.specs.Questions.{load_no}
-use Rattle.block.specs.laws.Feed.{cycles_at_feed, width_at_feed}
-use Rattle.book.specs.laws.Unit.{load_finer, ticks_finer, leaves_finer}
+use Rattle.block.proofs.laws.Feed.{cycles_at_feed, width_at_feed}
+use Rattle.book.proofs.laws.Unit.{load_finer, ticks_finer, leaves_finer}
 use Rattle.settings.specs.declared.Settings.{Settings}
 use Rattle.settings.specs.Settings.{capacity_at}
 use Rattle.letters.specs.declared.word.Words.{Words}

@@ -8,94 +8,69 @@ use Rattle.jobwhere.specs.laws.Asked.{Asking, ask_end, ask_empty, ask_ticks, ask
 use Rattle.jobwhere.proofs.ask.Statement.{statement}
 use Rattle.jobwhere.proofs.ask.Tie as tie
 
-abbrev invariant_loop : tie.invariant_loop
-invariant_loop text n₀ at₀ n at = Asking text n at
+abbrev invariant-loop-at : tie.invariant-loop-at
+invariant-loop-at text n₀ at₀ n at = Asking text n at
 
-abbrev decreases_loop : tie.decreases_loop
-decreases_loop text n₀ at₀ n at = length text - at
+abbrev decreases-loop-at : tie.decreases-loop-at
+decreases-loop-at text n₀ at₀ n at = length text - at
 
-loop_holds : tie.Need-loop-init invariant_loop decreases_loop
-loop_holds c = record { rest = refl; few = omega arith }
+loop-at-init : tie.Need-loop-at-init invariant-loop-at decreases-loop-at
+loop-at-init c = record { rest = refl; few = omega arith }
 
-shared_slice_read_if1 : tie.Need-shared-slice-read-if1 invariant_loop decreases_loop
-shared_slice_read_if1 c = c.before.loop-test.true
+bounds-text-at : tie.Need-bounds-text-at invariant-loop-at decreases-loop-at
+bounds-text-at c = c.loop-at-test.true
 
-returns : tie.Need-returns invariant_loop decreases_loop
-returns c =
+returns-then-at-eq0 : tie.Need-returns-then-at-eq0 invariant-loop-at decreases-loop-at
+returns-then-at-eq0 c =
     let t = c.before in
     let i = t.before.before in
-    ask_empty i.before.loop.invariant i.loop-test.true t.if1.true c.if2.true
+    ask_empty i.loop-at.invariant i.loop-at-test.true t.if-text-at-eq-LF.true c.if-at-eq0.true
 
-add_t11 : tie.Need-overflow-add-t11 invariant_loop decreases_loop
-add_t11 c = omega (arith, c.before.before.before.before.loop.invariant.few)
+overflow_add-result : tie.Need-overflow_add-result invariant-loop-at decreases-loop-at
+overflow_add-result c = omega (arith, c.loop-at.invariant.few)
 
-returns_2 : tie.Need-returns-2 invariant_loop decreases_loop
-returns_2 c =
+returns-then-text-at-eq-LF : tie.Need-returns-then-text-at-eq-LF invariant-loop-at decreases-loop-at
+returns-then-text-at-eq-LF c =
     let t = c.before in
     let i = t.before.before in
-    ask_ticks i.before.loop.invariant i.loop-test.true t.if1.true c.if2.false
+    ask_ticks i.loop-at.invariant i.loop-at-test.true t.if-text-at-eq-LF.true c.if-at-eq0.false
 
-returns_3 : tie.Need-returns-3 invariant_loop decreases_loop
-returns_3 c =
+returns-then-at-eq-MOST_DIGITS : tie.Need-returns-then-at-eq-MOST_DIGITS invariant-loop-at decreases-loop-at
+returns-then-at-eq-MOST_DIGITS c =
     let t = c.before in
     let i = t.before.before in
-    ask_many i.before.loop.invariant i.loop-test.true t.if1.false c.if3.true
+    ask_many i.loop-at.invariant i.loop-at-test.true t.if-text-at-eq-LF.false c.if-at-eq-MOST_DIGITS.true
 
-shared_slice_read_push : tie.Need-shared-slice-read-push invariant_loop decreases_loop
-shared_slice_read_push c = c.before.before.before.before.loop-test.true
+bounds-text-at-in-loop-at : tie.Need-bounds-text-at-in-loop-at invariant-loop-at decreases-loop-at
+bounds-text-at-in-loop-at c = c.loop-at-test.true
 
-push_requires : tie.Need-push-requires invariant_loop decreases_loop
-push_requires c κs = tt
+push-pushed-requires : tie.Need-push-pushed-requires invariant-loop-at decreases-loop-at
+push-pushed-requires c κs = tt
 
-enum_told : tie.Need-enum-told invariant_loop decreases_loop
-enum_told c = search rules
+enum_told-1 : tie.Need-enum_told-1 invariant-loop-at decreases-loop-at
+enum_told-1 c = search rules
 
-returns_4 : tie.Need-returns-4 invariant_loop decreases_loop
-returns_4 c =
-    let p = c.before.before in
-    let e = p.before.before in
-    let i = e.before.before.before in
-    ask_other i.before.loop.invariant i.loop-test.true e.before.if1.false e.if3.false p.push.ensures
-    c.enum_told.given.1
+returns-in-Nothing : tie.Need-returns-in-Nothing invariant-loop-at decreases-loop-at
+returns-in-Nothing c =
+    ask_other c.loop-at.invariant c.loop-at-test.true c.if-text-at-eq-LF.false c.if-at-eq-MOST_DIGITS.false c.push-pushed.ensures
+    c.in-Nothing.is
 
-enum_known_pushed : tie.Need-enum-known-pushed invariant_loop decreases_loop
-enum_known_pushed c = search rules
+enum_known-pushed : tie.Need-enum_known-pushed invariant-loop-at decreases-loop-at
+enum_known-pushed c = search rules
 
-add_at : tie.Need-overflow-add-at invariant_loop decreases_loop
-add_at c = omega (arith, c.before.before.before.before.before.before.before.before.before.loop.invariant.few)
+overflow_add-at : tie.Need-overflow_add-at invariant-loop-at decreases-loop-at
+overflow_add-at c = omega (arith, c.loop-at.invariant.few)
 
-loop_less : tie.Need-loop-smaller invariant_loop decreases_loop
-loop_less c = omega (arith, c.before.before.before.before.before.before.before.before.loop-test.true)
+loop-at-smaller : tie.Need-loop-at-smaller invariant-loop-at decreases-loop-at
+loop-at-smaller c = omega (arith, c.loop-at-test.true)
 
-loop_again : tie.Need-loop-preserved invariant_loop decreases_loop
-loop_again c =
-    let p = c.before.before.before in
-    let e = p.before.before in
-    let i = e.before.before.before in
-    ask_on i.before.loop.invariant i.loop-test.true e.before.if1.false e.if3.false p.push.ensures
-    c.before.pushed.given.1
+loop-at-preserved : tie.Need-loop-at-preserved invariant-loop-at decreases-loop-at
+loop-at-preserved c =
+    ask_on c.loop-at.invariant c.loop-at-test.true c.if-text-at-eq-LF.false c.if-at-eq-MOST_DIGITS.false c.push-pushed.ensures
+    c.in-Number.is
 
-returns_5 : tie.Need-returns-5 invariant_loop decreases_loop
-returns_5 c = ask_end c.before.loop.invariant c.loop-test.false
+returns : tie.Need-returns invariant-loop-at decreases-loop-at
+returns c = ask_end c.loop-at.invariant c.loop-at-test.false
 
 pub ask_spec : {M : Type 1} → statement M
-ask_spec =
-    tie.close
-    (tie.spec
-    invariant_loop
-    decreases_loop
-    loop_holds
-    shared_slice_read_if1
-    returns
-    add_t11
-    returns_2
-    returns_3
-    shared_slice_read_push
-    push_requires
-    enum_told
-    returns_4
-    enum_known_pushed
-    add_at
-    loop_less
-    loop_again
-    returns_5)
+ask_spec = tie.close (tie.spec invariant-loop-at decreases-loop-at loop-at-init bounds-text-at returns-then-at-eq0 overflow_add-result returns-then-text-at-eq-LF returns-then-at-eq-MOST_DIGITS bounds-text-at-in-loop-at push-pushed-requires enum_told-1 returns-in-Nothing enum_known-pushed overflow_add-at loop-at-smaller loop-at-preserved returns)

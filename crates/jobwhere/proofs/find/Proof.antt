@@ -3,14 +3,14 @@ use borrow.Author.Rules.{rules}
 use Rattle.jobwhere.proofs.find.Statement.{statement}
 use Rattle.jobwhere.proofs.find.Tie as tie
 
-standard_requires : tie.Need-standard-requires
-standard_requires c κs = search rules
+standard-requires : tie.Need-standard-requires
+standard-requires c κs = search rules
 
-seek_requires : tie.Need-seek-requires
-seek_requires c κs = search rules
+seek-requires : tie.Need-seek-requires
+seek-requires c κs = search rules
 
 returns : tie.Need-returns
-returns c = rw (c.seek.ensures, c.before.standard.ensures)
+returns c = rw (c.seek.ensures, c.standard.ensures)
 
 pub find_spec : {M : Type 1} → statement M
-find_spec = tie.close (tie.spec standard_requires seek_requires returns)
+find_spec = tie.close (tie.spec standard-requires seek-requires returns)

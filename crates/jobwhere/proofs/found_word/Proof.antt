@@ -5,26 +5,26 @@ use Rattle.encoding.specs.laws.Number.{refusal_fits, through}
 use Rattle.jobwhere.proofs.found_word.Statement.{statement}
 use Rattle.jobwhere.proofs.found_word.Tie as tie
 
-enum_told : tie.Need-enum-told
-enum_told c = search rules
+enum_told-1 : tie.Need-enum_told-1
+enum_told-1 c = search rules
 
-enum_told_2 : tie.Need-enum-told-2
-enum_told_2 c = search rules
+enum_told-in-Over : tie.Need-enum_told-in-Over
+enum_told-in-Over c = search rules
 
-enum_known_found : tie.Need-enum-known-found
-enum_known_found c = search rules
+enum_known-found : tie.Need-enum_known-found
+enum_known-found c = search rules
 
-refusal_requires : tie.Need-refusal-requires
-refusal_requires c κs = search rules
+refusal-requires : tie.Need-refusal-requires
+refusal-requires c κs = search rules
 
-returns : tie.Need-returns
-returns c = cc
+returns-in-InWork : tie.Need-returns-in-InWork
+returns-in-InWork c = cc
 
-returns_2 : tie.Need-returns-2
-returns_2 c = cc
+returns-in-Over : tie.Need-returns-in-Over
+returns-in-Over c = cc
 
-returns_3 : tie.Need-returns-3
-returns_3 c = through (refusal_fits _) c.refusal.ensures ∙ simp c.before.before.found.given.1
+returns-in-Refused : tie.Need-returns-in-Refused
+returns-in-Refused c = through (refusal_fits _) c.refusal.ensures ∙ simp c.in-Refused.is
 
 pub found_word_spec : {M : Type 1} → statement M
-found_word_spec = tie.close (tie.spec enum_told enum_told_2 enum_known_found refusal_requires returns returns_2 returns_3)
+found_word_spec = tie.close (tie.spec enum_told-1 enum_told-in-Over enum_known-found refusal-requires returns-in-InWork returns-in-Over returns-in-Refused)

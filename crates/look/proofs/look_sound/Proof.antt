@@ -8,33 +8,33 @@ use Rattle.look.specs.laws.Ahead.{looks, too_far, sound_near}
 use Rattle.look.proofs.look_sound.Statement.{statement}
 use Rattle.look.proofs.look_sound.Tie as tie
 
-refused_requires : tie.Need-refused-requires
-refused_requires c κs = search rules
+refused-requires : tie.Need-refused-requires
+refused-requires c κs = search rules
 
-returns : tie.Need-returns
-returns c =
+returns-then-ticks-gt-MOST_TICKS : tie.Need-returns-then-ticks-gt-MOST_TICKS
+returns-then-ticks-gt-MOST_TICKS c =
     let e = c.before in
-    let s = e.before.args in
-    c.refused.ensures ∙ sym (too_far s.m s.ticks e.before.requires e.if1.true)
+    let s = e.args in
+    c.refused.ensures ∙ sym (too_far s.m s.ticks e.requires e.if-ticks-gt-MOST_TICKS.true)
 
-after_ticks_requires : tie.Need-after-ticks-requires
-after_ticks_requires c κs = c.before.before.before.requires
+after_ticks-then-requires : tie.Need-after_ticks-then-requires
+after_ticks-then-requires c κs = c.requires
 
-way_requires : tie.Need-way-requires
-way_requires c κs =
+way-requires : tie.Need-way-requires
+way-requires c κs =
     let a = c.before.before in
     let e = a.before.before.before.before in
     let s = e.args in
     let there = sound_near (ticking_of s.ticks s.m).machine (ticking_sound s.ticks s.m e.requires) in
-    (sound_near s.m e.requires, rw a.after-ticks.ensures there)
+    (sound_near s.m e.requires, rw a.after_ticks-then.ensures there)
 
-returns_2 : tie.Need-returns-2
-returns_2 c =
+returns : tie.Need-returns
+returns c =
     let a = c.before.before.before in
     let e = a.before.before.before in
-    let s = e.before.args in
-    let is = looks s.m s.ticks e.before.requires e.if1.false in
-    rw (c.way.ensures, a.after-ticks.ensures, is, leads_way (ticking_leads s.ticks s.m e.before.requires))
+    let s = e.args in
+    let is = looks s.m s.ticks e.requires e.if-ticks-gt-MOST_TICKS.false in
+    rw (c.way.ensures, a.after_ticks-then.ensures, is, leads_way (ticking_leads s.ticks s.m e.requires))
 
 pub look_sound_spec : {M : Type 1} → statement M
-look_sound_spec = tie.close (tie.spec refused_requires returns after_ticks_requires way_requires returns_2)
+look_sound_spec = tie.close (tie.spec refused-requires returns-then-ticks-gt-MOST_TICKS after_ticks-then-requires way-requires returns)

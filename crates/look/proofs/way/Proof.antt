@@ -11,11 +11,11 @@ x p h = at p.x 1000000 h.x
 abbrev y : (p : Point) → Near 1000000 p → Code
 y p h = at p.y 1000000 h.y
 
-sub_t3 : tie.Need-overflow-sub-t3
-sub_t3 c = let s = c.before.before.before.before in subs (x s.args.to s.requires.1) (x s.args.from s.requires.0) tt
+overflow_sub-result : tie.Need-overflow_sub-result
+overflow_sub-result c = let s = c.before.before.before.before in subs (x s.args.to s.requires.1) (x s.args.from s.requires.0) tt
 
-sub_t4 : tie.Need-overflow-sub-t4
-sub_t4 c =
+overflow_sub-result-2 : tie.Need-overflow_sub-result-2
+overflow_sub-result-2 c =
     let s = c.before.before.before.before.before.before.before.before in
     subs (y s.args.to s.requires.1) (y s.args.from s.requires.0) tt
 
@@ -28,4 +28,4 @@ returns c =
     }
 
 pub way_spec : {M : Type 1} → statement M
-way_spec = tie.close (tie.spec sub_t3 sub_t4 returns)
+way_spec = tie.close (tie.spec overflow_sub-result overflow_sub-result-2 returns)

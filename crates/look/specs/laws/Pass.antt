@@ -28,7 +28,7 @@ use Rattle.bench.specs.laws.Sound.{sound as bench_parts}
 use Rattle.bench.specs.laws.Calls.{tick_works}
 use Rattle.finish.specs.computed.Finish.{works_of}
 use Rattle.finish.specs.laws.Record.{AtWork, works}
-use Rattle.ahead.specs.laws.Ticks.{left_by, ticks_of, ticking_sound as bench_sound, ticking_works as bench_works}
+use Rattle.ahead.specs.laws.Ticks.{left_by, ticks_of, ticking_sound as ticks_sound, ticking_works as bench_works}
 use Rattle.machine.specs.declared.Machine.{Machine}
 use Rattle.machine.specs.computed.Machine.{sound_of}
 use Rattle.machine.specs.Machine.{machine_of}
@@ -57,7 +57,7 @@ module _ (k : Bench) (a : AtWork k) (n : ℕ) where
   strip_onward =
       record {
         settings = refl;
-        sound = subst (λ (k' : Bench). bench_sound k' ≡ true) (bench_works n k a) (bench_sound n k a.sound);
+        sound = subst (λ (k' : Bench). bench_sound k' ≡ true) (bench_works n k a) (ticks_sound n k a.sound);
         end = strip_end q0 k.settings.travel n k.at k.remainder k.work here;
         root = strip_root q0 n k.at k.remainder k.work;
       }

@@ -7,15 +7,15 @@ use Rattle.machine.specs.Machine.{to_do, machine_of}
 use Rattle.machine.proofs.fresh.Statement.{statement}
 use Rattle.machine.proofs.fresh.Tie as tie
 
-fresh_requires : tie.Need-fresh-requires
-fresh_requires c κs = search rules
+fresh-requires : tie.Need-fresh-requires
+fresh-requires c κs = search rules
 
-empty_requires : tie.Need-empty-requires
-empty_requires c κs = search rules
+empty-requires : tie.Need-empty-requires
+empty-requires c κs = search rules
 
 returns : tie.Need-returns
 unfolding machine_of to_do chain_cycles fresh_of empty_queue
-returns c = simp (c.empty.ensures, c.before.fresh.ensures)
+returns c = simp (c.empty.ensures, c.fresh.ensures)
 
 pub fresh_spec : {M : Type 1} → statement M
-fresh_spec = tie.close (tie.spec fresh_requires empty_requires returns)
+fresh_spec = tie.close (tie.spec fresh-requires empty-requires returns)

@@ -14,8 +14,8 @@ use Rattle.block.specs.Questions.{load_no}
 use Rattle.block.specs.Chain.{chain_end, chain_cycles, root_of}
 use Rattle.block.specs.computed.Chain.{Accepted}
 use Rattle.whole.specs.laws.Ask.{answered}
-use Rattle.block.specs.laws.Chain.{cycles_more, chain_end_inside, chain_cycles_most}
-use Rattle.block.specs.laws.Accepted.{cycles_range}
+use Rattle.block.proofs.laws.Chain.{cycles_more, chain_end_inside, chain_cycles_most}
+use Rattle.block.proofs.laws.Accepted.{cycles_range}
 use Rattle.queue.specs.Queue.{waiting, pushed_of, waiting_at}
 use Rattle.queue.specs.laws.Waiting.{push_waiting, none_waits, waiting_length}
 use Rattle.work.specs.declared.Work.{Work}

@@ -12,22 +12,22 @@ use lib.Seq.{length-take-le}
 use Rattle.words.specs.computed.Scan.{first_line}
 use Rattle.panel.specs.laws.First.{take_min}
 
-least_requires : tie.Need-least-requires
-least_requires c κs = search rules
+least-most-requires : tie.Need-least-most-requires
+least-most-requires c κs = search rules
 
-slice_aggregate_end_of_line : tie.Need-slice-aggregate-end-of-line
-slice_aggregate_end_of_line c = sym (length-take-le _ _ (omega (arith, c.before.least.ensures)))
+slice_bounds-end_of_line-end : tie.Need-slice_bounds-end_of_line-end
+slice_bounds-end_of_line-end c = sym (length-take-le _ _ (omega (arith, c.least-most.ensures)))
 
-end_of_line_requires : tie.Need-end-of-line-requires
-end_of_line_requires c κs = search rules
+end_of_line-requires : tie.Need-end_of_line-requires
+end_of_line-requires c κs = search rules
 
 returns : tie.Need-returns
 returns c =
-    let s = c.before.before.before.before.args in
-    let e = c.before.before.least.ensures in
-    c.end-of-line.ensures
-    ∙ zero-add (length (first_line (take c.before.before.least.result s.piece.now)))
+    let s = c.args in
+    let e = c.least-most.ensures in
+    c.end_of_line.ensures
+    ∙ zero-add (length (first_line (take c.least-most.result s.piece.now)))
     ∙ ap (λ (l : List ℕ). length (first_line l)) (ap (λ (n : ℕ). take n s.piece.now) e ∙ take_min s.left s.piece.now)
 
 pub taken_spec : {M : Type 1} → statement M
-taken_spec = tie.close (tie.spec least_requires slice_aggregate_end_of_line end_of_line_requires returns)
+taken_spec = tie.close (tie.spec least-most-requires slice_bounds-end_of_line-end end_of_line-requires returns)

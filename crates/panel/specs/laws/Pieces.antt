@@ -104,4 +104,4 @@ module _ (c : PanelCheck) (scratch piece : List ℕ) (last : Bool) (old : List �
       → (length piece ≡ 0 → last ≡ true)
       → calls_left f.check < calls_left c
   reads_less (ReadsPiece.short small e kept same) wide room going some = absurd (true≢false (sym (fitting scratch old wide room) ∙ small))
-  reads_less (ReadsPiece.read ok h) wide room going some = handed_less ok h going some
+  reads_less (ReadsPiece.read ok h) _ _ going some = handed_less ok h going some

@@ -6,39 +6,30 @@ use native.Mathlib.Omega.{arith}
 use lib.ListN.{length-take, length-drop}
 use Rattle.panelcheck.specs.laws.Read.{reads_behind}
 
-sub_read : tie.Need-overflow-sub-read
-sub_read c = search rules
+slice_bounds-read-count : tie.Need-slice_bounds-read-count
+slice_bounds-read-count c = search rules
 
-part_read_start : tie.Need-slice-bounds-read-start
-part_read_start c = search rules
+slice_bounds-read-start : tie.Need-slice_bounds-read-start
+slice_bounds-read-start c = search rules
 
-part_read_end : tie.Need-slice-bounds-read-end
-part_read_end c = search rules
+slice_bounds-read-end : tie.Need-slice_bounds-read-end
+slice_bounds-read-end c = search rules
 
-read_requires : tie.Need-read-requires
-read_requires c κs = search rules
+read-requires : tie.Need-read-requires
+read-requires c κs = search rules
 
-same_length : tie.Need-same-length
-same_length c = search rules
+shape_of-scratch : tie.Need-shape_of-scratch
+shape_of-scratch c = search rules
 
-same_length_2 : tie.Need-same-length-2
-same_length_2 c = search rules
+shape_of-rows : tie.Need-shape_of-rows
+shape_of-rows c = search rules
 
 returns : tie.Need-returns
 returns c =
     let s = c.before.before.before.before.before.before.before.before.before.before in
     reads_behind s.args.check s.args.scratch.now s.args.piece.now s.args.last s.args.rows.now s.args.waiting
     s.requires _
-    (simp (length-take, length-drop) (omega arith)) c.before.before.before.before.read.ensures
+    (simp (length-take, length-drop) (omega arith)) c.read.ensures
 
 pub read_spec : {M : Type 1} → statement M
-read_spec =
-    tie.close
-    (tie.spec
-    sub_read
-    part_read_start
-    part_read_end
-    read_requires
-    same_length
-    same_length_2
-    returns)
+read_spec = tie.close (tie.spec slice_bounds-read-count slice_bounds-read-start slice_bounds-read-end read-requires shape_of-scratch shape_of-rows returns)

@@ -26,4 +26,4 @@ pub record ReadsBehind (c : PanelCheck) (scratch piece : List ℕ) (last : Bool)
 -- where the buffer holds a row, it has room for one
 abbrev pub RoomLeft : Rows → (size : ℕ) → Type 0
 RoomLeft (Rows.Waiting waiting) size = line_room ≤ size → waiting + line_room ≤ size
-RoomLeft Rows.Unwritten size = Unit {0}
+RoomLeft (Rows.Unwritten e) size = Unit {0}

@@ -12,7 +12,7 @@ use Rattle.reader.specs.declared.Feed.{Feed}
 use Rattle.reader.specs.Reader.{motion_of}
 use Rattle.bench.specs.declared.Bench.{Bench}
 use Rattle.job.specs.declared.Stage.{Stage}
-use Rattle.encoding.specs.Words.{count_of, at}
+use Rattle.encoding.specs.Words.{count_of}
 use Rattle.encoding.specs.computed.Words.{same_words}
 use Rattle.encoding.specs.laws.Right.{count_again, count_right, each}
 use Rattle.encoding.specs.laws.Same.{same_true, same_words_lem}

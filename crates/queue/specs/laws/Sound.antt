@@ -1,5 +1,5 @@
 -- What a sound queue says of the blocks that wait, and back; a sound queue stays sound.
-use Rattle.std.specs.Prelude.{◌≡◌, true, ℕ, ◌+◌, ◌-◌, ◌≤◌, ◌<◌, leb, eqb, take, drop}
+use Rattle.std.specs.Prelude.{◌≡◌, true, ℕ, ◌+◌, ◌≤◌, ◌<◌, leb, eqb, take, drop}
 use Rattle.std.proofs.Math.Path.{refl, subst}
 use Rattle.std.proofs.Common.{sym, ◌∙◌, arith, leb-true, le-leb, eqb-true, eq-eqb}
 use mathlib.Core.List.{List, [], ◌∷◌, ◌++◌}
@@ -11,7 +11,7 @@ use Rattle.block.specs.declared.Block.{Block}
 use Rattle.block.specs.Questions.{load_no}
 use Rattle.block.specs.Chain.{end_after, chain_end, root_of}
 use Rattle.block.specs.computed.Chain.{chain_accepted}
-use Rattle.block.specs.laws.Chain.{accepted_first, accepted_more}
+use Rattle.block.proofs.laws.Chain.{accepted_first, accepted_more}
 use Rattle.queue.specs.declared.Waiting.{Waiting}
 use Rattle.queue.specs.declared.Queue.{Queue}
 use Rattle.queue.specs.Queue.{places, blocks_of, waiting, blank, empty_queue, pushed_of, first_of, popped_of}

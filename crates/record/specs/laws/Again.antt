@@ -9,13 +9,13 @@ use Rattle.plane.specs.declared.point.Point.{Point}
 use Rattle.plane.specs.declared.travel.Travel.{Travel}
 use Rattle.plane.specs.Travel.{inside_of}
 use Rattle.plane.specs.computed.Travel.{Wide}
-use Rattle.circle.specs.laws.Count.{quarter_bound}
+use Rattle.circle.proofs.laws.Count.{quarter_bound}
 use Rattle.arc.specs.Centre.{seen_from}
 use Rattle.block.specs.declared.Block.{Block}
 use Rattle.block.specs.computed.Chain.{chain_accepted, Accepted}
 use Rattle.block.specs.Chain.{root_of}
-use Rattle.block.specs.laws.Accepted.{yes}
-use Rattle.block.specs.laws.Chain.{accepted_first, first_accepted}
+use Rattle.block.proofs.laws.Accepted.{yes}
+use Rattle.block.proofs.laws.Chain.{accepted_first, first_accepted}
 use Rattle.queue.specs.declared.Queue.{Queue}
 use Rattle.queue.specs.declared.Waiting.{Waiting}
 use Rattle.queue.specs.Queue.{places, blocks_of, blank, pushed_of, popped_of}

@@ -3,7 +3,7 @@ use Rattle.std.specs.Prelude.{◌≡◌, refl, true, ℤ, take, drop}
 use Rattle.std.proofs.Common.{sym, ◌∙◌, arith, take-append-drop}
 use Rattle.std.proofs.Math.Path.{ap}
 use mathlib.Core.List.{List, ◌++◌}
-use Prim.Native.Nat.{ℕ, ◌+◌, ◌-◌, ◌^◌, ◌≤◌, ◌<◌, min}
+use Prim.Native.Nat.{ℕ, ◌-◌, ◌^◌, ◌≤◌, ◌<◌, min}
 use Rattle.std.proofs.Math.ListN.{length, replicate}
 use Rattle.std.proofs.Math.Seq.{take-append_seam, length-take-le}
 use Rattle.queue.specs.declared.Waiting.{Waiting}

@@ -3,11 +3,11 @@ use borrow.Author.Tests.{lt-leb, le-leb}
 use Rattle.settings.proofs.in_range.Statement.{statement}
 use Rattle.settings.proofs.in_range.Tie as tie
 
-returns : tie.Need-returns
-returns c = simp (lt-leb _ _ c.if1.true)
+returns-then-v-low : tie.Need-returns-then-v-low
+returns-then-v-low c = simp (lt-leb _ _ c.if-v-low.true)
 
-returns_2 : tie.Need-returns-2
-returns_2 c = simp (le-leb _ _ c.if1.false)
+returns : tie.Need-returns
+returns c = simp (le-leb _ _ c.if-v-low.false)
 
 pub in_range_spec : {M : Type 1} → statement M
-in_range_spec = tie.close (tie.spec returns returns_2)
+in_range_spec = tie.close (tie.spec returns-then-v-low returns)

@@ -1,5 +1,5 @@
 -- What settings that pass their questions say of their numbers.
-use Rattle.std.specs.Prelude.{◌≡◌, refl, true, zero, ◌≤◌, leb, pos, negsuc, nat_abs}
+use Rattle.std.specs.Prelude.{◌≡◌, refl, true, ◌≤◌, leb, pos, negsuc, nat_abs}
 use Rattle.std.proofs.Common.{arith, leb-true}
 use Rattle.whole.specs.laws.Test.{both}
 use Rattle.plane.specs.declared.travel.Range.{Range}

@@ -8,22 +8,22 @@ use Rattle.work.specs.laws.Sound.{arc_work, arc_sound_lem}
 use Rattle.work.proofs.arc_sound.Statement.{statement}
 use Rattle.work.proofs.arc_sound.Tie as tie
 
+returns-then-a-lt1 : tie.Need-returns-then-a-lt1
+returns-then-a-lt1 c = sym (refuted _ (λ e. let f = (arc_work e).feed in omega (arith, f.some)))
+
+returns-then-capacity-a : tie.Need-returns-then-capacity-a
+returns-then-capacity-a c = sym (refuted _ (λ e. let f = (arc_work e).feed in omega (arith, f.most)))
+
+is_at-requires : tie.Need-is_at-requires
+is_at-requires c κs = search rules
+
 returns : tie.Need-returns
-returns c = sym (refuted _ (λ e. let f = (arc_work e).feed in omega (arith, f.some)))
-
-returns_2 : tie.Need-returns-2
-returns_2 c = sym (refuted _ (λ e. let f = (arc_work e).feed in omega (arith, f.most)))
-
-is_at_requires : tie.Need-is-at-requires
-is_at_requires c κs = search rules
-
-returns_3 : tie.Need-returns-3
-returns_3 c =
+returns c =
     let e2 = c.before in
     let e1 = e2.before.before in
     c.is_at.ensures
-    ∙ same_test (λ t. arc_sound_lem (record { feed = record { some = e1.if1.false; most = e2.if2.false }; arc = arc_at_lem t }))
+    ∙ same_test (λ t. arc_sound_lem (record { feed = record { some = e1.if-a-lt1.false; most = e2.if-capacity-a.false }; arc = arc_at_lem t }))
     (λ t. arc_test (arc_work t).arc)
 
 pub arc_sound_spec : {M : Type 1} → statement M
-arc_sound_spec = tie.close (tie.spec returns returns_2 is_at_requires returns_3)
+arc_sound_spec = tie.close (tie.spec returns-then-a-lt1 returns-then-capacity-a is_at-requires returns)

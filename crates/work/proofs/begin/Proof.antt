@@ -5,43 +5,33 @@ use Rattle.work.specs.Work.{begun_of}
 use Rattle.work.proofs.begin.Statement.{statement}
 use Rattle.work.proofs.begin.Tie as tie
 
-enum_told : tie.Need-enum-told
-enum_told c = search rules
+enum_told-1 : tie.Need-enum_told-1
+enum_told-1 c = search rules
 
-new_requires : tie.Need-new-requires
-new_requires c κs = rw c.enum_told.given.1 at c.before.before.before.requires
+new-l-requires : tie.Need-new-l-requires
+new-l-requires c κs = rw c.in-Line.is at c.requires
 
-width_requires : tie.Need-width-requires
-width_requires c κs = search rules
+width-requires : tie.Need-width-requires
+width-requires c κs = search rules
 
-enum_known_path : tie.Need-enum-known-path
-enum_known_path c = search rules
+enum_known-path : tie.Need-enum_known-path
+enum_known-path c = search rules
 
-arc_of_requires : tie.Need-arc-of-requires
-arc_of_requires c κs = rw c.before.path.given.1 at c.before.before.before.before.requires
+arc_of-a-requires : tie.Need-arc_of-a-requires
+arc_of-a-requires c κs = rw c.in-Arc.is at c.requires
 
-width_requires_2 : tie.Need-width-requires-2
-width_requires_2 c κs = search rules
+width-requires-in-Arc : tie.Need-width-requires-in-Arc
+width-requires-in-Arc c κs = search rules
 
-returns : tie.Need-returns
+returns-in-Line : tie.Need-returns-in-Line
 unfolding begun_of block_width
-returns c =
-    simp (c.before.before.enum_told.given.1, c.before.new.ensures, c.width.ensures)
+returns-in-Line c =
+    simp (c.in-Line.is, c.new-l.ensures, c.width.ensures)
 
-returns_2 : tie.Need-returns-2
+returns-in-Arc : tie.Need-returns-in-Arc
 unfolding begun_of block_width
-returns_2 c =
-    simp (c.before.before.before.path.given.1, c.before.arc-of.ensures, c.width2.ensures)
+returns-in-Arc c =
+    simp (c.in-Arc.is, c.arc_of-a.ensures, c.width-in-Arc.ensures)
 
 pub begin_spec : {M : Type 1} → statement M
-begin_spec =
-    tie.close
-    (tie.spec
-    enum_told
-    new_requires
-    width_requires
-    enum_known_path
-    arc_of_requires
-    width_requires_2
-    returns
-    returns_2)
+begin_spec = tie.close (tie.spec enum_told-1 new-l-requires width-requires enum_known-path arc_of-a-requires width-requires-in-Arc returns-in-Line returns-in-Arc)

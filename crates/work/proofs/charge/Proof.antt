@@ -4,35 +4,26 @@ use mathlib.Core.Path.{◌∙◌}
 use Rattle.work.proofs.charge.Statement.{statement}
 use Rattle.work.proofs.charge.Tie as tie
 
-enum_told : tie.Need-enum-told
-enum_told c = search rules
+enum_told-1 : tie.Need-enum_told-1
+enum_told-1 c = search rules
 
-enum_told_2 : tie.Need-enum-told-2
-enum_told_2 c = search rules
+enum_told-in-Line : tie.Need-enum_told-in-Line
+enum_told-in-Line c = search rules
 
-enum_known_work : tie.Need-enum-known-work
-enum_known_work c = search rules
+enum_known-work : tie.Need-enum_known-work
+enum_known-work c = search rules
 
-charge_requires : tie.Need-charge-requires
-charge_requires c κs = rw c.before.work.given.1 at c.before.before.before.requires
+charge-requires : tie.Need-charge-requires
+charge-requires c κs = rw c.in-Arc.is at c.requires
 
-returns : tie.Need-returns
-returns c = search rules
+returns-in-Nothing : tie.Need-returns-in-Nothing
+returns-in-Nothing c = search rules
 
-returns_2 : tie.Need-returns-2
-returns_2 c = search rules
+returns-in-Line : tie.Need-returns-in-Line
+returns-in-Line c = search rules
 
-returns_3 : tie.Need-returns-3
-returns_3 c = c.charge.ensures ∙ rw c.before.before.work.given.1
+returns-in-Arc : tie.Need-returns-in-Arc
+returns-in-Arc c = c.charge.ensures ∙ rw c.in-Arc.is
 
 pub charge_spec : {M : Type 1} → statement M
-charge_spec =
-    tie.close
-    (tie.spec
-    enum_told
-    enum_told_2
-    enum_known_work
-    charge_requires
-    returns
-    returns_2
-    returns_3)
+charge_spec = tie.close (tie.spec enum_told-1 enum_told-in-Line enum_known-work charge-requires returns-in-Nothing returns-in-Line returns-in-Arc)

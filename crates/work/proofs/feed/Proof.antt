@@ -6,51 +6,40 @@ use Rattle.work.specs.laws.Charge.{charge_range, fed_low}
 use Rattle.work.proofs.feed.Statement.{statement}
 use Rattle.work.proofs.feed.Tie as tie
 
-feed_number_requires : tie.Need-feed-number-requires
-feed_number_requires c κs = search rules
+feed_number-added-requires : tie.Need-feed_number-added-requires
+feed_number-added-requires c κs = search rules
 
-mul_added : tie.Need-overflow-mul-added
-mul_added c = search rules
+overflow_mul-added : tie.Need-overflow_mul-added
+overflow_mul-added c = search rules
 
-add_sum : tie.Need-overflow-add-sum
-add_sum c = search rules
+overflow_add-sum : tie.Need-overflow_add-sum
+overflow_add-sum c = search rules
 
-mul_if1 : tie.Need-overflow-mul-if1
-mul_if1 c = search rules
+overflow_mul-capacity : tie.Need-overflow_mul-capacity
+overflow_mul-capacity c = search rules
 
-returns : tie.Need-returns
-returns c =
+returns-then-sum-capacity : tie.Need-returns-then-sum-capacity
+returns-then-sum-capacity c =
     let n = c.before in
-    let s = n.before.args in
-    rw n.feed-number.ensures (fed_low s.capacity s.at s.remainder s.work (rw n.feed-number.ensures at c.if1.true))
+    let s = n.args in
+    rw n.feed_number-added.ensures (fed_low s.capacity s.at s.remainder s.work (rw n.feed_number-added.ensures at c.if-sum-capacity.true))
 
-charge_requires : tie.Need-charge-requires
-charge_requires c κs = search rules
+charge-requires : tie.Need-charge-requires
+charge-requires c κs = search rules
 
-mul_add_feed : tie.Need-overflow-mul-add-feed
-mul_add_feed c =
+overflow_mul-charge : tie.Need-overflow_mul-charge
+overflow_mul-charge c =
     let s = c.before.before.before in
     rw c.charge.ensures (omega (arith, mul-le-mul (charge_range s.args.at s.args.work).1 s.requires.1))
 
-add_feed_requires : tie.Need-add-feed-requires
-add_feed_requires c κs = search rules
+add_feed-requires : tie.Need-add_feed-requires
+add_feed-requires c κs = search rules
 
-returns_2 : tie.Need-returns-2
-returns_2 c =
+returns : tie.Need-returns
+returns c =
     let h = c.before in
     let n = h.before.before in
-    rw (h.charge.ensures, n.feed-number.ensures) at c.add_feed.ensures
+    rw (h.charge.ensures, n.feed_number-added.ensures) at c.add_feed.ensures
 
 pub feed_spec : {M : Type 1} → statement M
-feed_spec =
-    tie.close
-    (tie.spec
-    feed_number_requires
-    mul_added
-    add_sum
-    mul_if1
-    returns
-    charge_requires
-    mul_add_feed
-    add_feed_requires
-    returns_2)
+feed_spec = tie.close (tie.spec feed_number-added-requires overflow_mul-added overflow_add-sum overflow_mul-capacity returns-then-sum-capacity charge-requires overflow_mul-charge add_feed-requires returns)

@@ -5,42 +5,32 @@ use Rattle.work.specs.computed.Work.{cycle_of}
 use Rattle.work.proofs.work_cycle.Statement.{statement}
 use Rattle.work.proofs.work_cycle.Tie as tie
 
-enum_told : tie.Need-enum-told
-enum_told c = search rules
+enum_told-1 : tie.Need-enum_told-1
+enum_told-1 c = search rules
 
-enum_known_work : tie.Need-enum-known-work
-enum_known_work c = search rules
+enum_known-work : tie.Need-enum_known-work
+enum_known-work c = search rules
 
-line_cycle_requires : tie.Need-line-cycle-requires
-line_cycle_requires c κs = rw c.before.work.given.1 at c.before.before.before.requires
+line_cycle-requires : tie.Need-line_cycle-requires
+line_cycle-requires c κs = rw c.in-Line.is at c.requires
 
-enum_known_work_2 : tie.Need-enum-known-work-2
-enum_known_work_2 c = search rules
+enum_known-work-in-Arc-1 : tie.Need-enum_known-work-in-Arc-1
+enum_known-work-in-Arc-1 c = search rules
 
-arc_cycle_requires : tie.Need-arc-cycle-requires
-arc_cycle_requires c κs = rw c.before.work2.given.1 at c.before.before.before.requires
+arc_cycle-requires : tie.Need-arc_cycle-requires
+arc_cycle-requires c κs = rw c.in-Arc.is at c.requires
 
-returns : tie.Need-returns
+returns-in-Nothing : tie.Need-returns-in-Nothing
 unfolding cycle_of
-returns c = rw c.enum_told.given.1
+returns-in-Nothing c = rw c.in-Nothing.is
 
-returns_2 : tie.Need-returns-2
+returns-in-Line : tie.Need-returns-in-Line
 unfolding cycle_of
-returns_2 c = c.line_cycle.ensures ∙ rw c.before.before.work.given.1
+returns-in-Line c = c.line_cycle.ensures ∙ rw c.in-Line.is
 
-returns_3 : tie.Need-returns-3
+returns-in-Arc : tie.Need-returns-in-Arc
 unfolding cycle_of
-returns_3 c = c.arc_cycle.ensures ∙ rw c.before.before.work2.given.1
+returns-in-Arc c = c.arc_cycle.ensures ∙ rw c.in-Arc.is
 
 pub work_cycle_spec : {M : Type 1} → statement M
-work_cycle_spec =
-    tie.close
-    (tie.spec
-    enum_told
-    enum_known_work
-    line_cycle_requires
-    enum_known_work_2
-    arc_cycle_requires
-    returns
-    returns_2
-    returns_3)
+work_cycle_spec = tie.close (tie.spec enum_told-1 enum_known-work line_cycle-requires enum_known-work-in-Arc-1 arc_cycle-requires returns-in-Nothing returns-in-Line returns-in-Arc)

@@ -5,42 +5,32 @@ use Rattle.work.specs.computed.Work.{work_sound}
 use Rattle.work.proofs.work_sound.Statement.{statement}
 use Rattle.work.proofs.work_sound.Tie as tie
 
-enum_told : tie.Need-enum-told
-enum_told c = search rules
+enum_told-1 : tie.Need-enum_told-1
+enum_told-1 c = search rules
 
-enum_known_work : tie.Need-enum-known-work
-enum_known_work c = search rules
+enum_known-work : tie.Need-enum_known-work
+enum_known-work c = search rules
 
-line_sound_requires : tie.Need-line-sound-requires
-line_sound_requires c κs = search rules
+line_sound-requires : tie.Need-line_sound-requires
+line_sound-requires c κs = search rules
 
-enum_known_work_2 : tie.Need-enum-known-work-2
-enum_known_work_2 c = search rules
+enum_known-work-in-Arc-1 : tie.Need-enum_known-work-in-Arc-1
+enum_known-work-in-Arc-1 c = search rules
 
-arc_sound_requires : tie.Need-arc-sound-requires
-arc_sound_requires c κs = search rules
+arc_sound-requires : tie.Need-arc_sound-requires
+arc_sound-requires c κs = search rules
 
-returns : tie.Need-returns
+returns-in-Nothing : tie.Need-returns-in-Nothing
 unfolding work_sound
-returns c = cc
+returns-in-Nothing c = cc
 
-returns_2 : tie.Need-returns-2
+returns-in-Line : tie.Need-returns-in-Line
 unfolding work_sound
-returns_2 c = c.line_sound.ensures ∙ simp c.before.before.work.given.1
+returns-in-Line c = c.line_sound.ensures ∙ simp c.in-Line.is
 
-returns_3 : tie.Need-returns-3
+returns-in-Arc : tie.Need-returns-in-Arc
 unfolding work_sound
-returns_3 c = c.arc_sound.ensures ∙ simp c.before.before.work2.given.1
+returns-in-Arc c = c.arc_sound.ensures ∙ simp c.in-Arc.is
 
 pub work_sound_spec : {M : Type 1} → statement M
-work_sound_spec =
-    tie.close
-    (tie.spec
-    enum_told
-    enum_known_work
-    line_sound_requires
-    enum_known_work_2
-    arc_sound_requires
-    returns
-    returns_2
-    returns_3)
+work_sound_spec = tie.close (tie.spec enum_told-1 enum_known-work line_sound-requires enum_known-work-in-Arc-1 arc_sound-requires returns-in-Nothing returns-in-Line returns-in-Arc)

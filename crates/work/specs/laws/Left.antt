@@ -6,7 +6,7 @@ use Rattle.whole.specs.laws.Test.{both}
 use Rattle.plane.specs.declared.point.Point.{Point}
 use Rattle.plane.specs.declared.travel.Travel.{Travel}
 use Rattle.plane.specs.laws.Travel.{Bounded}
-use Rattle.circle.specs.laws.Circle.{on_circle_to}
+use Rattle.circle.proofs.laws.Circle.{on_circle_to}
 use Rattle.line.specs.Line.{increment_x, increment_y, line_cycles}
 use Rattle.line.specs.laws.Cycles.{cycles_bound}
 use Rattle.arc.specs.Centre.{seen_from}
@@ -17,7 +17,7 @@ use Rattle.block.specs.declared.Path.{Path}
 use Rattle.block.specs.Block.{arc_of, cycles_along, block_cycles}
 use Rattle.block.specs.Chain.{root_along, root_of}
 use Rattle.block.specs.computed.Chain.{Accepted}
-use Rattle.block.specs.laws.Accepted.{path_ready, Ready}
+use Rattle.block.proofs.laws.Accepted.{path_ready, Ready}
 use Rattle.work.specs.declared.Work.{Work}
 use Rattle.work.specs.Work.{is_nothing, cycles_left, end_of, work_along, begun_of}
 use Rattle.work.specs.computed.Work.{work_sound}

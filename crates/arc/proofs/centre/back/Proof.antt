@@ -8,15 +8,15 @@ module _ (s : tie.Start) where
   x = at s.args.centre.x 2000000 s.requires.0.x ⊞ at s.args.seen.x 4000000 s.requires.1.x
 
   abbrev y : Code
-  y = at s.args.centre.y 2000000 s.pre.0.y ⊞ at s.args.seen.y 4000000 s.pre.1.y
+  y = at s.args.centre.y 2000000 s.requires.0.y ⊞ at s.args.seen.y 4000000 s.requires.1.y
 
-add_t3 : tie.Need-overflow-add-t3
-add_t3 c =
+overflow_add-result : tie.Need-overflow_add-result
+overflow_add-result c =
     let s = c.before.before.before.before in
     adds (at s.args.centre.x 2000000 s.requires.0.x) (at s.args.seen.x 4000000 s.requires.1.x) tt
 
-add_t4 : tie.Need-overflow-add-t4
-add_t4 c =
+overflow_add-result-2 : tie.Need-overflow_add-result-2
+overflow_add-result-2 c =
     let s = c.before.before.before.before.before.before.before.before in
     adds (at s.args.centre.y 2000000 s.requires.0.y) (at s.args.seen.y 4000000 s.requires.1.y) tt
 
@@ -26,4 +26,4 @@ returns c =
     λ i. record { x = exact (x s) tt i; y = exact (y s) tt i }
 
 pub back_spec : {M : Type 1} → statement M
-back_spec = tie.close (tie.spec add_t3 add_t4 returns)
+back_spec = tie.close (tie.spec overflow_add-result overflow_add-result-2 returns)

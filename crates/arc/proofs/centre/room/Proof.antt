@@ -8,33 +8,33 @@ module _ (s : tie.Start) where
   x = at s.args.centre.x 2000000 s.requires.0.x
 
   abbrev y : Code
-  y = at s.args.centre.y 2000000 s.pre.0.y
+  y = at s.args.centre.y 2000000 s.requires.0.y
 
   abbrev right : Code
-  right = at s.args.travel.x.upper 1000000 s.pre.1.x_upper
+  right = at s.args.travel.x.upper 1000000 s.requires.1.x_upper
 
   abbrev up : Code
-  up = at s.args.travel.y.upper 1000000 s.pre.1.y_upper
+  up = at s.args.travel.y.upper 1000000 s.requires.1.y_upper
 
   abbrev left : Code
-  left = at s.args.travel.x.lower 1000000 s.pre.1.x_lower
+  left = at s.args.travel.x.lower 1000000 s.requires.1.x_lower
 
   abbrev down : Code
-  down = at s.args.travel.y.lower 1000000 s.pre.1.y_lower
+  down = at s.args.travel.y.lower 1000000 s.requires.1.y_lower
 
-sub_t5 : tie.Need-overflow-sub-t5
-sub_t5 c = let s = c.before.before.before.before.before.before in subs (right s) (x s) tt
+overflow_sub-result : tie.Need-overflow_sub-result
+overflow_sub-result c = let s = c.before.before.before.before.before.before in subs (right s) (x s) tt
 
-sub_t6 : tie.Need-overflow-sub-t6
-sub_t6 c = let s = c.before.before.before.before.before.before.before.before.before.before in subs (up s) (y s) tt
+overflow_sub-result-2 : tie.Need-overflow_sub-result-2
+overflow_sub-result-2 c = let s = c.before.before.before.before.before.before.before.before.before.before in subs (up s) (y s) tt
 
-sub_t7 : tie.Need-overflow-sub-t7
-sub_t7 c =
+overflow_sub-result-3 : tie.Need-overflow_sub-result-3
+overflow_sub-result-3 c =
     let s = c.before.before.before.before.before.before.before.before.before.before.before.before.before.before in
     subs (x s) (left s) tt
 
-sub_t8 : tie.Need-overflow-sub-t8
-sub_t8 c =
+overflow_sub-result-4 : tie.Need-overflow_sub-result-4
+overflow_sub-result-4 c =
     let l = c.before.before.before.before.before.before.before.before in
     let s = l.before.before.before.before.before.before.before.before.before.before in
     subs (y s) (down s) tt
@@ -51,4 +51,4 @@ returns c =
     }
 
 pub room_spec : {M : Type 1} → statement M
-room_spec = tie.close (tie.spec sub_t5 sub_t6 sub_t7 sub_t8 returns)
+room_spec = tie.close (tie.spec overflow_sub-result overflow_sub-result-2 overflow_sub-result-3 overflow_sub-result-4 returns)

@@ -5,19 +5,19 @@ use Rattle.arc.proofs.stepper.up.Tie as tie
 use Rattle.plane.specs.Pulse.{change_of}
 use Rattle.arc.specs.computed.Stepper.{way_code}
 
-enum_told : tie.Need-enum-told
-enum_told c = search rules
+enum_told-1 : tie.Need-enum_told-1
+enum_told-1 c = search rules
 
-enum_told_2 : tie.Need-enum-told-2
-enum_told_2 c = search rules
+enum_told-in-Counterclockwise : tie.Need-enum_told-in-Counterclockwise
+enum_told-in-Counterclockwise c = search rules
 
-returns : tie.Need-returns
+returns-in-Clockwise : tie.Need-returns-in-Clockwise
 unfolding way_code change_of
-returns c = simp c.enum_told.given.1
+returns-in-Clockwise c = simp c.in-Clockwise.is
 
-returns_2 : tie.Need-returns-2
+returns-in-Counterclockwise : tie.Need-returns-in-Counterclockwise
 unfolding way_code change_of
-returns_2 c = simp c.enum-told2.given.1
+returns-in-Counterclockwise c = simp c.in-Counterclockwise.is
 
 pub up_spec : {M : Type 1} → statement M
-up_spec = tie.close (tie.spec enum_told enum_told_2 returns returns_2)
+up_spec = tie.close (tie.spec enum_told-1 enum_told-in-Counterclockwise returns-in-Clockwise returns-in-Counterclockwise)

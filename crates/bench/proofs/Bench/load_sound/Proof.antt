@@ -12,54 +12,45 @@ use Rattle.bench.proofs.Bench.load_sound.Statement.{statement}
 use Rattle.bench.proofs.Bench.load_sound.Tie as tie
 
 number_is :
-    (c : tie.After-load-no)
-    → let s = c.before.before.before.before.before.before.args in
-    c.load-no.result ≡ load_no (capacity_of s.self.settings) s.self.settings.travel (is_nothing s.self.work) s.self.at
+    (c : tie.After-load_no-no)
+    → let s = c.args in
+    c.load_no-no.result ≡ load_no (capacity_of s.self.settings) s.self.settings.travel (is_nothing s.self.work) s.self.at
     s.b
-number_is c = rw (c.before.is-nothing.ensures, c.before.before.capacity.ensures) at c.load-no.ensures
+number_is c = rw (c.is_nothing.ensures, c.capacity.ensures) at c.load_no-no.ensures
 
-capacity_requires : tie.Need-capacity-requires
-capacity_requires c κs = (sound c.before.before.before.requires).settings
+capacity-requires : tie.Need-capacity-requires
+capacity-requires c κs = (sound c.requires).settings
 
-is_nothing_requires : tie.Need-is-nothing-requires
-is_nothing_requires c κs = search rules
+is_nothing-requires : tie.Need-is_nothing-requires
+is_nothing-requires c κs = search rules
 
-load_no_requires : tie.Need-load-no-requires
-load_no_requires c κs = let s = sound c.before.before.before.before.before.requires in
+load_no-no-requires : tie.Need-load_no-no-requires
+load_no-no-requires c κs = let s = sound c.requires in
     ((settings_right _ s.settings).wide, s.in_travel)
+
+returns-then-no-ne0 : tie.Need-returns-then-no-ne0
+unfolding load_of
+returns-then-no-ne0 c = load_refused _ c.args.b _ c.if-no-ne0.true
+    ∙ simp (number_is c.before, c.requires)
+
+begin-begun-requires : tie.Need-begin-begun-requires
+begin-begun-requires c κs =
+    let s = sound c.requires in
+    loadable _ (settings_right _ s.settings).wide s.in_travel _ _ _ (sym (number_is c.before) ∙ c.if-no-ne0.false)
+
+moved-requires : tie.Need-moved-requires
+moved-requires c κs = search rules
 
 returns : tie.Need-returns
 unfolding load_of
-returns c = load_refused _ c.before.before.before.before.before.before.before.args.b _ c.if1.true
-    ∙ simp (number_is c.before, c.before.before.before.before.before.before.before.requires)
-
-begin_requires : tie.Need-begin-requires
-begin_requires c κs =
-    let s = sound c.before.before.before.before.before.before.before.requires in
-    loadable _ (settings_right _ s.settings).wide s.in_travel _ _ _ (sym (number_is c.before) ∙ c.if1.false)
-
-moved_requires : tie.Need-moved-requires
-moved_requires c κs = search rules
-
-returns_2 : tie.Need-returns-2
-unfolding load_of
-returns_2 c =
+returns c =
     let e = c.before.before in
     simp (
       c.moved.ensures,
-      c.before.begin.ensures,
-      e.before.before.before.before.before.before.before.requires,
-      sym (number_is e.before) ∙ e.if1.false,
+      c.begin-begun.ensures,
+      e.requires,
+      sym (number_is e.before) ∙ e.if-no-ne0.false,
     )
 
 pub load_sound_spec : {M : Type 1} → statement M
-load_sound_spec =
-    tie.close
-    (tie.spec
-    capacity_requires
-    is_nothing_requires
-    load_no_requires
-    returns
-    begin_requires
-    moved_requires
-    returns_2)
+load_sound_spec = tie.close (tie.spec capacity-requires is_nothing-requires load_no-no-requires returns-then-no-ne0 begin-begun-requires moved-requires returns)

@@ -1,25 +1,24 @@
 -- `run` is right because it refuses a record that is not sound, and runs any other.
 use borrow.Author.Rules.{rules}
 use mathlib.Core.Path.{sym, ◌∙◌}
-use borrow.Author.Tests.{not-true, not-false}
 use Rattle.bench.specs.laws.Run.{run_refused}
 use Rattle.bench.proofs.Bench.run.Statement.{statement}
 use Rattle.bench.proofs.Bench.run.Tie as tie
 
-sound_requires : tie.Need-sound-requires
-sound_requires c κs = search rules
+sound-requires : tie.Need-sound-requires
+sound-requires c κs = search rules
+
+returns-then-not-sound : tie.Need-returns-then-not-sound
+returns-then-not-sound c = run_refused _ _ _ (sym c.sound.ensures ∙ c.if-not-sound.true)
+
+run_sound-requires : tie.Need-run_sound-requires
+run_sound-requires c κs = sym c.sound.ensures ∙ c.if-not-sound.false
+
+shape_of-out : tie.Need-shape_of-out
+shape_of-out c = search rules
 
 returns : tie.Need-returns
-returns c = run_refused _ _ _ (sym c.before.sound.ensures ∙ not-true _ c.if1.true)
-
-run_sound_requires : tie.Need-run-sound-requires
-run_sound_requires c κs = sym c.before.before.sound.ensures ∙ not-false _ c.before.if1.false
-
-same_length : tie.Need-same-length
-same_length c = search rules
-
-returns_2 : tie.Need-returns-2
-returns_2 c = search rules
+returns c = search rules
 
 pub run_spec : {M : Type 1} → statement M
-run_spec = tie.close (tie.spec sound_requires returns run_sound_requires same_length returns_2)
+run_spec = tie.close (tie.spec sound-requires returns-then-not-sound run_sound-requires shape_of-out returns)

@@ -7,50 +7,41 @@ use Rattle.bench.specs.laws.Calls.{tick_works}
 use Rattle.bench.proofs.Bench.tick_sound.Statement.{statement}
 use Rattle.bench.proofs.Bench.tick_sound.Tie as tie
 
-returns : tie.Need-returns
+returns-then-self : tie.Need-returns-then-self
 unfolding tick_of
-returns c = simp (c.before.before.before.requires, c.if1.true)
+returns-then-self c = simp (c.requires, c.if-self.true)
 
-is_nothing_requires : tie.Need-is-nothing-requires
-is_nothing_requires c κs = search rules
+is_nothing-requires : tie.Need-is_nothing-requires
+is_nothing-requires c κs = search rules
 
-returns_2 : tie.Need-returns-2
+returns-then-is_nothing : tie.Need-returns-then-is_nothing
 unfolding tick_of
-returns_2 c = simp (
-  c.before.before.before.before.before.requires,
-  c.before.before.if1.false,
-  sym c.before.is-nothing.ensures
-      ∙ c.if2.true,
+returns-then-is_nothing c = simp (
+  c.requires,
+  c.if-self.false,
+  sym c.is_nothing.ensures
+      ∙ c.if-is_nothing.true,
 )
 
-capacity_requires : tie.Need-capacity-requires
-capacity_requires c κs = (sound c.before.before.before.before.before.requires).settings
+capacity-requires : tie.Need-capacity-requires
+capacity-requires c κs = (sound c.requires).settings
 
-work_tick_requires : tie.Need-work-tick-requires
-work_tick_requires c κs =
+work_tick-a-requires : tie.Need-work_tick-a-requires
+work_tick-a-requires c κs =
     let e = c.before in
-    rw c.capacity.ensures (ready (sound e.before.before.before.before.before.requires)
-    (sym e.before.is-nothing.ensures ∙ e.if2.false))
+    rw c.capacity.ensures (ready (sound e.requires)
+    (sym e.is_nothing.ensures ∙ e.if-is_nothing.false))
 
-moved_requires : tie.Need-moved-requires
-moved_requires c κs = search rules
+moved-requires : tie.Need-moved-requires
+moved-requires c κs = search rules
 
-returns_3 : tie.Need-returns-3
-returns_3 c =
+returns : tie.Need-returns
+returns c =
     let e = c.before.before.before.before in
-    let advance = rw c.before.before.before.capacity.ensures at c.before.before.work-tick.ensures in
+    let advance = rw c.capacity.ensures at c.work_tick-a.ensures in
     rw c.moved.ensures
-    (tick_works _ c.before.before.before.before.before.before.before.before.before.requires e.before.before.if1.false
-    (sym e.before.is-nothing.ensures ∙ e.if2.false) advance)
+    (tick_works _ c.requires e.if-self.false
+    (sym e.is_nothing.ensures ∙ e.if-is_nothing.false) advance)
 
 pub tick_sound_spec : {M : Type 1} → statement M
-tick_sound_spec =
-    tie.close
-    (tie.spec
-    returns
-    is_nothing_requires
-    returns_2
-    capacity_requires
-    work_tick_requires
-    moved_requires
-    returns_3)
+tick_sound_spec = tie.close (tie.spec returns-then-self is_nothing-requires returns-then-is_nothing capacity-requires work_tick-a-requires moved-requires returns)

@@ -2,7 +2,6 @@
 use mathlib.Core.Path.{◌≡◌, sym, ◌∙◌}
 use mathlib.Core.Bool.{true}
 use native.Mathlib.Omega.{arith}
-use borrow.Author.Tests.{not-true, not-false}
 use Rattle.plane.specs.Point.{Near}
 use Rattle.plane.specs.laws.Travel.{inside, travel_near}
 use Rattle.circle.specs.Circle.{on_circle}
@@ -11,21 +10,21 @@ use Rattle.block.proofs.questions.arc_no.Statement.{statement}
 use Rattle.block.proofs.questions.arc_no.Tie as tie
 
 end_near : (c : tie.Start) → Near 1000000 c.args.a.end
-end_near c = travel_near c.requires.wide (inside c.requires.end_in)
+end_near c = travel_near c.requires.wide (inside c.requires.end_in_lem)
 
-ends_on_circle_requires : tie.Need-ends-on-circle-requires
-ends_on_circle_requires c κs = let n = end_near c in (c.requires.centre, record { x = omega (arith, n.x); y = omega (arith, n.y) })
+ends_on_circle-requires : tie.Need-ends_on_circle-requires
+ends_on_circle-requires c κs = let n = end_near c in (c.requires.centre, record { x = omega (arith, n.x); y = omega (arith, n.y) })
 
 -- question 15, answered by yes
-ends_on : (c : tie.Else1) → on_circle c.before.before.args.a.square (seen_from c.before.before.args.a.centre
-    c.before.before.args.a.end) ≡ true
-ends_on c = sym c.before.ends-on-circle.ensures ∙ not-false _ c.if1.false
+ends_on : (c : tie.Else-not-ends_on_circle) → on_circle c.args.a.square (seen_from c.args.a.centre
+    c.args.a.end) ≡ true
+ends_on c = sym c.ends_on_circle.ensures ∙ c.if-not-ends_on_circle.false
 
-returns : tie.Need-returns
-returns c = simp (sym c.before.ends-on-circle.ensures ∙ not-true _ c.if1.true)
+returns-then-not-ends_on_circle : tie.Need-returns-then-not-ends_on_circle
+returns-then-not-ends_on_circle c = simp (sym c.ends_on_circle.ensures ∙ c.if-not-ends_on_circle.true)
 
-stays_requires : tie.Need-stays-requires
-stays_requires c κs =
+stays-requires : tie.Need-stays-requires
+stays-requires c κs =
     let s = c.before.before in (
       record {
         centre = s.requires.centre;
@@ -39,11 +38,11 @@ stays_requires c κs =
       s.requires.start_in,
     )
 
-returns_2 : tie.Need-returns-2
-returns_2 c = simp (ends_on c.before.before, sym c.before.stays.ensures ∙ not-true _ c.if2.true)
+returns-then-not-stays : tie.Need-returns-then-not-stays
+returns-then-not-stays c = simp (ends_on c.before.before, sym c.stays.ensures ∙ c.if-not-stays.true)
 
-returns_3 : tie.Need-returns-3
-returns_3 c = simp (ends_on c.before.before, sym c.before.stays.ensures ∙ not-false _ c.if2.false)
+returns : tie.Need-returns
+returns c = simp (ends_on c.before.before, sym c.stays.ensures ∙ c.if-not-stays.false)
 
 pub arc_no_spec : {M : Type 1} → statement M
-arc_no_spec = tie.close (tie.spec ends_on_circle_requires returns stays_requires returns_2 returns_3)
+arc_no_spec = tie.close (tie.spec ends_on_circle-requires returns-then-not-ends_on_circle stays-requires returns-then-not-stays returns)

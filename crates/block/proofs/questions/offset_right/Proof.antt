@@ -10,52 +10,52 @@ use Rattle.whole.specs.declared.sign.SignMagnitude.{SignMagnitude}
 use Rattle.block.proofs.questions.offset_right.Statement.{statement}
 use Rattle.block.proofs.questions.offset_right.Tie as tie
 
-part_requires : tie.Need-part-requires
-part_requires c κs = search rules
+part-x-requires : tie.Need-part-x-requires
+part-x-requires c κs = search rules
 
-part_requires_2 : tie.Need-part-requires-2
-part_requires_2 c κs = search rules
+part-y-requires : tie.Need-part-y-requires
+part-y-requires c κs = search rules
 
 -- the magnitudes
-x_is : (c : tie.After-part) → c.part.result.magnitude ≡ nat_abs c.before.before.args.o.x
-x_is c = let f : SFits w64 c.before.before.args.o.x = search rules in
-    ap (λ (p : SignMagnitude). p.magnitude) (simp to_z-of_z at c.part.ensures)
+x_is : (c : tie.After-part-x) → c.part-x.result.magnitude ≡ nat_abs c.args.o.x
+x_is c = let f : SFits w64 c.args.o.x = search rules in
+    ap (λ (p : SignMagnitude). p.magnitude) (simp to_z-of_z at c.part-x.ensures)
 
-y_is : (c : tie.After-part2) → c.part2.result.magnitude ≡ nat_abs c.before.before.before.before.args.o.y
-y_is c = let f : SFits w64 c.before.before.before.before.args.o.y = search rules in
-    ap (λ (p : SignMagnitude). p.magnitude) (simp to_z-of_z at c.part2.ensures)
+y_is : (c : tie.After-part-y) → c.part-y.result.magnitude ≡ nat_abs c.args.o.y
+y_is c = let f : SFits w64 c.args.o.y = search rules in
+    ap (λ (p : SignMagnitude). p.magnitude) (simp to_z-of_z at c.part-y.ensures)
 
-returns : tie.Need-returns
-returns c = simp (lt-leb _ _ (rw (x_is c.before.before.before.before) at c.if1.true))
+returns-then-x-gt1000000 : tie.Need-returns-then-x-gt1000000
+returns-then-x-gt1000000 c = simp (lt-leb _ _ (rw (x_is c.before.before.before.before) at c.if-x-gt1000000.true))
 
-returns_2 : tie.Need-returns-2
-returns_2 c =
+returns-then-y-gt1000000 : tie.Need-returns-then-y-gt1000000
+returns-then-y-gt1000000 c =
     let e = c.before.before in
     simp (
-      le-leb _ _ (rw (x_is e.before.before.before.before) at e.if1.false),
-      lt-leb _ _ (rw (y_is e.before.before) at c.if2.true),
+      le-leb _ _ (rw (x_is e.before.before.before.before) at e.if-x-gt1000000.false),
+      lt-leb _ _ (rw (y_is e.before.before) at c.if-y-gt1000000.true),
     )
 
-returns_3 : tie.Need-returns-3
-returns_3 c =
+returns-then-x-eq0 : tie.Need-returns-then-x-eq0
+returns-then-x-eq0 c =
     let i = c.before in
     let e2 = i.before.before in
     let e1 = e2.before.before in
     let p = e1.before.before in
     simp (
-      le-leb _ _ (rw (x_is p.before.before) at e1.if1.false),
-      le-leb _ _ (rw (y_is p) at e2.if2.false),
-      eq-eqb _ _ (rw (x_is p.before.before) at i.if3.true),
+      le-leb _ _ (rw (x_is p.before.before) at e1.if-x-gt1000000.false),
+      le-leb _ _ (rw (y_is p) at e2.if-y-gt1000000.false),
+      eq-eqb _ _ (rw (x_is p.before.before) at i.if-x-eq0.true),
       y_is p,
     )
 
-returns_4 : tie.Need-returns-4
-returns_4 c =
+returns : tie.Need-returns
+returns c =
     let e2 = c.before.before in
     let e1 = e2.before.before in
     let p = e1.before.before in
     let x = x_is p.before.before in
-    simp (le-leb _ _ (rw x at e1.if1.false), le-leb _ _ (rw (y_is p) at e2.if2.false), ne_eqb _ _ (λ z. c.if3.false (x ∙ z)))
+    simp (le-leb _ _ (rw x at e1.if-x-gt1000000.false), le-leb _ _ (rw (y_is p) at e2.if-y-gt1000000.false), ne_eqb _ _ (λ z. c.if-x-eq0.false (x ∙ z)))
 
 pub offset_right_spec : {M : Type 1} → statement M
-offset_right_spec = tie.close (tie.spec part_requires part_requires_2 returns returns_2 returns_3 returns_4)
+offset_right_spec = tie.close (tie.spec part-x-requires part-y-requires returns-then-x-gt1000000 returns-then-y-gt1000000 returns-then-x-eq0 returns)

@@ -1,67 +1,54 @@
 -- `path_no` is right because a line is asked 13, and an arc 14 to 16.
 use borrow.Author.Rules.{rules}
 use mathlib.Core.Path.{sym, ◌∙◌}
-use borrow.Author.Tests.{not-true, not-false}
 use Rattle.plane.specs.laws.Travel.{inside, travel_near}
 use Rattle.line.specs.Line.{differ}
-use Rattle.block.specs.laws.Begin.{begins}
+use Rattle.block.proofs.laws.Begin.{begins}
 use Rattle.block.proofs.questions.path_no.Statement.{statement}
 use Rattle.block.proofs.questions.path_no.Tie as tie
 
-enum_told : tie.Need-enum-told
-enum_told c = search rules
+enum_told-1 : tie.Need-enum_told-1
+enum_told-1 c = search rules
 
-is_same_requires : tie.Need-is-same-requires
-is_same_requires c κs = search rules
+is_same-requires : tie.Need-is_same-requires
+is_same-requires c κs = search rules
 
-returns : tie.Need-returns
+returns-then-is_same : tie.Need-returns-then-is_same
 unfolding differ
-returns c = simp (c.before.before.enum_told.given.1, sym c.before.is_same.ensures ∙ c.if1.true)
+returns-then-is_same c = simp (c.in-Line.is, sym c.is_same.ensures ∙ c.if-is_same.true)
 
-enum_known_path : tie.Need-enum-known-path
-enum_known_path c = search rules
+enum_known-path : tie.Need-enum_known-path
+enum_known-path c = search rules
 
-offset_right_requires : tie.Need-offset-right-requires
-offset_right_requires c κs = search rules
+offset_right-requires : tie.Need-offset_right-requires
+offset_right-requires c κs = search rules
 
-returns_2 : tie.Need-returns-2
-returns_2 c = simp (c.before.before.before.path.given.1, sym c.before.offset_right.ensures ∙ not-true _ c.if2.true)
+returns-then-not-offset_right : tie.Need-returns-then-not-offset_right
+returns-then-not-offset_right c = simp (c.in-Arc.is, sym c.offset_right.ensures ∙ c.if-not-offset_right.true)
 
-arc_of_requires : tie.Need-arc-of-requires
-arc_of_requires c κs =
-    let s = c.before.before.before.before.before.before in
-    (travel_near s.requires.0 (inside s.requires.1), sym c.before.offset_right.ensures ∙ not-false _ c.if2.false)
+arc_of-requires : tie.Need-arc_of-requires
+arc_of-requires c κs =
+    let s = c in
+    (travel_near s.requires.0 (inside s.requires.1), sym c.offset_right.ensures ∙ c.if-not-offset_right.false)
 
-arc_no_requires : tie.Need-arc-no-requires
-arc_no_requires c κs =
-    let s = c.before.before.before.before.before.before.before in
-    rw c.arc-of.ensures (begins s.args.start s.args.b _ _ s.requires.0 s.requires.1 s.requires.2
-    (arc_of_requires c.before κs).1)
+arc_no-requires : tie.Need-arc_no-requires
+arc_no-requires c κs =
+    let s = c in
+    rw c.arc_of.ensures (begins s.args.start s.args.b _ _ s.requires.0 s.requires.1 s.requires.2
+    (arc_of-requires c.before κs).1)
 
-returns_3 : tie.Need-returns-3
+returns-else-is_same : tie.Need-returns-else-is_same
 unfolding differ
-returns_3 c = simp (c.before.before.enum_told.given.1, sym c.before.is_same.ensures ∙ c.if1.false)
+returns-else-is_same c = simp (c.in-Line.is, sym c.is_same.ensures ∙ c.if-is_same.false)
 
-returns_4 : tie.Need-returns-4
-returns_4 c =
-    c.arc-no.ensures
+returns-else-not-offset_right : tie.Need-returns-else-not-offset_right
+returns-else-not-offset_right c =
+    c.arc_no.ensures
     ∙ simp (
-      c.before.before.before.before.before.path.given.1,
-      c.before.arc-of.ensures,
-      sym c.before.before.before.offset_right.ensures ∙ not-false _ c.before.before.if2.false,
+      c.in-Arc.is,
+      c.arc_of.ensures,
+      sym c.offset_right.ensures ∙ c.if-not-offset_right.false,
     )
 
 pub path_no_spec : {M : Type 1} → statement M
-path_no_spec =
-    tie.close
-    (tie.spec
-    enum_told
-    is_same_requires
-    returns
-    enum_known_path
-    offset_right_requires
-    returns_2
-    arc_of_requires
-    arc_no_requires
-    returns_3
-    returns_4)
+path_no_spec = tie.close (tie.spec enum_told-1 is_same-requires returns-then-is_same enum_known-path offset_right-requires returns-then-not-offset_right arc_of-requires arc_no-requires returns-else-is_same returns-else-not-offset_right)

@@ -9,47 +9,47 @@ use mir.Val.{SFits}
 use mir.Facts.{to_z-of_z}
 use Rattle.whole.specs.declared.sign.SignMagnitude.{SignMagnitude}
 use Rattle.whole.specs.laws.Squares.{square_le}
-use Rattle.block.specs.laws.Begin.{offset_right_lem}
+use Rattle.block.proofs.laws.Begin.{offset_right_lem}
 use Rattle.block.proofs.root.square.Statement.{statement}
 use Rattle.block.proofs.root.square.Tie as tie
 
-part_requires : tie.Need-part-requires
-part_requires c κs = search rules
+part-x-requires : tie.Need-part-x-requires
+part-x-requires c κs = search rules
 
-part_requires_2 : tie.Need-part-requires-2
-part_requires_2 c κs = search rules
+part-y-requires : tie.Need-part-y-requires
+part-y-requires c κs = search rules
 
 -- the magnitudes
-x_is : (c : tie.After-part) → c.part.result.magnitude ≡ nat_abs c.before.before.args.o.x
+x_is : (c : tie.After-part-x) → c.part-x.result.magnitude ≡ nat_abs c.args.o.x
 x_is c =
-    let f : SFits w64 c.before.before.args.o.x = search rules in
-    ap (λ (p : SignMagnitude). p.magnitude) (simp to_z-of_z at c.part.ensures)
+    let f : SFits w64 c.args.o.x = search rules in
+    ap (λ (p : SignMagnitude). p.magnitude) (simp to_z-of_z at c.part-x.ensures)
 
-y_is : (c : tie.After-part2) → c.part2.result.magnitude ≡ nat_abs c.before.before.before.before.args.o.y
+y_is : (c : tie.After-part-y) → c.part-y.result.magnitude ≡ nat_abs c.args.o.y
 y_is c =
-    let f : SFits w64 c.before.before.before.before.args.o.y = search rules in
-    ap (λ (p : SignMagnitude). p.magnitude) (simp to_z-of_z at c.part2.ensures)
+    let f : SFits w64 c.args.o.y = search rules in
+    ap (λ (p : SignMagnitude). p.magnitude) (simp to_z-of_z at c.part-y.ensures)
 
 -- the squares are small
-x_square : (c : tie.After-part) → c.part.result.magnitude * c.part.result.magnitude ≤ 1000000000000
+x_square : (c : tie.After-part-x) → c.part-x.result.magnitude * c.part-x.result.magnitude ≤ 1000000000000
 x_square c = let s = c.before.before in square_le {n = 1000000} (omega (arith, x_is c, (offset_right_lem s.args.o s.requires).x))
 
-y_square : (c : tie.After-part2) → c.part2.result.magnitude * c.part2.result.magnitude ≤ 1000000000000
+y_square : (c : tie.After-part-y) → c.part-y.result.magnitude * c.part-y.result.magnitude ≤ 1000000000000
 y_square c =
     let s = c.before.before.before.before in
     square_le {n = 1000000} (omega (arith, y_is c, (offset_right_lem s.args.o s.requires).y))
 
-mul_result : tie.Need-overflow-mul-result
-mul_result c = omega (arith, x_square c.before.before.before)
+overflow_mul-result : tie.Need-overflow_mul-result
+overflow_mul-result c = omega (arith, x_square c.before.before.before)
 
-mul_result_2 : tie.Need-overflow-mul-result-2
-mul_result_2 c = omega (arith, y_square c.before.before)
+overflow_mul-result-2 : tie.Need-overflow_mul-result-2
+overflow_mul-result-2 c = omega (arith, y_square c.before.before)
 
-add_result : tie.Need-overflow-add-result
-add_result c = omega (arith, x_square c.before.before.before.before, y_square c.before.before)
+overflow_add-result : tie.Need-overflow_add-result
+overflow_add-result c = omega (arith, x_square c.before.before.before.before, y_square c.before.before)
 
 returns : tie.Need-returns
 returns c = ap₂ (λ (m n : ℕ). m * m + n * n) (x_is c.before.before.before.before) (y_is c.before.before)
 
 pub square_spec : {M : Type 1} → statement M
-square_spec = tie.close (tie.spec part_requires part_requires_2 mul_result mul_result_2 add_result returns)
+square_spec = tie.close (tie.spec part-x-requires part-y-requires overflow_mul-result overflow_mul-result-2 overflow_add-result returns)

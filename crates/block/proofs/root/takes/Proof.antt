@@ -12,41 +12,33 @@ use Rattle.line.specs.Line.{increment_x, increment_y, line_cycles}
 use Rattle.block.proofs.root.takes.Statement.{statement}
 use Rattle.block.proofs.root.takes.Tie as tie
 
-between_requires : tie.Need-between-requires
-between_requires c κs = search rules
+between-way-requires : tie.Need-between-way-requires
+between-way-requires c κs = search rules
 
-small : (c : tie.After-between)
-    → (let w = c.between.result in w.x.magnitude * w.x.magnitude + w.y.magnitude * w.y.magnitude ≤ 8000000000000)
+small : (c : tie.After-between-way)
+    → (let w = c.between-way.result in w.x.magnitude * w.x.magnitude + w.y.magnitude * w.y.magnitude ≤ 8000000000000)
 small c =
     let s = c.before in
     let a = nat_abs (increment_x s.args.start s.args.end) in
     let b = nat_abs (increment_y s.args.start s.args.end) in
     let short = both {a = leb a 2000000} {b = leb b 2000000} s.requires in
-    rw c.between.ensures (omega (arith, square_le (leb-true a 2000000 short.0), square_le (leb-true b 2000000 short.1)))
+    rw c.between-way.ensures (omega (arith, square_le (leb-true a 2000000 short.0), square_le (leb-true b 2000000 short.1)))
 
-mul_is_least_root : tie.Need-overflow-mul-is-least-root
-mul_is_least_root c = omega (arith, small c.before.before.before)
+overflow_mul-x : tie.Need-overflow_mul-x
+overflow_mul-x c = omega (arith, small c.before.before.before)
 
-mul_is_least_root_2 : tie.Need-overflow-mul-is-least-root-2
-mul_is_least_root_2 c = omega (arith, small c.before.before.before.before)
+overflow_mul-y : tie.Need-overflow_mul-y
+overflow_mul-y c = omega (arith, small c.before.before.before.before)
 
-add_is_least_root : tie.Need-overflow-add-is-least-root
-add_is_least_root c = omega (arith, small c.before.before.before.before)
+overflow_add-x : tie.Need-overflow_add-x
+overflow_add-x c = omega (arith, small c.before.before.before.before)
 
-is_least_root_requires : tie.Need-is-least-root-requires
-is_least_root_requires c κs = omega (arith, small c.before.before.before.before)
+is_least_root-requires : tie.Need-is_least_root-requires
+is_least_root-requires c κs = omega (arith, small c.before.before.before.before)
 
 returns : tie.Need-returns
 unfolding line_cycles
-returns c = c.is-least-root.ensures ∙ rw c.before.before.before.before.before.between.ensures
+returns c = c.is_least_root.ensures ∙ rw c.between-way.ensures
 
 pub takes_spec : {M : Type 1} → statement M
-takes_spec =
-    tie.close
-    (tie.spec
-    between_requires
-    mul_is_least_root
-    mul_is_least_root_2
-    add_is_least_root
-    is_least_root_requires
-    returns)
+takes_spec = tie.close (tie.spec between-way-requires overflow_mul-x overflow_mul-y overflow_add-x is_least_root-requires returns)

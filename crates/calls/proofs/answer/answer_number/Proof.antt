@@ -5,39 +5,29 @@ use Rattle.encoding.specs.laws.Number.{word_fits, refusal_fits, through}
 use Rattle.calls.proofs.answer.answer_number.Statement.{statement}
 use Rattle.calls.proofs.answer.answer_number.Tie as tie
 
-enum_told : tie.Need-enum-told
-enum_told c = search rules
+enum_told-1 : tie.Need-enum_told-1
+enum_told-1 c = search rules
 
-enum_known_answer : tie.Need-enum-known-answer
-enum_known_answer c = search rules
+enum_known-answer : tie.Need-enum_known-answer
+enum_known-answer c = search rules
 
-word_requires : tie.Need-word-requires
-word_requires c κs = search rules
+word-requires : tie.Need-word-requires
+word-requires c κs = search rules
 
-enum_known_answer_2 : tie.Need-enum-known-answer-2
-enum_known_answer_2 c = search rules
+enum_known-answer-in-Refused-1 : tie.Need-enum_known-answer-in-Refused-1
+enum_known-answer-in-Refused-1 c = search rules
 
-refusal_requires : tie.Need-refusal-requires
-refusal_requires c κs = search rules
+refusal-requires : tie.Need-refusal-requires
+refusal-requires c κs = search rules
 
-returns : tie.Need-returns
-returns c = cc
+returns-in-Done : tie.Need-returns-in-Done
+returns-in-Done c = cc
 
-returns_2 : tie.Need-returns-2
-returns_2 c = through (word_fits _) c.word.ensures ∙ simp c.before.before.answer.given.1
+returns-in-Width : tie.Need-returns-in-Width
+returns-in-Width c = through (word_fits _) c.word.ensures ∙ simp c.in-Width.is
 
-returns_3 : tie.Need-returns-3
-returns_3 c = through (refusal_fits _) c.refusal.ensures ∙ simp c.before.before.answer2.given.1
+returns-in-Refused : tie.Need-returns-in-Refused
+returns-in-Refused c = through (refusal_fits _) c.refusal.ensures ∙ simp c.in-Refused.is
 
 pub answer_number_spec : {M : Type 1} → statement M
-answer_number_spec =
-    tie.close
-    (tie.spec
-    enum_told
-    enum_known_answer
-    word_requires
-    enum_known_answer_2
-    refusal_requires
-    returns
-    returns_2
-    returns_3)
+answer_number_spec = tie.close (tie.spec enum_told-1 enum_known-answer word-requires enum_known-answer-in-Refused-1 refusal-requires returns-in-Done returns-in-Width returns-in-Refused)

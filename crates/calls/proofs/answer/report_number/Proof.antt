@@ -5,59 +5,44 @@ use Rattle.encoding.specs.laws.Number.{refusal_fits, through}
 use Rattle.calls.proofs.answer.report_number.Statement.{statement}
 use Rattle.calls.proofs.answer.report_number.Tie as tie
 
-enum_told : tie.Need-enum-told
-enum_told c = search rules
+enum_told-1 : tie.Need-enum_told-1
+enum_told-1 c = search rules
 
-enum_told_2 : tie.Need-enum-told-2
-enum_told_2 c = search rules
+enum_told-in-Held : tie.Need-enum_told-in-Held
+enum_told-in-Held c = search rules
 
-enum_told_3 : tie.Need-enum-told-3
-enum_told_3 c = search rules
+enum_told-in-Ended : tie.Need-enum_told-in-Ended
+enum_told-in-Ended c = search rules
 
-enum_told_4 : tie.Need-enum-told-4
-enum_told_4 c = search rules
+enum_told-in-Spent : tie.Need-enum_told-in-Spent
+enum_told-in-Spent c = search rules
 
-enum_told_5 : tie.Need-enum-told-5
-enum_told_5 c = search rules
+enum_told-in-Full : tie.Need-enum_told-in-Full
+enum_told-in-Full c = search rules
 
-enum_known_report : tie.Need-enum-known-report
-enum_known_report c = search rules
+enum_known-report : tie.Need-enum_known-report
+enum_known-report c = search rules
 
-refusal_requires : tie.Need-refusal-requires
-refusal_requires c κs = search rules
+refusal-requires : tie.Need-refusal-requires
+refusal-requires c κs = search rules
 
-returns : tie.Need-returns
-returns c = cc
+returns-in-Idle : tie.Need-returns-in-Idle
+returns-in-Idle c = cc
 
-returns_2 : tie.Need-returns-2
-returns_2 c = cc
+returns-in-Held : tie.Need-returns-in-Held
+returns-in-Held c = cc
 
-returns_3 : tie.Need-returns-3
-returns_3 c = cc
+returns-in-Ended : tie.Need-returns-in-Ended
+returns-in-Ended c = cc
 
-returns_4 : tie.Need-returns-4
-returns_4 c = cc
+returns-in-Spent : tie.Need-returns-in-Spent
+returns-in-Spent c = cc
 
-returns_5 : tie.Need-returns-5
-returns_5 c = cc
+returns-in-Full : tie.Need-returns-in-Full
+returns-in-Full c = cc
 
-returns_6 : tie.Need-returns-6
-returns_6 c = through (refusal_fits _) c.refusal.ensures ∙ simp c.before.before.report.given.1
+returns-in-Refused : tie.Need-returns-in-Refused
+returns-in-Refused c = through (refusal_fits _) c.refusal.ensures ∙ simp c.in-Refused.is
 
 pub report_number_spec : {M : Type 1} → statement M
-report_number_spec =
-    tie.close
-    (tie.spec
-    enum_told
-    enum_told_2
-    enum_told_3
-    enum_told_4
-    enum_told_5
-    enum_known_report
-    refusal_requires
-    returns
-    returns_2
-    returns_3
-    returns_4
-    returns_5
-    returns_6)
+report_number_spec = tie.close (tie.spec enum_told-1 enum_told-in-Held enum_told-in-Ended enum_told-in-Spent enum_told-in-Full enum_known-report refusal-requires returns-in-Idle returns-in-Held returns-in-Ended returns-in-Spent returns-in-Full returns-in-Refused)

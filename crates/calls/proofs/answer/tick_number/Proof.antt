@@ -8,25 +8,23 @@ use Rattle.encoding.specs.laws.Number.{refusal_fits, through}
 use Rattle.calls.proofs.answer.tick_number.Statement.{statement}
 use Rattle.calls.proofs.answer.tick_number.Tie as tie
 
-enum_known_tick : tie.Need-enum-known-tick
-enum_known_tick c = search rules
+enum_known-tick : tie.Need-enum_known-tick
+enum_known-tick c = search rules
 
-cast_result : tie.Need-overflow-cast-result
-cast_result c = search rules
+overflow_cast-result : tie.Need-overflow_cast-result
+overflow_cast-result c = search rules
 
-enum_known_tick_2 : tie.Need-enum-known-tick-2
-enum_known_tick_2 c = search rules
+enum_known-tick-in-Refused-1 : tie.Need-enum_known-tick-in-Refused-1
+enum_known-tick-in-Refused-1 c = search rules
 
-refusal_requires : tie.Need-refusal-requires
-refusal_requires c κs = search rules
+refusal-requires : tie.Need-refusal-requires
+refusal-requires c κs = search rules
 
-returns : tie.Need-returns
-returns c = let b : c.before.tick.given.0.0 < 2 ^ 63 = search rules in to_z_pos w64 b ∙ simp c.before.tick.given.1
+returns-in-Byte : tie.Need-returns-in-Byte
+returns-in-Byte c = let b : c.in-Byte.b < 2 ^ 63 = search rules in to_z_pos w64 b ∙ simp c.in-Byte.is
 
-returns_2 : tie.Need-returns-2
-returns_2 c = through (refusal_fits _) c.refusal.ensures ∙ simp c.before.before.tick2.given.1
+returns-in-Refused : tie.Need-returns-in-Refused
+returns-in-Refused c = through (refusal_fits _) c.refusal.ensures ∙ simp c.in-Refused.is
 
 pub tick_number_spec : {M : Type 1} → statement M
-tick_number_spec =
-    tie.close
-    (tie.spec enum_known_tick cast_result enum_known_tick_2 refusal_requires returns returns_2)
+tick_number_spec = tie.close (tie.spec enum_known-tick overflow_cast-result enum_known-tick-in-Refused-1 refusal-requires returns-in-Byte returns-in-Refused)

@@ -6,14 +6,14 @@ use Rattle.charges.specs.laws.Jump.{quarter_some, placed}
 use Rattle.charges.proofs.jump.place_at.Statement.{statement}
 use Rattle.charges.proofs.jump.place_at.Tie as tie
 
-div_place_in : tie.Need-nonzero-div-place-in
-div_place_in c = omega (arith, quarter_some c.args.n c.requires.0 c.requires.1)
+nonzero_div-rank : tie.Need-nonzero_div-rank
+nonzero_div-rank c = omega (arith, quarter_some c.args.n c.requires.0 c.requires.1)
 
-rem_place_in : tie.Need-nonzero-rem-place-in
-rem_place_in c = omega (arith, quarter_some c.args.n c.requires.0 c.requires.1)
+nonzero_rem-rank-2 : tie.Need-nonzero_rem-rank-2
+nonzero_rem-rank-2 c = omega (arith, quarter_some c.args.n c.requires.0 c.requires.1)
 
-place_in_requires : tie.Need-place-in-requires
-place_in_requires c κs =
+place_in-requires : tie.Need-place_in-requires
+place_in-requires c κs =
     let p = c.requires in
     rw p.2 (placed c.args.n p.0 p.1 _ (mod-lt c.args.rank (quarter_some c.args.n p.0 p.1)))
 
@@ -22,4 +22,4 @@ unfolding place_at
 returns c = c.place_in.ensures
 
 pub place_at_spec : {M : Type 1} → statement M
-place_at_spec = tie.close (tie.spec div_place_in rem_place_in place_in_requires returns)
+place_at_spec = tie.close (tie.spec nonzero_div-rank nonzero_rem-rank-2 place_in-requires returns)

@@ -8,60 +8,48 @@ use Rattle.charges.specs.computed.Jump.{place_in}
 use Rattle.charges.proofs.jump.place_in.Statement.{statement}
 use Rattle.charges.proofs.jump.place_in.Tie as tie
 
-mul_if1 : tie.Need-overflow-mul-if1
-mul_if1 c = search rules
+overflow_mul-i : tie.Need-overflow_mul-i
+overflow_mul-i c = search rules
 
-mul_nearest_root : tie.Need-overflow-mul-nearest-root
-mul_nearest_root c =
-    let p = c.before.requires in
+overflow_mul-i-then-i-quarter : tie.Need-overflow_mul-i-then-i-quarter
+overflow_mul-i-then-i-quarter c =
+    let p = c.requires in
     let l = le_of_lt p.rank in
     omega (arith, mul-le-mul l l, mul-le-mul p.quarter p.quarter)
 
-sub_nearest_root : tie.Need-overflow-sub-nearest-root
-sub_nearest_root c = c.before.requires.low c.if1.true
+overflow_sub-n : tie.Need-overflow_sub-n
+overflow_sub-n c = c.requires.low c.if-i-quarter.true
 
-nearest_root_requires : tie.Need-nearest-root-requires
-nearest_root_requires c κs = search rules
+nearest_root-requires : tie.Need-nearest_root-requires
+nearest_root-requires c κs = search rules
+
+returns-then-i-quarter : tie.Need-returns-then-i-quarter
+unfolding place_in
+returns-then-i-quarter c =
+    let s = c.args in
+    rw (le-leb (2 * s.i) s.quarter c.if-i-quarter.true, c.nearest_root.ensures)
+
+overflow_sub-along : tie.Need-overflow_sub-along
+overflow_sub-along c = search rules
+
+overflow_mul-along : tie.Need-overflow_mul-along
+overflow_mul-along c =
+    let p = c.requires in
+    let s = c.args in
+    let l : s.quarter - s.i ≤ 2000000 = omega arith in
+    omega (arith, mul-le-mul l l)
+
+overflow_sub-n-2 : tie.Need-overflow_sub-n-2
+overflow_sub-n-2 c = c.requires.high c.if-i-quarter.false
+
+nearest_root-requires-2 : tie.Need-nearest_root-requires-2
+nearest_root-requires-2 c κs = search rules
 
 returns : tie.Need-returns
 unfolding place_in
 returns c =
-    let s = c.before.before.args in
-    rw (le-leb (2 * s.i) s.quarter c.before.if1.true, c.nearest_root.ensures)
-
-sub_along : tie.Need-overflow-sub-along
-sub_along c = search rules
-
-mul_nearest_root_2 : tie.Need-overflow-mul-nearest-root-2
-mul_nearest_root_2 c =
-    let p = c.before.requires in
-    let s = c.before.args in
-    let l : s.quarter - s.i ≤ 2000000 = omega arith in
-    omega (arith, mul-le-mul l l)
-
-sub_nearest_root_2 : tie.Need-overflow-sub-nearest-root-2
-sub_nearest_root_2 c = c.before.requires.high c.if1.false
-
-nearest_root_requires_2 : tie.Need-nearest-root-requires-2
-nearest_root_requires_2 c κs = search rules
-
-returns_2 : tie.Need-returns-2
-unfolding place_in
-returns_2 c =
-    let s = c.before.before.args in
-    rw (lt-leb (2 * s.i) s.quarter c.before.if1.false, c.nearest-root2.ensures)
+    let s = c.args in
+    rw (lt-leb (2 * s.i) s.quarter c.if-i-quarter.false, c.nearest_root-2.ensures)
 
 pub place_in_spec : {M : Type 1} → statement M
-place_in_spec =
-    tie.close
-    (tie.spec
-    mul_if1
-    mul_nearest_root
-    sub_nearest_root
-    nearest_root_requires
-    returns
-    sub_along
-    mul_nearest_root_2
-    sub_nearest_root_2
-    nearest_root_requires_2
-    returns_2)
+place_in_spec = tie.close (tie.spec overflow_mul-i overflow_mul-i-then-i-quarter overflow_sub-n nearest_root-requires returns-then-i-quarter overflow_sub-along overflow_mul-along overflow_sub-n-2 nearest_root-requires-2 returns)

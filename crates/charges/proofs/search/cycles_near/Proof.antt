@@ -5,49 +5,38 @@ use Rattle.charges.specs.laws.Jump.{start_on, start_bounds}
 use Rattle.charges.proofs.search.cycles_near.Statement.{statement}
 use Rattle.charges.proofs.search.cycles_near.Tie as tie
 
-quadrant_charges_requires : tie.Need-quadrant-charges-requires
-quadrant_charges_requires c κs = let b = start_bounds c.before.requires in (b.quarter, b.radius)
+quadrant_charges-round-requires : tie.Need-quadrant_charges-round-requires
+quadrant_charges-round-requires c κs = let b = start_bounds c.requires in (b.quarter, b.radius)
 
-mul_round : tie.Need-overflow-mul-round
-mul_round c = omega (arith, start_bounds c.before.before.requires, c.quadrant-charges.ensures)
+overflow_mul-round : tie.Need-overflow_mul-round
+overflow_mul-round c = omega (arith, start_bounds c.requires, c.quadrant_charges-round.ensures)
 
-least_requires : tie.Need-least-requires
-least_requires c κs = search rules
+least-requires : tie.Need-least-requires
+least-requires c κs = search rules
 
-add_rank_near : tie.Need-overflow-add-rank-near
-add_rank_near c =
+overflow_add-from : tie.Need-overflow_add-from
+overflow_add-from c =
     let q = c.before.before in
-    omega (arith, start_bounds q.before.before.requires, q.quadrant-charges.ensures, c.before.least.ensures)
+    omega (arith, start_bounds q.requires, q.quadrant_charges-round.ensures, c.least.ensures)
 
-rank_near_requires : tie.Need-rank-near-requires
-rank_near_requires c κs =
+rank_near-rank-requires : tie.Need-rank_near-rank-requires
+rank_near-rank-requires c κs =
     let q = c.before.before in
-    let h = q.before.before.requires in
+    let h = q.requires in
     let b = start_bounds h in
-    ((start_on h).bound, b.some, b.quarter, b.radius, omega (arith, q.quadrant-charges.ensures, c.before.least.ensures))
+    ((start_on h).bound, b.some, b.quarter, b.radius, omega (arith, q.quadrant_charges-round.ensures, c.least.ensures))
 
-add_less : tie.Need-overflow-add-less
-add_less c = omega (arith, start_bounds c.before.before.before.before.before.before.requires)
+overflow_add-from-2 : tie.Need-overflow_add-from-2
+overflow_add-from-2 c = omega (arith, start_bounds c.requires)
 
-less_requires : tie.Need-less-requires
-less_requires c κs = search rules
+less-requires : tie.Need-less-requires
+less-requires c κs = search rules
 
-add_result : tie.Need-overflow-add-result
-add_result c = omega (arith, c.less.ensures, c.before.before.rank-near.ensures)
+overflow_add-result : tie.Need-overflow_add-result
+overflow_add-result c = omega (arith, c.less.ensures, c.rank_near-rank.ensures)
 
 returns : tie.Need-returns
 returns c = search rules
 
 pub cycles_near_spec : {M : Type 1} → statement M
-cycles_near_spec =
-    tie.close
-    (tie.spec
-    quadrant_charges_requires
-    mul_round
-    least_requires
-    add_rank_near
-    rank_near_requires
-    add_less
-    less_requires
-    add_result
-    returns)
+cycles_near_spec = tie.close (tie.spec quadrant_charges-round-requires overflow_mul-round least-requires overflow_add-from rank_near-rank-requires overflow_add-from-2 less-requires overflow_add-result returns)

@@ -11,30 +11,30 @@ use Rattle.charges.specs.laws.Paid.{paid_is}
 use Rattle.charges.proofs.search.paid.Statement.{statement}
 use Rattle.charges.proofs.search.paid.Tie as tie
 
-found : (c : tie.After-search) → (let s = c.before.before.args in
-    c.search.result ≡ arrived_of (jump_start s.n s.turn s.p) (most_paid (charges_in s.n s.turn s.p) s.sum s.most))
+found : (c : tie.After-search-r) → (let s = c.args in
+    c.search-r.result ≡ arrived_of (jump_start s.n s.turn s.p) (most_paid (charges_in s.n s.turn s.p) s.sum s.most))
 unfolding jump_start
 found c =
-    let s = c.before.before.args in
-    c.search.ensures ∙ ap (λ (x : Start). arrived_of x (most_paid (charges_on x) s.sum s.most)) c.before.enter.ensures
+    let s = c.args in
+    c.search-r.ensures ∙ ap (λ (x : Start). arrived_of x (most_paid (charges_on x) s.sum s.most)) c.enter.ensures
 
-small : (c : tie.After-search) → SmallPlace c.search.result.place
+small : (c : tie.After-search-r) → SmallPlace c.search-r.result.place
 small c = let s = c.before.before in rw (found c) (reached_small (started s.args.n s.args.turn s.args.p s.requires.0) _)
 
-enter_requires : tie.Need-enter-requires
-enter_requires c κs = c.requires.0
+enter-requires : tie.Need-enter-requires
+enter-requires c κs = c.requires.0
 
-search_requires : tie.Need-search-requires
+search-r-requires : tie.Need-search-r-requires
 unfolding jump_start
-search_requires c κs =
+search-r-requires c κs =
     let s = c.before in
     rw c.enter.ensures (started s.args.n s.args.turn s.args.p s.requires.0, s.requires.1)
 
-point_of_requires : tie.Need-point-of-requires
-point_of_requires c κs = let m = small c.before in omega (arith, m.four, m.along, m.across)
+point_of-requires : tie.Need-point_of-requires
+point_of-requires c κs = let m = small c.before in omega (arith, m.four, m.along, m.across)
 
-seen_from_requires : tie.Need-seen-from-requires
-seen_from_requires c κs = rw c.point-of.ensures (omega (arith, (small c.before.before).height))
+seen_from-requires : tie.Need-seen_from-requires
+seen_from-requires c κs = rw c.point_of.ensures (omega (arith, (small c.before.before).height))
 
 returns : tie.Need-returns
 returns c =
@@ -42,7 +42,7 @@ returns c =
     let f = q.before.before in
     let s = f.before.before in
     paid_is s.args.n s.args.turn s.args.p s.args.most s.args.sum s.requires.0 (found f)
-    (c.seen-from.ensures ∙ ap (seen s.args.turn) q.point-of.ensures)
+    (c.seen_from.ensures ∙ ap (seen s.args.turn) q.point_of.ensures)
 
 pub paid_spec : {M : Type 1} → statement M
-paid_spec = tie.close (tie.spec enter_requires search_requires point_of_requires seen_from_requires returns)
+paid_spec = tie.close (tie.spec enter-requires search-r-requires point_of-requires seen_from-requires returns)

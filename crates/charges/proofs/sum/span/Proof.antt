@@ -5,8 +5,8 @@ use native.Mathlib.Omega.{arith}
 use Rattle.whole.specs.Root.{nearest_root}
 use Rattle.circle.specs.computed.Step.{seen_place}
 use Rattle.circle.specs.Circle.{quarter_of}
-use Rattle.circle.specs.laws.Circle.{on_circle_to, radius_bound}
-use Rattle.circle.specs.laws.Count.{quarter_bound, rank_bound}
+use Rattle.circle.proofs.laws.Circle.{on_circle_to, radius_bound}
+use Rattle.circle.proofs.laws.Count.{quarter_bound, rank_bound}
 use Rattle.charges.specs.computed.Sum.{span_to, round_charges_of}
 use Rattle.charges.specs.laws.Sum.{toll_bound, round_bound, span_closed}
 use borrow.Author.Rules.{rules}
@@ -14,65 +14,65 @@ use Rattle.charges.proofs.sum.span.Statement.{statement}
 use Rattle.charges.proofs.sum.span.Tie as tie
 
 -- the ways from the X axis on to p and to e
-from_is : (c : tie.After-seen-span) → (let s = c.before.before.before.args in
-    c.seen_span.result ≡ span_to (quarter_of s.n) (nearest_root s.n) (seen_place s.turn s.p))
-from_is c = c.seen_span.ensures ∙ rw (c.before.before.nearest_root.ensures, c.before.nearest-root2.ensures)
+from_is : (c : tie.After-seen_span-from) → (let s = c.args in
+    c.seen_span-from.result ≡ span_to (quarter_of s.n) (nearest_root s.n) (seen_place s.turn s.p))
+from_is c = c.seen_span-from.ensures ∙ rw (c.nearest_root-quarter.ensures, c.nearest_root-radius.ensures)
 
-to_is : (c : tie.After-seen-span2) → (let s = c.before.before.before.before.args in
-    c.seen-span2.result ≡ span_to (quarter_of s.n) (nearest_root s.n) (seen_place s.turn s.e))
-to_is c = c.seen-span2.ensures ∙ rw (c.before.before.before.nearest_root.ensures, c.before.before.nearest-root2.ensures)
+to_is : (c : tie.After-seen_span-to) → (let s = c.args in
+    c.seen_span-to.result ≡ span_to (quarter_of s.n) (nearest_root s.n) (seen_place s.turn s.e))
+to_is c = c.seen_span-to.ensures ∙ rw (c.nearest_root-quarter.ensures, c.nearest_root-radius.ensures)
 
-mul_nearest_root : tie.Need-overflow-mul-nearest-root
-mul_nearest_root c = omega (arith, (on_circle_to c.args.n c.args.p c.requires.0).bound)
+overflow_mul-n : tie.Need-overflow_mul-n
+overflow_mul-n c = omega (arith, (on_circle_to c.args.n c.args.p c.requires.0).bound)
 
-nearest_root_requires : tie.Need-nearest-root-requires
-nearest_root_requires c κs = search rules
+nearest_root-quarter-requires : tie.Need-nearest_root-quarter-requires
+nearest_root-quarter-requires c κs = search rules
 
-nearest_root_requires_2 : tie.Need-nearest-root-requires-2
-nearest_root_requires_2 c κs = search rules
+nearest_root-radius-requires : tie.Need-nearest_root-radius-requires
+nearest_root-radius-requires c κs = search rules
 
-seen_span_requires : tie.Need-seen-span-requires
-seen_span_requires c κs = search rules
+seen_span-from-requires : tie.Need-seen_span-from-requires
+seen_span-from-requires c κs = search rules
 
-seen_span_requires_2 : tie.Need-seen-span-requires-2
-seen_span_requires_2 c κs = search rules
+seen_span-to-requires : tie.Need-seen_span-to-requires
+seen_span-to-requires c κs = search rules
 
-mul_way_on : tie.Need-overflow-mul-way-on
-mul_way_on c =
+overflow_mul-quarter : tie.Need-overflow_mul-quarter
+overflow_mul-quarter c =
     let s = c.before.before.before.before in
-    rw c.before.before.before.nearest_root.ensures (omega (arith, quarter_bound s.args.n s.args.p s.requires.0))
+    rw c.nearest_root-quarter.ensures (omega (arith, quarter_bound s.args.n s.args.p s.requires.0))
 
-way_on_requires : tie.Need-way-on-requires
-way_on_requires c κs =
+way_on-requires : tie.Need-way_on-requires
+way_on-requires c κs =
     let s = c.before.before.before.before in
     let n = s.args.n in
     let from = rank_bound n s.args.turn s.args.p s.requires.0 in
     let to = rank_bound n s.args.turn s.args.e s.requires.1 in
-    rw (from_is c.before, to_is c, c.before.before.before.nearest_root.ensures)
+    rw (from_is c.before, to_is c, c.nearest_root-quarter.ensures)
     (omega (arith, quarter_bound n s.args.p s.requires.0))
 
-quadrant_charges_requires : tie.Need-quadrant-charges-requires
-quadrant_charges_requires c κs =
+quadrant_charges-requires : tie.Need-quadrant_charges-requires
+quadrant_charges-requires c κs =
     let roots = c.before.before.before in
     let s = roots.before.before in
     let o = on_circle_to s.args.n s.args.p s.requires.0 in
-    rw (roots.before.nearest_root.ensures, roots.nearest-root2.ensures)
+    rw (roots.nearest_root-quarter.ensures, roots.nearest_root-radius.ensures)
     (quarter_bound s.args.n s.args.p s.requires.0, radius_bound s.args.n o.some o.bound)
 
 -- the charges of a full turn
-round_is : (c : tie.After-quadrant-charges) → (let s = c.before.before.before.before.before.before.args in
-    4 * c.quadrant-charges.result ≡ round_charges_of (quarter_of s.n) (nearest_root s.n))
+round_is : (c : tie.After-quadrant_charges) → (let s = c.args in
+    4 * c.quadrant_charges.result ≡ round_charges_of (quarter_of s.n) (nearest_root s.n))
 round_is c =
     let roots = c.before.before.before.before in
-    ap (λ (r : ℕ). 4 * r) c.quadrant-charges.ensures ∙ rw (roots.before.nearest_root.ensures, roots.nearest-root2.ensures)
+    ap (λ (r : ℕ). 4 * r) c.quadrant_charges.ensures ∙ rw (roots.nearest_root-quarter.ensures, roots.nearest_root-radius.ensures)
 
-mul_way_on_2 : tie.Need-overflow-mul-way-on-2
-mul_way_on_2 c =
+overflow_mul-quadrant_charges : tie.Need-overflow_mul-quadrant_charges
+overflow_mul-quadrant_charges c =
     let s = c.before.before.before.before.before.before in
     omega (arith, round_is c, round_bound s.args.n s.args.p s.requires.0)
 
-way_on_requires_2 : tie.Need-way-on-requires-2
-way_on_requires_2 c κs =
+way_on-requires-2 : tie.Need-way_on-requires-2
+way_on-requires-2 c κs =
     let s = c.before.before.before.before.before.before in
     let n = s.args.n in
     let from = toll_bound n s.args.turn s.args.p s.requires.0 in
@@ -89,22 +89,9 @@ returns c =
     let n = s.args.n in
     span_closed n s.args.turn s.args.p s.args.e
     (on_circle_to n s.args.p s.requires.0).circle (on_circle_to n s.args.e s.requires.1).circle
-    k.way_on.result c.way-on2.result
-    (k.way_on.ensures ∙ rw (from_is k.before.before, to_is k.before, roots.before.nearest_root.ensures))
-    (c.way-on2.ensures ∙ rw (from_is k.before.before, to_is k.before, round_is r))
+    k.way_on.result c.way_on-2.result
+    (k.way_on.ensures ∙ rw (from_is k.before.before, to_is k.before, roots.nearest_root-quarter.ensures))
+    (c.way_on-2.ensures ∙ rw (from_is k.before.before, to_is k.before, round_is r))
 
 pub span_spec : {M : Type 1} → statement M
-span_spec =
-    tie.close
-    (tie.spec
-    mul_nearest_root
-    nearest_root_requires
-    nearest_root_requires_2
-    seen_span_requires
-    seen_span_requires_2
-    mul_way_on
-    way_on_requires
-    quadrant_charges_requires
-    mul_way_on_2
-    way_on_requires_2
-    returns)
+span_spec = tie.close (tie.spec overflow_mul-n nearest_root-quarter-requires nearest_root-radius-requires seen_span-from-requires seen_span-to-requires overflow_mul-quarter way_on-requires quadrant_charges-requires overflow_mul-quadrant_charges way_on-requires-2 returns)

@@ -16,50 +16,38 @@ before_small {Q} {R} {q} m =
     let d : 2 * R ≤ 2 * 1414214 = omega (arith, m.radius) in
     mul-le-mul k d
 
-rank_requires : tie.Need-rank-requires
-rank_requires c κs = c.requires.ranked
+rank-cycles-requires : tie.Need-rank-cycles-requires
+rank-cycles-requires c κs = c.requires.ranked
 
-mul_pulses : tie.Need-overflow-mul-pulses
-mul_pulses c = search rules
+overflow_mul-pulses : tie.Need-overflow_mul-pulses
+overflow_mul-pulses c = search rules
 
-mul_pulses_2 : tie.Need-overflow-mul-pulses-2
-mul_pulses_2 c = omega (arith, before_small c.before.before.requires)
+overflow_mul-pulses-2 : tie.Need-overflow_mul-pulses-2
+overflow_mul-pulses-2 c = omega (arith, before_small c.requires)
 
-add_pulses : tie.Need-overflow-add-pulses
-add_pulses c = search rules
+overflow_add-pulses : tie.Need-overflow_add-pulses
+overflow_add-pulses c = search rules
 
-sub_pulses : tie.Need-overflow-sub-pulses
-sub_pulses c = search rules
+overflow_sub-pulses : tie.Need-overflow_sub-pulses
+overflow_sub-pulses c = search rules
 
-add_pulses_2 : tie.Need-overflow-add-pulses-2
-add_pulses_2 c = let m = c.before.before.before.before.requires in omega (arith, before_small m, m.radius, m.side)
+overflow_add-pulses-2 : tie.Need-overflow_add-pulses-2
+overflow_add-pulses-2 c = let m = c.requires in omega (arith, before_small m, m.radius, m.side)
 
-mul_charges : tie.Need-overflow-mul-charges
-mul_charges c = let m = c.before.before.before.before.requires in omega (arith, m.rank, c.before.before.before.rank.ensures)
+overflow_mul-charges : tie.Need-overflow_mul-charges
+overflow_mul-charges c = let m = c.requires in omega (arith, m.rank, c.rank-cycles.ensures)
 
-mul_charges_2 : tie.Need-overflow-mul-charges-2
-mul_charges_2 c = let m = c.before.before.before.before.requires in omega (arith, before_small m, m.radius, m.side)
+overflow_mul-charges-2 : tie.Need-overflow_mul-charges-2
+overflow_mul-charges-2 c = let m = c.requires in omega (arith, before_small m, m.radius, m.side)
 
-add_charges : tie.Need-overflow-add-charges
-add_charges c =
-    let m = c.before.before.before.before.requires in
-    omega (arith, before_small m, m.radius, m.side, m.rank, c.before.before.before.rank.ensures)
+overflow_add-charges : tie.Need-overflow_add-charges
+overflow_add-charges c =
+    let m = c.requires in
+    omega (arith, before_small m, m.radius, m.side, m.rank, c.rank-cycles.ensures)
 
 returns : tie.Need-returns
 unfolding toll_of pulses_to
-returns c = rw c.before.before.before.rank.ensures
+returns c = rw c.rank-cycles.ensures
 
 pub span_to_spec : {M : Type 1} → statement M
-span_to_spec =
-    tie.close
-    (tie.spec
-    rank_requires
-    mul_pulses
-    mul_pulses_2
-    add_pulses
-    sub_pulses
-    add_pulses_2
-    mul_charges
-    mul_charges_2
-    add_charges
-    returns)
+span_to_spec = tie.close (tie.spec rank-cycles-requires overflow_mul-pulses overflow_mul-pulses-2 overflow_add-pulses overflow_sub-pulses overflow_add-pulses-2 overflow_mul-charges overflow_mul-charges-2 overflow_add-charges returns)

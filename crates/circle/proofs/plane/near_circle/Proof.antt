@@ -10,37 +10,36 @@ use Rattle.circle.proofs.plane.near_circle.Tie as tie
 square_bound : {a : ℕ} → a ≤ 2000000 → a * a ≤ 2000000 * 2000000
 square_bound h = mul-le-mul h h
 
-larger_requires : tie.Need-larger-requires
-larger_requires c κs = search rules
+larger-m-requires : tie.Need-larger-m-requires
+larger-m-requires c κs = search rules
 
-mul_s : tie.Need-overflow-mul-s
-mul_s c = omega (arith, square_bound c.before.requires.1)
+overflow_mul-s : tie.Need-overflow_mul-s
+overflow_mul-s c = omega (arith, square_bound c.requires.1)
 
-mul_s_2 : tie.Need-overflow-mul-s-2
-mul_s_2 c = omega (arith, square_bound c.before.requires.2)
+overflow_mul-s-2 : tie.Need-overflow_mul-s-2
+overflow_mul-s-2 c = omega (arith, square_bound c.requires.2)
 
-add_s : tie.Need-overflow-add-s
-add_s c = omega (arith, square_bound c.before.requires.1, square_bound c.before.requires.2)
+overflow_add-s : tie.Need-overflow_add-s
+overflow_add-s c = omega (arith, square_bound c.requires.1, square_bound c.requires.2)
 
-add_if1 : tie.Need-overflow-add-if1
-add_if1 c = search rules
+overflow_add-n : tie.Need-overflow_add-n
+overflow_add-n c = search rules
+
+returns-then-n-m : tie.Need-returns-then-n-m
+returns-then-n-m c =
+    let s = c.args in
+    rw (le-ltb (s.a * s.a + s.b * s.b) (s.n + max s.a s.b) (omega (arith, c.larger-m.ensures)))
+
+overflow_add-result : tie.Need-overflow_add-result
+overflow_add-result c = search rules
 
 returns : tie.Need-returns
 returns c =
-    let s = c.before.before.args in
-    rw (le-ltb (s.a * s.a + s.b * s.b) (s.n + max s.a s.b) (omega (arith, c.before.larger.ensures)))
-
-add_result : tie.Need-overflow-add-result
-add_result c = search rules
-
-returns_2 : tie.Need-returns-2
-returns_2 c =
-    let s = c.before.before.args in
+    let s = c.args in
     rw (
-      c.before.larger.ensures,
-      lt-ltb (s.a * s.a + s.b * s.b) (s.n + max s.a s.b) (omega (arith, c.before.larger.ensures)),
+      c.larger-m.ensures,
+      lt-ltb (s.a * s.a + s.b * s.b) (s.n + max s.a s.b) (omega (arith, c.larger-m.ensures)),
     )
 
 pub near_circle_spec : {M : Type 1} → statement M
-near_circle_spec =
-    tie.close (tie.spec larger_requires mul_s mul_s_2 add_s add_if1 returns add_result returns_2)
+near_circle_spec = tie.close (tie.spec larger-m-requires overflow_mul-s overflow_mul-s-2 overflow_add-s overflow_add-n returns-then-n-m overflow_add-result returns)

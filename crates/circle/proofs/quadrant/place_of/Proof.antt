@@ -15,11 +15,11 @@ use borrow.Author.Rules.{rules}
 use Rattle.circle.proofs.quadrant.place_of.Statement.{statement}
 use Rattle.circle.proofs.quadrant.place_of.Tie as tie
 
-x_is : (c : tie.After-part) → c.part.result ≡ part_of c.before.before.args.p.x
-x_is c = let f : SFits w64 c.before.before.args.p.x = search rules in simp to_z-of_z at c.part.ensures
+x_is : (c : tie.After-part-x) → c.part-x.result ≡ part_of c.args.p.x
+x_is c = let f : SFits w64 c.args.p.x = search rules in simp to_z-of_z at c.part-x.ensures
 
-y_is : (c : tie.After-part2) → c.part2.result ≡ part_of c.before.before.before.before.args.p.y
-y_is c = let f : SFits w64 c.before.before.before.before.args.p.y = search rules in simp to_z-of_z at c.part2.ensures
+y_is : (c : tie.After-part-y) → c.part-y.result ≡ part_of c.args.p.y
+y_is c = let f : SFits w64 c.args.p.y = search rules in simp to_z-of_z at c.part-y.ensures
 
 -- ---- by the signs
 
@@ -61,67 +61,57 @@ in_0 (negsuc a) (pos b) e f g = absurd (no refl f)
 in_0 (pos zero) (pos b) e f g = absurd (g refl)
 in_0 (pos (suc a)) (pos b) e f g = refl
 
-part_requires : tie.Need-part-requires
-part_requires c κs = search rules
+part-x-requires : tie.Need-part-x-requires
+part-x-requires c κs = search rules
 
-part_requires_2 : tie.Need-part-requires-2
-part_requires_2 c κs = search rules
+part-y-requires : tie.Need-part-y-requires
+part-y-requires c κs = search rules
+
+returns-then-x : tie.Need-returns-then-x
+returns-then-x c =
+    let p = c.args.p in
+    let x = x_is c.before.before.before.before in
+    let y = y_is c.before.before in
+    rw (x, y) (in_2 p.x p.y (rw y at c.if-y.true) (rw x at c.if-x.true))
+
+returns-then-y : tie.Need-returns-then-y
+returns-then-y c =
+    let p = c.args.p in
+    let x = x_is c.before.before.before.before in
+    let y = y_is c.before.before in
+    rw (x, y) (in_3 p.x p.y (rw y at c.if-y.true) (rw x at c.if-x.false))
+
+returns-then-y-eq0 : tie.Need-returns-then-y-eq0
+returns-then-y-eq0 c =
+    let f = c.before.before in
+    let p = f.args.p in
+    let x = x_is f.before.before.before.before in
+    let y = y_is f.before.before in
+    rw x (on_2 p.x p.y (rw y at f.if-y.false) (rw x at f.if-x-2.true) (rw y at c.if-y-eq0.true))
+
+returns-then-x-2 : tie.Need-returns-then-x-2
+returns-then-x-2 c =
+    let f = c.before.before in
+    let p = f.args.p in
+    let x = x_is f.before.before.before.before in
+    let y = y_is f.before.before in
+    rw (x, y) (in_1 p.x p.y (rw y at f.if-y.false) (rw x at f.if-x-2.true) (rw y at c.if-y-eq0.false))
+
+returns-then-x-eq0 : tie.Need-returns-then-x-eq0
+returns-then-x-eq0 c =
+    let f = c.before.before in
+    let p = f.args.p in
+    let x = x_is f.before.before.before.before in
+    let y = y_is f.before.before in
+    rw y (on_1 p.x p.y (rw y at f.if-y.false) (rw x at f.if-x-2.false) (rw x at c.if-x-eq0.true))
 
 returns : tie.Need-returns
 returns c =
-    let p = c.before.before.before.before.before.before.args.p in
-    let x = x_is c.before.before.before.before in
-    let y = y_is c.before.before in
-    rw (x, y) (in_2 p.x p.y (rw y at c.before.if1.true) (rw x at c.if2.true))
-
-returns_2 : tie.Need-returns-2
-returns_2 c =
-    let p = c.before.before.before.before.before.before.args.p in
-    let x = x_is c.before.before.before.before in
-    let y = y_is c.before.before in
-    rw (x, y) (in_3 p.x p.y (rw y at c.before.if1.true) (rw x at c.if2.false))
-
-returns_3 : tie.Need-returns-3
-returns_3 c =
     let f = c.before.before in
-    let p = f.before.before.before.before.before.before.args.p in
+    let p = f.args.p in
     let x = x_is f.before.before.before.before in
     let y = y_is f.before.before in
-    rw x (on_2 p.x p.y (rw y at f.before.if1.false) (rw x at f.if3.true) (rw y at c.if4.true))
-
-returns_4 : tie.Need-returns-4
-returns_4 c =
-    let f = c.before.before in
-    let p = f.before.before.before.before.before.before.args.p in
-    let x = x_is f.before.before.before.before in
-    let y = y_is f.before.before in
-    rw (x, y) (in_1 p.x p.y (rw y at f.before.if1.false) (rw x at f.if3.true) (rw y at c.if4.false))
-
-returns_5 : tie.Need-returns-5
-returns_5 c =
-    let f = c.before.before in
-    let p = f.before.before.before.before.before.before.args.p in
-    let x = x_is f.before.before.before.before in
-    let y = y_is f.before.before in
-    rw y (on_1 p.x p.y (rw y at f.before.if1.false) (rw x at f.if3.false) (rw x at c.if5.true))
-
-returns_6 : tie.Need-returns-6
-returns_6 c =
-    let f = c.before.before in
-    let p = f.before.before.before.before.before.before.args.p in
-    let x = x_is f.before.before.before.before in
-    let y = y_is f.before.before in
-    rw (x, y) (in_0 p.x p.y (rw y at f.before.if1.false) (rw x at f.if3.false) (rw x at c.if5.false))
+    rw (x, y) (in_0 p.x p.y (rw y at f.if-y.false) (rw x at f.if-x-2.false) (rw x at c.if-x-eq0.false))
 
 pub place_of_spec : {M : Type 1} → statement M
-place_of_spec =
-    tie.close
-    (tie.spec
-    part_requires
-    part_requires_2
-    returns
-    returns_2
-    returns_3
-    returns_4
-    returns_5
-    returns_6)
+place_of_spec = tie.close (tie.spec part-x-requires part-y-requires returns-then-x returns-then-y returns-then-y-eq0 returns-then-x-2 returns-then-x-eq0 returns)

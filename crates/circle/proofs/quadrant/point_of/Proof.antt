@@ -6,17 +6,17 @@ use borrow.Author.Rules.{rules}
 use Rattle.circle.proofs.quadrant.point_of.Statement.{statement}
 use Rattle.circle.proofs.quadrant.point_of.Tie as tie
 
-cast_t2 : tie.Need-overflow-cast-t2
-cast_t2 c = search rules
+overflow_cast-q : tie.Need-overflow_cast-q
+overflow_cast-q c = search rules
 
-cast_t3 : tie.Need-overflow-cast-t3
-cast_t3 c = search rules
+overflow_cast-q-2 : tie.Need-overflow_cast-q-2
+overflow_cast-q-2 c = search rules
 
-turned_by_requires : tie.Need-turned-by-requires
-turned_by_requires c κs = let p = c.before.before.requires in rw (to_z_pos w64 p.1, to_z_pos w64 p.2) p
+turned_by-requires : tie.Need-turned_by-requires
+turned_by-requires c κs = let p = c.requires in rw (to_z_pos w64 p.1, to_z_pos w64 p.2) p
 
 returns : tie.Need-returns
-returns c = let p = c.before.before.before.requires in c.turned_by.ensures ∙ rw (to_z_pos w64 p.1, to_z_pos w64 p.2)
+returns c = let p = c.requires in c.turned_by.ensures ∙ rw (to_z_pos w64 p.1, to_z_pos w64 p.2)
 
 pub point_of_spec : {M : Type 1} → statement M
-point_of_spec = tie.close (tie.spec cast_t2 cast_t3 turned_by_requires returns)
+point_of_spec = tie.close (tie.spec overflow_cast-q overflow_cast-q-2 turned_by-requires returns)

@@ -3,23 +3,23 @@ use borrow.Author.Rules.{rules}
 use Rattle.circle.proofs.step.move_charge.Statement.{statement}
 use Rattle.circle.proofs.step.move_charge.Tie as tie
 
-enum_told : tie.Need-enum-told
-enum_told c = search rules
+enum_told-1 : tie.Need-enum_told-1
+enum_told-1 c = search rules
 
-enum_told_2 : tie.Need-enum-told-2
-enum_told_2 c = search rules
+enum_told-in-Slant : tie.Need-enum_told-in-Slant
+enum_told-in-Slant c = search rules
 
-enum_told_3 : tie.Need-enum-told-3
-enum_told_3 c = search rules
+enum_told-in-Fall : tie.Need-enum_told-in-Fall
+enum_told-in-Fall c = search rules
 
-returns : tie.Need-returns
-returns c = search rules
+returns-in-Rise : tie.Need-returns-in-Rise
+returns-in-Rise c = search rules
 
-returns_2 : tie.Need-returns-2
-returns_2 c = search rules
+returns-in-Slant : tie.Need-returns-in-Slant
+returns-in-Slant c = search rules
 
-returns_3 : tie.Need-returns-3
-returns_3 c = search rules
+returns-in-Fall : tie.Need-returns-in-Fall
+returns-in-Fall c = search rules
 
 pub move_charge_spec : {M : Type 1} → statement M
-move_charge_spec = tie.close (tie.spec enum_told enum_told_2 enum_told_3 returns returns_2 returns_3)
+move_charge_spec = tie.close (tie.spec enum_told-1 enum_told-in-Slant enum_told-in-Fall returns-in-Rise returns-in-Slant returns-in-Fall)

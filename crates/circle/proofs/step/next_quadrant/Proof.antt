@@ -4,14 +4,14 @@ use borrow.Author.Rules.{rules}
 use Rattle.circle.proofs.step.next_quadrant.Statement.{statement}
 use Rattle.circle.proofs.step.next_quadrant.Tie as tie
 
-add_result : tie.Need-overflow-add-result
-add_result c = search rules
+overflow_add-result : tie.Need-overflow_add-result
+overflow_add-result c = search rules
 
-returns : tie.Need-returns
-returns c = rw (eq-eqb c.before.args.k 3 c.if1.true)
+returns-then-k-eq3 : tie.Need-returns-then-k-eq3
+returns-then-k-eq3 c = rw (eq-eqb c.args.k 3 c.if-k-eq3.true)
 
-returns_2 : tie.Need-returns-2
-returns_2 c = rw (ne_eqb c.before.args.k 3 c.if1.false)
+returns-else-k-eq3 : tie.Need-returns-else-k-eq3
+returns-else-k-eq3 c = rw (ne_eqb c.args.k 3 c.if-k-eq3.false)
 
 pub next_quadrant_spec : {M : Type 1} → statement M
-next_quadrant_spec = tie.close (tie.spec add_result returns returns_2)
+next_quadrant_spec = tie.close (tie.spec overflow_add-result returns-then-k-eq3 returns-else-k-eq3)

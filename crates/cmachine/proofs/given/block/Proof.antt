@@ -4,8 +4,8 @@ use mir.Facts.{to_z-of_z}
 use Rattle.cmachine.proofs.given.block.Statement.{statement}
 use Rattle.cmachine.proofs.given.block.Tie as tie
 
-count_requires : tie.Need-count-requires
-count_requires c κs = search rules
+count-requires : tie.Need-count-requires
+count-requires c κs = search rules
 
 returns : tie.Need-returns
 returns c =
@@ -16,4 +16,4 @@ returns c =
     simp (to_z-of_z, c.count.ensures)
 
 pub block_spec : {M : Type 1} → statement M
-block_spec = tie.close (tie.spec count_requires returns)
+block_spec = tie.close (tie.spec count-requires returns)

@@ -3,7 +3,6 @@ use borrow.Author.Rules.{rules}
 use mathlib.Core.Path.{◌≡◌, refl, sym, ◌∙◌}
 use mathlib.Core.Bool.{true}
 use native.Mathlib.Omega.{arith}
-use borrow.Author.Tests.{not-true, not-false}
 use Rattle.record.specs.computed.Words.{sound_words}
 use Rattle.calls.specs.laws.Told.{bench_sound}
 use Rattle.cmachine.specs.computed.Looks.{Passing, ticks_of}
@@ -11,65 +10,62 @@ use Rattle.cmachine.specs.laws.Looks.{ticks_none, ticks_still, pass_most, pass_s
 use Rattle.cmachine.proofs.lookahead.after_ticks.Statement.{statement}
 use Rattle.cmachine.proofs.lookahead.after_ticks.Tie as tie
 
-abbrev invariant_loop : tie.invariant_loop
-invariant_loop words₀ ticks left₀ words left = (sound_words words ≡ true) × (ticks_of left₀ words₀ ≡ ticks_of left words)
+abbrev invariant-loop-left : tie.invariant-loop-left
+invariant-loop-left words₀ ticks left₀ words left = (sound_words words ≡ true) × (ticks_of left₀ words₀ ≡ ticks_of left words)
 
-abbrev decreases_loop : tie.decreases_loop
-decreases_loop words₀ ticks left₀ words left = left
+abbrev decreases-loop-left : tie.decreases-loop-left
+decreases-loop-left words₀ ticks left₀ words left = left
 
 -- what a pass asks
-passing : (c : tie.After-pass-arg invariant_loop decreases_loop)
-    → Passing c.before.before.before.before.before.before.loop.words c.before.before.before.bench-in.result
+passing : (c : tie.After-pass-arg-1 invariant-loop-left decreases-loop-left)
+    → Passing c.loop-left.words c.bench_in-k.result
 passing c =
     let w = c.before.before in
     record {
-      sound = w.before.before.before.before.loop.invariant.0;
-      bench_is = w.before.bench-in.ensures;
-      works = sym w.works.ensures ∙ not-false _ c.before.if1.false;
+      sound = w.loop-left.invariant.0;
+      bench_is = w.bench_in-k.ensures;
+      works = sym w.works.ensures ∙ c.if-not-works.false;
     }
 
-loop_holds : tie.Need-loop-init invariant_loop decreases_loop
-loop_holds c = (c.requires, refl)
+loop-left-init : tie.Need-loop-left-init invariant-loop-left decreases-loop-left
+loop-left-init c = (c.requires, refl)
 
-bench_in_requires : tie.Need-bench-in-requires invariant_loop decreases_loop
-bench_in_requires c κs = search rules
+bench_in-k-requires : tie.Need-bench_in-k-requires invariant-loop-left decreases-loop-left
+bench_in-k-requires c κs = search rules
 
-works_requires : tie.Need-works-requires invariant_loop decreases_loop
-works_requires c κs = let l = c.before.before.before.loop in bench_sound l.words l.invariant.0 c.bench-in.ensures
+works-requires : tie.Need-works-requires invariant-loop-left decreases-loop-left
+works-requires c κs = let l = c.loop-left in bench_sound l.words l.invariant.0 c.bench_in-k.ensures
 
-returns : tie.Need-returns invariant_loop decreases_loop
-returns c =
+returns-then-not-works : tie.Need-returns-then-not-works invariant-loop-left decreases-loop-left
+returns-then-not-works c =
     let w = c.before in
-    let l = w.before.before.before.before.loop in
-    sym (l.invariant.1 ∙ ticks_still l.left l.words l.invariant.0 w.before.bench-in.ensures
-    (sym w.works.ensures ∙ not-true _ c.if1.true))
+    let l = w.loop-left in
+    sym (l.invariant.1 ∙ ticks_still l.left l.words l.invariant.0 w.bench_in-k.ensures
+    (sym w.works.ensures ∙ c.if-not-works.true))
 
-pass_requires : tie.Need-pass-requires invariant_loop decreases_loop
-pass_requires c κs = passing c
+pass-left-requires : tie.Need-pass-left-requires invariant-loop-left decreases-loop-left
+pass-left-requires c κs = passing c
 
-sub_left : tie.Need-overflow-sub-left invariant_loop decreases_loop
-sub_left c =
-    let l = c.before.before.before.before.before.before.before.loop in
-    pass_most (passing c.before) l.left c.pass.ensures.0 c.pass.ensures.1
+overflow_sub-left : tie.Need-overflow_sub-left invariant-loop-left decreases-loop-left
+overflow_sub-left c =
+    let l = c.loop-left in
+    pass_most (passing c.before) l.left c.pass-left.ensures.0 c.pass-left.ensures.1
 
-loop_less : tie.Need-loop-smaller invariant_loop decreases_loop
-loop_less c =
-    let t = c.before.before.before.before.before.before in
-    let l = t.before.loop in
+loop-left-smaller : tie.Need-loop-left-smaller invariant-loop-left decreases-loop-left
+loop-left-smaller c =
+    let l = c.loop-left in
     let p = passing c.before in
-    let some = pass_some p l.left c.pass.ensures.0 c.pass.ensures.1 t.loop-test.true in
-    omega (arith, some, pass_most p l.left c.pass.ensures.0 c.pass.ensures.1)
+    let some = pass_some p l.left c.pass-left.ensures.0 c.pass-left.ensures.1 c.loop-left-test.true in
+    omega (arith, some, pass_most p l.left c.pass-left.ensures.0 c.pass-left.ensures.1)
 
-loop_again : tie.Need-loop-preserved invariant_loop decreases_loop
-loop_again c =
-    let l = c.before.before.before.before.before.before.before.loop in
-    let on = pass_on (passing c.before) l.left c.pass.ensures.0 c.pass.ensures.1 in
+loop-left-preserved : tie.Need-loop-left-preserved invariant-loop-left decreases-loop-left
+loop-left-preserved c =
+    let l = c.loop-left in
+    let on = pass_on (passing c.before) l.left c.pass-left.ensures.0 c.pass-left.ensures.1 in
     (on.0, l.invariant.1 ∙ on.1)
 
-returns_2 : tie.Need-returns-2 invariant_loop decreases_loop
-returns_2 c = let l = c.before.loop in sym (l.invariant.1 ∙ ticks_none l.left l.words (omega (arith, c.loop-test.false)))
+returns : tie.Need-returns invariant-loop-left decreases-loop-left
+returns c = let l = c.loop-left in sym (l.invariant.1 ∙ ticks_none l.left l.words (omega (arith, c.loop-left-test.false)))
 
 pub after_ticks_spec : {M : Type 1} → statement M
-after_ticks_spec =
-    tie.close
-    (tie.spec invariant_loop decreases_loop loop_holds bench_in_requires works_requires returns pass_requires sub_left loop_less loop_again returns_2)
+after_ticks_spec = tie.close (tie.spec invariant-loop-left decreases-loop-left loop-left-init bench_in-k-requires works-requires returns-then-not-works pass-left-requires overflow_sub-left loop-left-smaller loop-left-preserved returns)

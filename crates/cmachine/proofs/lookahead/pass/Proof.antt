@@ -7,50 +7,30 @@ use Rattle.cmachine.specs.laws.Looks.{working, pass_enough, pass_stores, pass_to
 use Rattle.cmachine.proofs.lookahead.pass.Statement.{statement}
 use Rattle.cmachine.proofs.lookahead.pass.Tie as tie
 
-capacity_requires : tie.Need-capacity-requires
-capacity_requires c κs = (bench_parts (working c.before.before.requires).sound).settings
+capacity-requires : tie.Need-capacity-requires
+capacity-requires c κs = (bench_parts (working c.requires).sound).settings
 
-skip_work_requires : tie.Need-skip-work-requires
-skip_work_requires c κs = rw c.capacity.ensures (at_work (working c.before.before.before.requires))
+skip_work-r-requires : tie.Need-skip_work-r-requires
+skip_work-r-requires c κs = rw c.capacity.ensures (at_work (working c.requires))
 
-moved_requires : tie.Need-moved-requires
-moved_requires c κs = search rules
+moved-after-requires : tie.Need-moved-after-requires
+moved-after-requires c κs = search rules
 
-left_in_requires : tie.Need-left-in-requires
-left_in_requires c κs = search rules
+left_in-requires : tie.Need-left_in-requires
+left_in-requires c κs = search rules
 
-sub_left : tie.Need-overflow-sub-left
-sub_left c =
-    let l = c.before in
-    let v = l.before.before in
-    let k = v.before.before in
-    let s = k.before.before.before.before in
-    pass_enough s.requires s.args.ticks k.before.capacity.ensures k.skip-work.ensures v.moved.ensures l.left_in.ensures
+overflow_sub-left : tie.Need-overflow_sub-left
+overflow_sub-left c =
+    pass_enough c.requires c.args.ticks c.capacity.ensures c.skip_work-r.ensures c.moved-after.ensures c.left_in.ensures
 
-store_ticks_requires : tie.Need-store-ticks-requires
-store_ticks_requires c κs =
-    let l = c.before.before in
-    let v = l.before.before in
-    let k = v.before.before in
-    let s = k.before.before.before.before in
-    pass_stores s.requires s.args.ticks k.before.capacity.ensures k.skip-work.ensures v.moved.ensures l.left_in.ensures
+store_ticks-requires : tie.Need-store_ticks-requires
+store_ticks-requires c κs =
+    pass_stores c.requires c.args.ticks c.capacity.ensures c.skip_work-r.ensures c.moved-after.ensures c.left_in.ensures
     refl
 
 returns : tie.Need-returns
 returns c =
-    let v = c.before.before.before.before.before in
-    let k = v.before.before in
-    let s = k.before.before.before.before in
-    pass_told s.requires s.args.ticks k.before.capacity.ensures k.skip-work.ensures v.moved.ensures c.store-ticks.ensures
+    pass_told c.requires c.args.ticks c.capacity.ensures c.skip_work-r.ensures c.moved-after.ensures c.store_ticks.ensures
 
 pub pass_spec : {M : Type 1} → statement M
-pass_spec =
-    tie.close
-    (tie.spec
-    capacity_requires
-    skip_work_requires
-    moved_requires
-    left_in_requires
-    sub_left
-    store_ticks_requires
-    returns)
+pass_spec = tie.close (tie.spec capacity-requires skip_work-r-requires moved-after-requires left_in-requires overflow_sub-left store_ticks-requires returns)

@@ -5,39 +5,29 @@ use Rattle.encoding.specs.laws.Number.{word_fits, refusal_fits, through}
 use Rattle.cmachine.proofs.text.read_number.Statement.{statement}
 use Rattle.cmachine.proofs.text.read_number.Tie as tie
 
-enum_told : tie.Need-enum-told
-enum_told c = search rules
+enum_told-1 : tie.Need-enum_told-1
+enum_told-1 c = search rules
 
-enum_known_read : tie.Need-enum-known-read
-enum_known_read c = search rules
+enum_known-read : tie.Need-enum_known-read
+enum_known-read c = search rules
 
-word_requires : tie.Need-word-requires
-word_requires c κs = search rules
+word-requires : tie.Need-word-requires
+word-requires c κs = search rules
 
-enum_known_read_2 : tie.Need-enum-known-read-2
-enum_known_read_2 c = search rules
+enum_known-read-in-Refused-1 : tie.Need-enum_known-read-in-Refused-1
+enum_known-read-in-Refused-1 c = search rules
 
-refusal_requires : tie.Need-refusal-requires
-refusal_requires c κs = search rules
+refusal-requires : tie.Need-refusal-requires
+refusal-requires c κs = search rules
 
-returns : tie.Need-returns
-returns c = cc
+returns-in-Nothing : tie.Need-returns-in-Nothing
+returns-in-Nothing c = cc
 
-returns_2 : tie.Need-returns-2
-returns_2 c = through (word_fits _) c.word.ensures ∙ simp c.before.before.read.given.1
+returns-in-Loaded : tie.Need-returns-in-Loaded
+returns-in-Loaded c = through (word_fits _) c.word.ensures ∙ simp c.in-Loaded.is
 
-returns_3 : tie.Need-returns-3
-returns_3 c = through (refusal_fits _) c.refusal.ensures ∙ simp c.before.before.read2.given.1
+returns-in-Refused : tie.Need-returns-in-Refused
+returns-in-Refused c = through (refusal_fits _) c.refusal.ensures ∙ simp c.in-Refused.is
 
 pub read_number_spec : {M : Type 1} → statement M
-read_number_spec =
-    tie.close
-    (tie.spec
-    enum_told
-    enum_known_read
-    word_requires
-    enum_known_read_2
-    refusal_requires
-    returns
-    returns_2
-    returns_3)
+read_number_spec = tie.close (tie.spec enum_told-1 enum_known-read word-requires enum_known-read-in-Refused-1 refusal-requires returns-in-Nothing returns-in-Loaded returns-in-Refused)

@@ -5,41 +5,30 @@ use Rattle.cmachine.specs.laws.Texts.{line_nothing, line_refused}
 use Rattle.cmachine.proofs.text.take.Statement.{statement}
 use Rattle.cmachine.proofs.text.take.Tie as tie
 
-enum_told : tie.Need-enum-told
-enum_told c = search rules
+enum_told-1 : tie.Need-enum_told-1
+enum_told-1 c = search rules
 
-enum_known_asks : tie.Need-enum-known-asks
-enum_known_asks c = search rules
+enum_known-asks : tie.Need-enum_known-asks
+enum_known-asks c = search rules
 
-load_requires : tie.Need-load-requires
-load_requires c κs = search rules
+load-requires : tie.Need-load-requires
+load-requires c κs = search rules
 
-enum_known_asks_2 : tie.Need-enum-known-asks-2
-enum_known_asks_2 c = search rules
+enum_known-asks-in-Refused-1 : tie.Need-enum_known-asks-in-Refused-1
+enum_known-asks-in-Refused-1 c = search rules
 
-returns : tie.Need-returns
-returns c =
-    let s = c.before.before.before in
-    line_nothing s.args.words.now s.args.before s.requires.sound s.args.a c.enum_told.given.1
+returns-in-Nothing : tie.Need-returns-in-Nothing
+returns-in-Nothing c =
+    line_nothing c.args.words.now c.args.before c.requires.sound c.args.a c.in-Nothing.is
 
-returns_2 : tie.Need-returns-2
-returns_2 c =
-    let is = c.before.before.before.asks.given.1 in
+returns-in-Block : tie.Need-returns-in-Block
+returns-in-Block c =
+    let is = c.in-Block.is in
     (c.load.ensures.0 ∙ rw is refl, c.load.ensures.1 ∙ rw is refl)
 
-returns_3 : tie.Need-returns-3
-returns_3 c =
-    let s = c.before.before.before.before in
-    line_refused s.args.words.now s.args.before s.requires.sound s.args.a c.before.asks2.given.1
+returns-in-Refused : tie.Need-returns-in-Refused
+returns-in-Refused c =
+    line_refused c.args.words.now c.args.before c.requires.sound c.args.a c.in-Refused.is
 
 pub take_spec : {M : Type 1} → statement M
-take_spec =
-    tie.close
-    (tie.spec
-    enum_told
-    enum_known_asks
-    load_requires
-    enum_known_asks_2
-    returns
-    returns_2
-    returns_3)
+take_spec = tie.close (tie.spec enum_told-1 enum_known-asks load-requires enum_known-asks-in-Refused-1 returns-in-Nothing returns-in-Block returns-in-Refused)

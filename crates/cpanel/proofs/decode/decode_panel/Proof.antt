@@ -10,47 +10,36 @@ use Rattle.cpanel.specs.laws.Words.{panel_decoded}
 use Rattle.cpanel.proofs.decode.decode_panel.Statement.{statement}
 use Rattle.cpanel.proofs.decode.decode_panel.Tie as tie
 
-first_nine_requires : tie.Need-first-nine-requires
-first_nine_requires c κs = search rules
+first_nine-requires : tie.Need-first_nine-requires
+first_nine-requires c κs = search rules
 
-decode_progress_requires : tie.Need-decode-progress-requires
-decode_progress_requires c κs = search rules
+decode_progress-p-requires : tie.Need-decode_progress-p-requires
+decode_progress-p-requires c κs = search rules
 
-array_copy_out_count : tie.Need-array-copy-out-count
-array_copy_out_count c = search rules
+bounds-words-9 : tie.Need-bounds-words-9
+bounds-words-9 c = search rules
 
-count_requires : tie.Need-count-requires
-count_requires c κs = search rules
+count-requires : tie.Need-count-requires
+count-requires c κs = search rules
 
-panel_of_requires : tie.Need-panel-of-requires
-panel_of_requires c κs = search rules
+panel_of-check-requires : tie.Need-panel_of-check-requires
+panel_of-check-requires c κs = search rules
 
-array_copy_out_panel_right : tie.Need-array-copy-out-panel-right
-array_copy_out_panel_right c = search rules
+bounds-words-9-2 : tie.Need-bounds-words-9-2
+bounds-words-9-2 c = search rules
 
-panel_right_requires : tie.Need-panel-right-requires
-panel_right_requires c κs = search rules
+panel_right-requires : tie.Need-panel_right-requires
+panel_right-requires c κs = search rules
 
 returns : tie.Need-returns
 returns c =
-    let k = c.before.before.before.before.before.before in
-    let ws = k.before.before.args.t2 in
+    let ws = c.args.words in
     let held : SFits w64 (at ws 9) = search rules in
-    panel_decoded k.before.before.args.m ws (search rules) held
-    (rw k.before.first-nine.ensures at k.decode-progress.ensures)
-    (c.before.before.panel_of.ensures
-    ∙ ap (panel_of k.decode-progress.result.check) (simp to_z-of_z at c.before.before.before.count.ensures))
-    (simp to_z-of_z at c.panel-right.ensures)
+    panel_decoded c.args.m ws (search rules) held
+    (rw c.first_nine.ensures at c.decode_progress-p.ensures)
+    (c.panel_of-check.ensures
+    ∙ ap (panel_of c.decode_progress-p.result.check) (simp to_z-of_z at c.count.ensures))
+    (simp to_z-of_z at c.panel_right.ensures)
 
 pub decode_panel_spec : {M : Type 1} → statement M
-decode_panel_spec =
-    tie.close
-    (tie.spec
-    first_nine_requires
-    decode_progress_requires
-    array_copy_out_count
-    count_requires
-    panel_of_requires
-    array_copy_out_panel_right
-    panel_right_requires
-    returns)
+decode_panel_spec = tie.close (tie.spec first_nine-requires decode_progress-p-requires bounds-words-9 count-requires panel_of-check-requires bounds-words-9-2 panel_right-requires returns)

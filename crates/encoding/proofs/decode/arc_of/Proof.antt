@@ -3,14 +3,14 @@ use borrow.Author.Rules.{rules}
 use Rattle.encoding.proofs.decode.arc_of.Statement.{statement}
 use Rattle.encoding.proofs.decode.arc_of.Tie as tie
 
-count_requires : tie.Need-count-requires
-count_requires c κs = search rules
+count-requires : tie.Need-count-requires
+count-requires c κs = search rules
 
-count_requires_2 : tie.Need-count-requires-2
-count_requires_2 c κs = search rules
+count-requires-2 : tie.Need-count-requires-2
+count-requires-2 c κs = search rules
 
 returns : tie.Need-returns
-returns c = search (rules, c.before.before.count.ensures, c.count2.ensures)
+returns c = search (rules, c.count.ensures, c.count-2.ensures)
 
 pub arc_of_spec : {M : Type 1} → statement M
-arc_of_spec = tie.close (tie.spec count_requires count_requires_2 returns)
+arc_of_spec = tie.close (tie.spec count-requires count-requires-2 returns)

@@ -11,58 +11,48 @@ use Rattle.encoding.proofs.decode.work_of.Statement.{statement}
 use Rattle.encoding.proofs.decode.work_of.Tie as tie
 
 -- the kind that the tests ask
-kind_is : (c : tie.After-count) → count_of c.before.before.args.w.kind ≡ c.count.result
-kind_is c = let f : SFits w64 c.before.before.args.w.kind = search rules in sym (simp to_z-of_z at c.count.ensures)
+kind_is : (c : tie.After-count-kind) → count_of c.args.w.kind ≡ c.count-kind.result
+kind_is c = let f : SFits w64 c.args.w.kind = search rules in sym (simp to_z-of_z at c.count-kind.ensures)
 
-count_requires : tie.Need-count-requires
-count_requires c κs = search rules
+count-kind-requires : tie.Need-count-kind-requires
+count-kind-requires c κs = search rules
 
-line_of_requires : tie.Need-line-of-requires
-line_of_requires c κs = search rules
+line_of-requires : tie.Need-line_of-requires
+line_of-requires c κs = search rules
 
-returns : tie.Need-returns
+returns-then-kind-eq1 : tie.Need-returns-then-kind-eq1
 unfolding work_read
-returns c = rw (kind_is c.before.before, eq-eqb _ _ c.before.if1.true, c.Line-of.ensures)
+returns-then-kind-eq1 c = rw (kind_is c.before.before, eq-eqb _ _ c.if-kind-eq1.true, c.line_of.ensures)
 
-arc_of_requires : tie.Need-arc-of-requires
-arc_of_requires c κs = search rules
+arc_of-requires : tie.Need-arc_of-requires
+arc_of-requires c κs = search rules
 
-returns_2 : tie.Need-returns-2
+returns-then-kind-eq2 : tie.Need-returns-then-kind-eq2
 unfolding work_read
-returns_2 c =
+returns-then-kind-eq2 c =
     let e = c.before.before in
-    rw (kind_is e.before, ne_eqb _ _ e.if1.false, eq-eqb _ _ c.before.if2.true, c.arc-of.ensures)
+    rw (kind_is e.before, ne_eqb _ _ e.if-kind-eq1.false, eq-eqb _ _ c.if-kind-eq2.true, c.arc_of.ensures)
 
-arc_of_requires_2 : tie.Need-arc-of-requires-2
-arc_of_requires_2 c κs = search rules
+arc_of-requires-then-kind-eq3 : tie.Need-arc_of-requires-then-kind-eq3
+arc_of-requires-then-kind-eq3 c κs = search rules
 
-returns_3 : tie.Need-returns-3
+returns-then-kind-eq3 : tie.Need-returns-then-kind-eq3
 unfolding work_read
-returns_3 c =
+returns-then-kind-eq3 c =
     let e = c.before.before.before in
     rw (
       kind_is e.before,
-      ne_eqb _ _ e.if1.false,
-      ne_eqb _ _ c.before.before.if2.false,
-      eq-eqb _ _ c.before.if3.true,
-      c.arc-of2.ensures,
+      ne_eqb _ _ e.if-kind-eq1.false,
+      ne_eqb _ _ c.if-kind-eq2.false,
+      eq-eqb _ _ c.if-kind-eq3.true,
+      c.arc_of-then-kind-eq3.ensures,
     )
 
-returns_4 : tie.Need-returns-4
+returns : tie.Need-returns
 unfolding work_read
-returns_4 c =
+returns c =
     let e = c.before.before in
-    rw (kind_is e.before, ne_eqb _ _ e.if1.false, ne_eqb _ _ c.before.if2.false, ne_eqb _ _ c.if3.false)
+    rw (kind_is e.before, ne_eqb _ _ e.if-kind-eq1.false, ne_eqb _ _ c.if-kind-eq2.false, ne_eqb _ _ c.if-kind-eq3.false)
 
 pub work_of_spec : {M : Type 1} → statement M
-work_of_spec =
-    tie.close
-    (tie.spec
-    count_requires
-    line_of_requires
-    returns
-    arc_of_requires
-    returns_2
-    arc_of_requires_2
-    returns_3
-    returns_4)
+work_of_spec = tie.close (tie.spec count-kind-requires line_of-requires returns-then-kind-eq1 arc_of-requires returns-then-kind-eq2 arc_of-requires-then-kind-eq3 returns-then-kind-eq3 returns)

@@ -2,11 +2,11 @@
 use Rattle.encoding.proofs.encode.mark_word.Statement.{statement}
 use Rattle.encoding.proofs.encode.mark_word.Tie as tie
 
-returns : tie.Need-returns
-returns c = rw c.if1.true
+returns-then-held : tie.Need-returns-then-held
+returns-then-held c = rw c.if-held.true
 
-returns_2 : tie.Need-returns-2
-returns_2 c = rw c.if1.false
+returns-else-held : tie.Need-returns-else-held
+returns-else-held c = rw c.if-held.false
 
 pub mark_word_spec : {M : Type 1} → statement M
-mark_word_spec = tie.close (tie.spec returns returns_2)
+mark_word_spec = tie.close (tie.spec returns-then-held returns-else-held)

@@ -4,11 +4,11 @@ use mir.Facts.{to_z-of_z}
 use Rattle.encoding.proofs.given.settings.Statement.{statement}
 use Rattle.encoding.proofs.given.settings.Tie as tie
 
-count_requires : tie.Need-count-requires
-count_requires c κs = search rules
+count-requires : tie.Need-count-requires
+count-requires c κs = search rules
 
-count_requires_2 : tie.Need-count-requires-2
-count_requires_2 c κs = search rules
+count-requires-2 : tie.Need-count-requires-2
+count-requires-2 c κs = search rules
 
 returns : tie.Need-returns
 returns c =
@@ -19,7 +19,7 @@ returns c =
     let xhi = s.ranges.xhi in
     let ylo = s.ranges.ylo in
     let yhi = s.ranges.yhi in
-    simp (to_z-of_z, c.before.count.ensures, c.count2.ensures)
+    simp (to_z-of_z, c.count.ensures, c.count-2.ensures)
 
 pub settings_spec : {M : Type 1} → statement M
-settings_spec = tie.close (tie.spec count_requires count_requires_2 returns)
+settings_spec = tie.close (tie.spec count-requires count-requires-2 returns)

@@ -6,18 +6,18 @@ use Rattle.encoding.specs.laws.Number.{count_none, count_some}
 use Rattle.encoding.proofs.number.count.Statement.{statement}
 use Rattle.encoding.proofs.number.count.Tie as tie
 
-not_below : (c : tie.Else1) → pos 0 ≼ c.before.args.word
-not_below c = test_not_lt c.before.args.word (pos 0) c.before.ranges.word (sfits_lit tt) c.if1.false
+not_below : (c : tie.Else-word-lt0) → pos 0 ≼ c.args.word
+not_below c = test_not_lt c.args.word (pos 0) c.ranges.word (sfits_lit tt) c.if-word-lt0.false
 
-cast_result : tie.Need-overflow-cast-result
-cast_result c = let f = c.before.ranges.word in simp to_z-of_z (to_unsigned _ (not_below c) f)
+overflow_cast-result : tie.Need-overflow_cast-result
+overflow_cast-result c = let f = c.ranges.word in simp to_z-of_z (to_unsigned _ (not_below c) f)
 
-returns : tie.Need-returns
-returns c = count_none c.before.args.word
-    (test_lt c.before.args.word (pos 0) c.before.ranges.word (sfits_lit tt) c.if1.true)
+returns-then-word-lt0 : tie.Need-returns-then-word-lt0
+returns-then-word-lt0 c = count_none c.args.word
+    (test_lt c.args.word (pos 0) c.ranges.word (sfits_lit tt) c.if-word-lt0.true)
 
-returns_2 : tie.Need-returns-2
-returns_2 c = let f = c.before.ranges.word in simp to_z-of_z (count_some c.before.args.word (not_below c))
+returns-else-word-lt0 : tie.Need-returns-else-word-lt0
+returns-else-word-lt0 c = let f = c.ranges.word in simp to_z-of_z (count_some c.args.word (not_below c))
 
 pub count_spec : {M : Type 1} → statement M
-count_spec = tie.close (tie.spec cast_result returns returns_2)
+count_spec = tie.close (tie.spec overflow_cast-result returns-then-word-lt0 returns-else-word-lt0)

@@ -6,17 +6,17 @@ use Rattle.encoding.specs.laws.Number.{word_fits, refusal_fits, minus}
 use Rattle.encoding.proofs.number.refusal.Statement.{statement}
 use Rattle.encoding.proofs.number.refusal.Tie as tie
 
-word_requires : tie.Need-word-requires
-word_requires c κs = search rules
+word-requires : tie.Need-word-requires
+word-requires c κs = search rules
 
-sub_result : tie.Need-overflow-sub-result
+overflow_sub-result : tie.Need-overflow_sub-result
 unfolding refusal_of
-sub_result c = let q = c.before.args.question in let f = word_fits q in rw c.word.ensures (rw (to_z-of_z f, minus) (refusal_fits q))
+overflow_sub-result c = let q = c.args.question in let f = word_fits q in rw c.word.ensures (rw (to_z-of_z f, minus) (refusal_fits q))
 
 returns : tie.Need-returns
 unfolding refusal_of
-returns c = let q = c.before.args.question in let f = word_fits q in let g = refusal_fits q in
+returns c = let q = c.args.question in let f = word_fits q in let g = refusal_fits q in
     rw c.word.ensures (rw (to_z-of_z f, minus, to_z-of_z g))
 
 pub refusal_spec : {M : Type 1} → statement M
-refusal_spec = tie.close (tie.spec word_requires sub_result returns)
+refusal_spec = tie.close (tie.spec word-requires overflow_sub-result returns)

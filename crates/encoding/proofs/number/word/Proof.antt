@@ -7,14 +7,14 @@ use Rattle.encoding.specs.laws.Number.{word_small, word_large}
 use Rattle.encoding.proofs.number.word.Statement.{statement}
 use Rattle.encoding.proofs.number.word.Tie as tie
 
-cast_result : tie.Need-overflow-cast-result
-cast_result c = search rules
+overflow_cast-result : tie.Need-overflow_cast-result
+overflow_cast-result c = search rules
 
-returns : tie.Need-returns
-returns c = to_z_pos w64 c.if1.true ∙ sym (word_small c.if1.true)
+returns-then-count-lt9223372036854775808 : tie.Need-returns-then-count-lt9223372036854775808
+returns-then-count-lt9223372036854775808 c = to_z_pos w64 c.if-count-lt9223372036854775808.true ∙ sym (word_small c.if-count-lt9223372036854775808.true)
 
-returns_2 : tie.Need-returns-2
-returns_2 c = sym (word_large c.if1.false)
+returns-else-count-lt9223372036854775808 : tie.Need-returns-else-count-lt9223372036854775808
+returns-else-count-lt9223372036854775808 c = sym (word_large c.if-count-lt9223372036854775808.false)
 
 pub word_spec : {M : Type 1} → statement M
-word_spec = tie.close (tie.spec cast_result returns returns_2)
+word_spec = tie.close (tie.spec overflow_cast-result returns-then-count-lt9223372036854775808 returns-else-count-lt9223372036854775808)

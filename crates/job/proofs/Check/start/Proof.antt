@@ -4,12 +4,12 @@ use Rattle.job.proofs.Check.start.Statement.{statement}
 use Rattle.job.proofs.Check.start.Tie as tie
 use Rattle.job.specs.computed.Check.{check_from}
 
-start_requires : tie.Need-start-requires
-start_requires c κs = search rules
+start-tally-requires : tie.Need-start-tally-requires
+start-tally-requires c κs = search rules
 
 returns : tie.Need-returns
 unfolding check_from
-returns c = rw c.start.ensures
+returns c = rw c.start-tally.ensures
 
 pub start_spec : {M : Type 1} → statement M
-start_spec = tie.close (tie.spec start_requires returns)
+start_spec = tie.close (tie.spec start-tally-requires returns)

@@ -6,17 +6,17 @@ use borrow.Author.Rules.{rules}
 use Rattle.letters.proofs.found.entry.Statement.{statement}
 use Rattle.letters.proofs.found.entry.Tie as tie
 
-mul_result : tie.Need-overflow-mul-result
-mul_result c = search rules
+offset_bounds-numbers-at : tie.Need-offset_bounds-numbers-at
+offset_bounds-numbers-at c = search rules
 
-shared_slice_read_result : tie.Need-shared-slice-read-result
-shared_slice_read_result c = search rules
+bounds-numbers-at : tie.Need-bounds-numbers-at
+bounds-numbers-at c = search rules
 
-returns : tie.Need-returns
-returns c = search rules
+returns-then-at-numbers : tie.Need-returns-then-at-numbers
+returns-then-at-numbers c = search rules
 
-returns_2 : tie.Need-returns-2
-returns_2 c = let a = c.before.args in sym (get_or-eq_default a.numbers.now 0 {n = a.at} (omega arith))
+returns-else-at-numbers : tie.Need-returns-else-at-numbers
+returns-else-at-numbers c = let a = c.args in sym (get_or-eq_default a.numbers.now 0 {n = a.at} (omega arith))
 
 pub entry_spec : {M : Type 1} → statement M
-entry_spec = tie.close (tie.spec mul_result shared_slice_read_result returns returns_2)
+entry_spec = tie.close (tie.spec offset_bounds-numbers-at bounds-numbers-at returns-then-at-numbers returns-else-at-numbers)

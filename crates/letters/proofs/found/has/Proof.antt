@@ -5,14 +5,14 @@ use borrow.Author.Rules.{rules}
 use Rattle.letters.proofs.found.has.Statement.{statement}
 use Rattle.letters.proofs.found.has.Tie as tie
 
-index_requires : tie.Need-index-requires
-index_requires c κs = search rules
+index-requires : tie.Need-index-requires
+index-requires c κs = search rules
 
-shr_result : tie.Need-overflow-shr-result
-shr_result c = omega (arith, index_below c.before.args.l, c.index.ensures)
+overflow_shr-result : tie.Need-overflow_shr-result
+overflow_shr-result c = omega (arith, index_below c.args.l, c.index.ensures)
 
 returns : tie.Need-returns
 returns c = rw c.index.ensures
 
 pub has_spec : {M : Type 1} → statement M
-has_spec = tie.close (tie.spec index_requires shr_result returns)
+has_spec = tie.close (tie.spec index-requires overflow_shr-result returns)

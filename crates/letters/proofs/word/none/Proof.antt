@@ -3,11 +3,11 @@ use borrow.Author.Rules.{rules}
 use Rattle.letters.proofs.word.none.Statement.{statement}
 use Rattle.letters.proofs.word.none.Tie as tie
 
-missing_requires : tie.Need-missing-requires
-missing_requires c κs = search rules
+missing-w-requires : tie.Need-missing-w-requires
+missing-w-requires c κs = search rules
 
 returns : tie.Need-returns
-returns c = rw c.missing.ensures
+returns c = rw c.missing-w.ensures
 
 pub none_spec : {M : Type 1} → statement M
-none_spec = tie.close (tie.spec missing_requires returns)
+none_spec = tie.close (tie.spec missing-w-requires returns)

@@ -10,17 +10,17 @@ use Rattle.line.specs.laws.Register.{register_below}
 use Rattle.line.proofs.line.axis_code.Statement.{statement}
 use Rattle.line.proofs.line.axis_code.Tie as tie
 
-register_requires : tie.Need-register-requires
-register_requires c κs = search rules
+register-requires : tie.Need-register-requires
+register-requires c κs = search rules
 
-clock_requires : tie.Need-clock-requires
-clock_requires c κs =
+clock-k-requires : tie.Need-clock-k-requires
+clock-k-requires c κs =
     let s = c.before in
     let x = s.requires.0 in
     omega (arith, c.register.ensures, register_below _ _ _ x)
 
-code_requires : tie.Need-code-requires
-code_requires c κs = search rules
+code-requires : tie.Need-code-requires
+code-requires c κs = search rules
 
 returns : tie.Need-returns
 unfolding pulses_of
@@ -28,9 +28,9 @@ returns c =
     let s = c.before.before.before in
     let k = c.before in
     c.code.ensures
-    ∙ ap (λ (t : Clocked). code_of t.pulse s.args.way.negative) k.clock.ensures
+    ∙ ap (λ (t : Clocked). code_of t.pulse s.args.way.negative) k.clock-k.ensures
     ∙ ap (λ (r : ℕ). code_of (clock_of s.args.q s.args.way.magnitude r).pulse s.args.way.negative)
-    k.before.register.ensures
+    k.register.ensures
 
 pub axis_code_spec : {M : Type 1} → statement M
-axis_code_spec = tie.close (tie.spec register_requires clock_requires code_requires returns)
+axis_code_spec = tie.close (tie.spec register-requires clock-k-requires code-requires returns)

@@ -13,11 +13,11 @@ use Rattle.line.specs.laws.Signed.{moved_signed}
 use Rattle.line.proofs.line.axis_moved.Statement.{statement}
 use Rattle.line.proofs.line.axis_moved.Tie as tie
 
-moved_requires : tie.Need-moved-requires
-moved_requires c κs = search rules
+moved-requires : tie.Need-moved-requires
+moved-requires c κs = search rules
 
-join_requires : tie.Need-join-requires
-join_requires c κs =
+join-requires : tie.Need-join-requires
+join-requires c κs =
     let s = c.before in
     let x = s.requires in
     let within = moved_within s.args.q s.args.way.magnitude x.some s.args.done x.due in
@@ -28,8 +28,8 @@ returns c =
     let s = c.before.before in
     let x = s.requires in
     let f : SFits w64 c.join.result = search rules in
-    to_z-of_z f ∙ c.join.ensures ∙ ap (signed s.args.way.negative) c.before.moved.ensures
+    to_z-of_z f ∙ c.join.ensures ∙ ap (signed s.args.way.negative) c.moved.ensures
     ∙ sym (moved_signed s.args.q x.some s.args.way.negative s.args.way.magnitude s.args.done x.due)
 
 pub axis_moved_spec : {M : Type 1} → statement M
-axis_moved_spec = tie.close (tie.spec moved_requires join_requires returns)
+axis_moved_spec = tie.close (tie.spec moved-requires join-requires returns)

@@ -6,25 +6,25 @@ use Rattle.line.specs.laws.Axis.{fits_product, too_far, not_yet, by_product}
 use Rattle.line.proofs.register.has_moved.Statement.{statement}
 use Rattle.line.proofs.register.has_moved.Tie as tie
 
+returns-then-increment-moved : tie.Need-returns-then-increment-moved
+returns-then-increment-moved c = sym (too_far _ _ _ c.requires _ c.if-increment-moved.true)
+
+overflow_mul-sum : tie.Need-overflow_mul-sum
+overflow_mul-sum c = omega (arith, fits_product _ _ _ c.requires)
+
+overflow_add-sum : tie.Need-overflow_add-sum
+overflow_add-sum c = omega (arith, fits_product _ _ _ c.requires)
+
+overflow_mul-whole : tie.Need-overflow_mul-whole
+overflow_mul-whole c =
+    let x = c.requires in
+    omega (arith, mul-le-mul {n₂ = 4000000} {m₂ = 4000000} x.wide (le_trans c.if-increment-moved.false (le_trans x.short x.wide)))
+
+returns-then-sum-whole : tie.Need-returns-then-sum-whole
+returns-then-sum-whole c = sym (not_yet _ _ _ c.requires _ c.if-sum-whole.true)
+
 returns : tie.Need-returns
-returns c = sym (too_far _ _ _ c.before.requires _ c.if1.true)
-
-mul_sum : tie.Need-overflow-mul-sum
-mul_sum c = omega (arith, fits_product _ _ _ c.before.requires)
-
-add_sum : tie.Need-overflow-add-sum
-add_sum c = omega (arith, fits_product _ _ _ c.before.requires)
-
-mul_whole : tie.Need-overflow-mul-whole
-mul_whole c =
-    let x = c.before.requires in
-    omega (arith, mul-le-mul {n₂ = 4000000} {m₂ = 4000000} x.wide (le_trans c.if1.false (le_trans x.short x.wide)))
-
-returns_2 : tie.Need-returns-2
-returns_2 c = sym (not_yet _ _ _ c.before.before.requires _ c.if2.true)
-
-returns_3 : tie.Need-returns-3
-returns_3 c = by_product _ _ _ c.before.before.requires _ c.if2.false
+returns c = by_product _ _ _ c.requires _ c.if-sum-whole.false
 
 pub has_moved_spec : {M : Type 1} → statement M
-has_moved_spec = tie.close (tie.spec returns mul_sum add_sum mul_whole returns_2 returns_3)
+has_moved_spec = tie.close (tie.spec returns-then-increment-moved overflow_mul-sum overflow_add-sum overflow_mul-whole returns-then-sum-whole returns)

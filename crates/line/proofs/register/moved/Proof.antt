@@ -7,18 +7,18 @@ use Rattle.line.specs.laws.Axis.{fits_product}
 use Rattle.line.proofs.register.moved.Statement.{statement}
 use Rattle.line.proofs.register.moved.Tie as tie
 
-mul_result : tie.Need-overflow-mul-result
-mul_result c = omega (arith, fits_product _ _ _ c.requires)
+overflow_mul-result : tie.Need-overflow_mul-result
+overflow_mul-result c = omega (arith, fits_product _ _ _ c.requires)
 
-add_result : tie.Need-overflow-add-result
-add_result c = omega (arith, fits_product _ _ _ c.requires)
+overflow_add-result : tie.Need-overflow_add-result
+overflow_add-result c = omega (arith, fits_product _ _ _ c.requires)
 
-div_result : tie.Need-nonzero-div-result
-div_result c = search rules
+nonzero_div-result-2 : tie.Need-nonzero_div-result-2
+nonzero_div-result-2 c = search rules
 
 returns : tie.Need-returns
 unfolding axis_steps
 returns c = refl
 
 pub moved_spec : {M : Type 1} → statement M
-moved_spec = tie.close (tie.spec mul_result add_result div_result returns)
+moved_spec = tie.close (tie.spec overflow_mul-result overflow_add-result nonzero_div-result-2 returns)

@@ -13,17 +13,17 @@ parted : (c : tie.Start)
     ≡ c.args.capacity / 2 + c.args.increment * c.args.done
 parted c = rw c.requires.1 (sum c.args.capacity c.args.increment c.args.done c.requires.0.some)
 
-mul_result : tie.Need-overflow-mul-result
-mul_result c = omega (arith, fits_product _ _ _ c.requires.0)
+overflow_mul-result : tie.Need-overflow_mul-result
+overflow_mul-result c = omega (arith, fits_product _ _ _ c.requires.0)
 
-add_result : tie.Need-overflow-add-result
-add_result c = omega (arith, fits_product _ _ _ c.requires.0)
+overflow_add-result : tie.Need-overflow_add-result
+overflow_add-result c = omega (arith, fits_product _ _ _ c.requires.0)
 
-mul_result_2 : tie.Need-overflow-mul-result-2
-mul_result_2 c = omega (arith, fits_product _ _ _ c.requires.0, parted c)
+overflow_mul-result-2 : tie.Need-overflow_mul-result-2
+overflow_mul-result-2 c = omega (arith, fits_product _ _ _ c.requires.0, parted c)
 
-sub_result : tie.Need-overflow-sub-result
-sub_result c = omega (arith, parted c)
+overflow_sub-result : tie.Need-overflow_sub-result
+overflow_sub-result c = omega (arith, parted c)
 
 returns : tie.Need-returns
 returns c =
@@ -31,4 +31,4 @@ returns c =
     omega (arith, parted c)
 
 pub register_spec : {M : Type 1} → statement M
-register_spec = tie.close (tie.spec mul_result add_result mul_result_2 sub_result returns)
+register_spec = tie.close (tie.spec overflow_mul-result overflow_add-result overflow_mul-result-2 overflow_sub-result returns)

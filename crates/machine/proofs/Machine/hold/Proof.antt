@@ -4,12 +4,12 @@ use Rattle.machine.specs.computed.Calls.{hold_of}
 use Rattle.machine.proofs.Machine.hold.Statement.{statement}
 use Rattle.machine.proofs.Machine.hold.Tie as tie
 
-marked_requires : tie.Need-marked-requires
-marked_requires c κs = search rules
+marked-requires : tie.Need-marked-requires
+marked-requires c κs = search rules
 
 returns : tie.Need-returns
 unfolding hold_of
 returns c = c.marked.ensures
 
 pub hold_spec : {M : Type 1} → statement M
-hold_spec = tie.close (tie.spec marked_requires returns)
+hold_spec = tie.close (tie.spec marked-requires returns)

@@ -5,26 +5,25 @@ use Rattle.machine.specs.laws.Calls.{make_refused, make_done}
 use Rattle.machine.proofs.Machine.make.Statement.{statement}
 use Rattle.machine.proofs.Machine.make.Tie as tie
 
-settings_no_requires : tie.Need-settings-no-requires
-settings_no_requires c κs = search rules
+settings_no-no-requires : tie.Need-settings_no-no-requires
+settings_no-no-requires c κs = search rules
 
-standard_requires : tie.Need-standard-requires
-standard_requires c κs = search rules
+standard-requires : tie.Need-standard-requires
+standard-requires c κs = search rules
 
-fresh_requires : tie.Need-fresh-requires
-fresh_requires c κs = search rules
+fresh-requires : tie.Need-fresh-requires
+fresh-requires c κs = search rules
+
+returns-then-no-ne0 : tie.Need-returns-then-no-ne0
+returns-then-no-ne0 c =
+    rw (c.fresh.ensures, c.standard.ensures)
+    (make_refused _ c.settings_no-no.ensures c.if-no-ne0.true)
+
+fresh-requires-2 : tie.Need-fresh-requires-2
+fresh-requires-2 c κs = search rules
 
 returns : tie.Need-returns
-returns c =
-    rw (c.fresh.ensures, c.before.standard.ensures)
-    (make_refused _ c.before.before.before.settings-no.ensures c.before.before.if1.true)
-
-fresh_requires_2 : tie.Need-fresh-requires-2
-fresh_requires_2 c κs = search rules
-
-returns_2 : tie.Need-returns-2
-returns_2 c = rw c.fresh2.ensures (make_done _ c.before.before.settings-no.ensures c.before.if1.false)
+returns c = rw c.fresh-2.ensures (make_done _ c.settings_no-no.ensures c.if-no-ne0.false)
 
 pub make_spec : {M : Type 1} → statement M
-make_spec =
-    tie.close (tie.spec settings_no_requires standard_requires fresh_requires returns fresh_requires_2 returns_2)
+make_spec = tie.close (tie.spec settings_no-no-requires standard-requires fresh-requires returns-then-no-ne0 fresh-requires-2 returns)

@@ -4,12 +4,12 @@ use Rattle.machine.specs.computed.Calls.{release_of}
 use Rattle.machine.proofs.Machine.release.Statement.{statement}
 use Rattle.machine.proofs.Machine.release.Tie as tie
 
-marked_requires : tie.Need-marked-requires
-marked_requires c κs = search rules
+marked-requires : tie.Need-marked-requires
+marked-requires c κs = search rules
 
 returns : tie.Need-returns
 unfolding release_of
 returns c = c.marked.ensures
 
 pub release_spec : {M : Type 1} → statement M
-release_spec = tie.close (tie.spec marked_requires returns)
+release_spec = tie.close (tie.spec marked-requires returns)

@@ -1,7 +1,6 @@
 -- `stop` is right because with nothing in work and none waiting nothing is left to do.
 use borrow.Author.Rules.{rules}
 use mathlib.Core.Path.{sym, ◌∙◌}
-use borrow.Author.Tests.{not-true, not-false}
 use Rattle.block.specs.Chain.{chain_cycles}
 use Rattle.queue.specs.Queue.{empty_queue}
 use Rattle.bench.specs.Bench.{moved_of}
@@ -10,31 +9,31 @@ use Rattle.machine.specs.computed.Calls.{stop_of}
 use Rattle.machine.proofs.Machine.stop.Statement.{statement}
 use Rattle.machine.proofs.Machine.stop.Tie as tie
 
-is_sound_requires : tie.Need-is-sound-requires
-is_sound_requires c κs = search rules
+is_sound-requires : tie.Need-is_sound-requires
+is_sound-requires c κs = search rules
 
-refused_requires : tie.Need-refused-requires
-refused_requires c κs = search rules
+refused-requires : tie.Need-refused-requires
+refused-requires c κs = search rules
+
+returns-then-not-is_sound : tie.Need-returns-then-not-is_sound
+unfolding stop_of
+returns-then-not-is_sound c = c.refused.ensures ∙ simp (sym c.is_sound.ensures ∙ c.if-not-is_sound.true)
+
+moved-requires : tie.Need-moved-requires
+moved-requires c κs = search rules
+
+empty-requires : tie.Need-empty-requires
+empty-requires c κs = search rules
 
 returns : tie.Need-returns
-unfolding stop_of
-returns c = c.refused.ensures ∙ simp (sym c.before.before.is-sound.ensures ∙ not-true _ c.before.if1.true)
-
-moved_requires : tie.Need-moved-requires
-moved_requires c κs = search rules
-
-empty_requires : tie.Need-empty-requires
-empty_requires c κs = search rules
-
-returns_2 : tie.Need-returns-2
 unfolding stop_of machine_of to_do chain_cycles empty_queue moved_of
-returns_2 c =
+returns c =
     simp (
       c.empty.ensures,
-      c.before.moved.ensures,
-      sym c.before.before.before.before.before.is-sound.ensures
-          ∙ not-false _ c.before.before.before.before.if1.false,
+      c.moved.ensures,
+      sym c.is_sound.ensures
+          ∙ c.if-not-is_sound.false,
     )
 
 pub stop_spec : {M : Type 1} → statement M
-stop_spec = tie.close (tie.spec is_sound_requires refused_requires returns moved_requires empty_requires returns_2)
+stop_spec = tie.close (tie.spec is_sound-requires refused-requires returns-then-not-is_sound moved-requires empty-requires returns)

@@ -8,57 +8,54 @@ use Rattle.machine.specs.laws.Load.{room_left, taken_accepted, taken_fits, c_own
 use Rattle.machine.proofs.Machine.take.Statement.{statement}
 use Rattle.machine.proofs.Machine.take.Tie as tie
 
-begin_requires : tie.Need-begin-requires
-begin_requires c κs = accepted_loadable (taken_accepted c.before.requires)
+begin-begun-requires : tie.Need-begin-begun-requires
+begin-begun-requires c κs = accepted_loadable (taken_accepted c.requires)
 
-root_of_requires : tie.Need-root-of-requires
-root_of_requires c κs =
-    rooted c.before.before.args.start c.begin.result.work
-    (rw c.begin.ensures (begun_countable (taken_accepted c.before.before.requires)))
+root_of-root-requires : tie.Need-root_of-root-requires
+root_of-root-requires c κs =
+    rooted c.args.start c.begin-begun.result.work
+    (rw c.begin-begun.ensures (begun_countable (taken_accepted c.requires)))
 
-cycles_left_requires : tie.Need-cycles-left-requires
-cycles_left_requires c κs =
-    (rw c.before.begin.ensures (begun_countable (taken_accepted c.before.before.before.requires)), c.root-of.ensures)
+cycles_left-requires : tie.Need-cycles_left-requires
+cycles_left-requires c κs =
+    (rw c.begin-begun.ensures (begun_countable (taken_accepted c.requires)), c.root_of-root.ensures)
 
-add_left : tie.Need-overflow-add-left
-add_left c =
+overflow_add-left : tie.Need-overflow_add-left
+overflow_add-left c =
     let r = c.before.before in
-    let g = r.before.before.before.requires in
+    let g = r.requires in
     omega (
       arith,
-      taken_fits g (c_own g (ap (λ (b : Begun). b.work) r.before.begin.ensures)
-          (ap (λ (b : Begun). b.width) r.before.begin.ensures) r.root-of.ensures c.before.cycles_left.ensures),
+      taken_fits g (c_own g (ap (λ (b : Begun). b.work) r.begin-begun.ensures)
+          (ap (λ (b : Begun). b.width) r.begin-begun.ensures) r.root_of-root.ensures c.cycles_left.ensures),
     )
 
-is_nothing_requires : tie.Need-is-nothing-requires
-is_nothing_requires c κs = search rules
+is_nothing-requires : tie.Need-is_nothing-requires
+is_nothing-requires c κs = search rules
 
-moved_requires : tie.Need-moved-requires
-moved_requires c κs = search rules
+moved-next-requires : tie.Need-moved-next-requires
+moved-next-requires c κs = search rules
+
+returns-then-is_nothing : tie.Need-returns-then-is_nothing
+returns-then-is_nothing c =
+    let n = c.before.before.before in
+    let r = n.before.before.before in
+    let begun = r.begin-begun.ensures in
+    rw c.moved-next.ensures
+    (into_work r.requires (ap (λ (b : Begun). b.work) begun) (ap (λ (b : Begun). b.width) begun)
+    r.root_of-root.ensures n.cycles_left.ensures (sym n.is_nothing.ensures ∙ c.if-is_nothing.true))
+
+push-next-requires : tie.Need-push-next-requires
+push-next-requires c κs = room_left c.requires
 
 returns : tie.Need-returns
 returns c =
     let n = c.before.before.before in
     let r = n.before.before.before in
-    let begun = r.before.begin.ensures in
-    rw c.moved.ensures
-    (into_work r.before.before.before.requires (ap (λ (b : Begun). b.work) begun) (ap (λ (b : Begun). b.width) begun)
-    r.root-of.ensures n.before.before.cycles_left.ensures (sym n.is-nothing.ensures ∙ c.before.before.if1.true))
-
-push_requires : tie.Need-push-requires
-push_requires c κs = room_left c.before.before.before.before.before.before.before.before.requires
-
-returns_2 : tie.Need-returns-2
-returns_2 c =
-    let n = c.before.before.before in
-    let r = n.before.before.before in
-    let begun = r.before.begin.ensures in
-    rw c.push.ensures
-    (waits r.before.before.before.requires (ap (λ (b : Begun). b.work) begun) (ap (λ (b : Begun). b.width) begun)
-    r.root-of.ensures n.before.before.cycles_left.ensures (sym n.is-nothing.ensures ∙ c.before.before.if1.false))
+    let begun = r.begin-begun.ensures in
+    rw c.push-next.ensures
+    (waits r.requires (ap (λ (b : Begun). b.work) begun) (ap (λ (b : Begun). b.width) begun)
+    r.root_of-root.ensures n.cycles_left.ensures (sym n.is_nothing.ensures ∙ c.if-is_nothing.false))
 
 pub take_spec : {M : Type 1} → statement M
-take_spec =
-    tie.close
-    (tie.spec begin_requires root_of_requires cycles_left_requires add_left is_nothing_requires moved_requires returns push_requires
-    returns_2)
+take_spec = tie.close (tie.spec begin-begun-requires root_of-root-requires cycles_left-requires overflow_add-left is_nothing-requires moved-next-requires returns-then-is_nothing push-next-requires returns)

@@ -2,8 +2,6 @@
 use borrow.Author.Rules.{rules}
 use mathlib.Core.Path.{◌≡◌, refl, sym, ◌∙◌}
 use mathlib.Core.Bool.{true}
-use Prim.Native.Nat.{◌-◌}
-use borrow.Author.Tests.{not-true, not-false}
 use Rattle.machine.specs.computed.Machine.{sound_of}
 use Rattle.machine.specs.computed.Calls.{tick_of}
 use Rattle.machine.specs.laws.Right.{sound}
@@ -12,44 +10,44 @@ use Rattle.machine.specs.laws.Next.{coming, left_less}
 use Rattle.machine.proofs.Machine.tick.Statement.{statement}
 use Rattle.machine.proofs.Machine.tick.Tie as tie
 
-is_sound_requires : tie.Need-is-sound-requires
-is_sound_requires c κs = search rules
+is_sound-requires : tie.Need-is_sound-requires
+is_sound-requires c κs = search rules
+
+returns-then-not-is_sound : tie.Need-returns-then-not-is_sound
+unfolding tick_of
+returns-then-not-is_sound c = simp (sym c.is_sound.ensures ∙ c.if-not-is_sound.true)
+
+tested : (c : tie.Else-not-is_sound) → sound_of c.args.self ≡ true
+tested c = sym c.is_sound.ensures ∙ c.if-not-is_sound.false
+
+tick_sound-t-requires : tie.Need-tick_sound-t-requires
+tick_sound-t-requires c κs = (sound c.args.self (tested c.before.before)).bench
+
+left_after-requires : tie.Need-left_after-requires
+left_after-requires c κs =
+    let e = c.before.before.before.before in
+    let m = e.args.self in
+    let i = sound m (tested e) in
+    let t = c.tick_sound-t.ensures in
+    (left_less i.right (tick_onward m.bench i.bench t) (tick_left m.bench i.bench t)).0
+
+next-requires : tie.Need-next-requires
+next-requires c κs =
+    let e = c.before.before.before.before.before in
+    let m = e.args.self in
+    let i = sound m (tested e) in
+    let t = c.tick_sound-t.ensures in
+    let o = tick_onward m.bench i.bench t in
+    coming i.right o refl (c.left_after.ensures ∙ (left_less i.right o (tick_left m.bench i.bench t)).1)
 
 returns : tie.Need-returns
 unfolding tick_of
-returns c = simp (sym c.before.is-sound.ensures ∙ not-true _ c.if1.true)
-
-tested : (c : tie.Else1) → sound_of c.before.before.args.self ≡ true
-tested c = sym c.before.is-sound.ensures ∙ not-false _ c.if1.false
-
-tick_sound_requires : tie.Need-tick-sound-requires
-tick_sound_requires c κs = (sound c.before.before.before.before.args.self (tested c.before.before)).bench
-
-left_after_requires : tie.Need-left-after-requires
-left_after_requires c κs =
-    let e = c.before.before.before.before in
-    let m = e.before.before.args.self in
-    let i = sound m (tested e) in
-    let t = c.before.tick-sound.ensures in
-    (left_less i.right (tick_onward m.bench i.bench t) (tick_left m.bench i.bench t)).0
-
-next_requires : tie.Need-next-requires
-next_requires c κs =
-    let e = c.before.before.before.before.before in
-    let m = e.before.before.args.self in
-    let i = sound m (tested e) in
-    let t = c.before.before.tick-sound.ensures in
-    let o = tick_onward m.bench i.bench t in
-    coming i.right o refl (c.left_After.ensures ∙ (left_less i.right o (tick_left m.bench i.bench t)).1)
-
-returns_2 : tie.Need-returns-2
-unfolding tick_of
-returns_2 c = simp (
+returns c = simp (
   c.next.ensures,
-  c.before.before.before.tick-sound.ensures,
+  c.tick_sound-t.ensures,
   tested
       c.before.before.before.before.before.before,
 )
 
 pub tick_spec : {M : Type 1} → statement M
-tick_spec = tie.close (tie.spec is_sound_requires returns tick_sound_requires left_after_requires next_requires returns_2)
+tick_spec = tie.close (tie.spec is_sound-requires returns-then-not-is_sound tick_sound-t-requires left_after-requires next-requires returns)

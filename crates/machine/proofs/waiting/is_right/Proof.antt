@@ -11,53 +11,48 @@ use Rattle.machine.specs.laws.Onward.{wide, work_countable, work_end_inside}
 use Rattle.machine.proofs.waiting.is_right.Statement.{statement}
 use Rattle.machine.proofs.waiting.is_right.Tie as tie
 
-work_off_requires : tie.Need-work-off-requires
-work_off_requires c κs = work_countable c.before.args.k c.before.requires
+work_off-t-requires : tie.Need-work_off-t-requires
+work_off-t-requires c κs = work_countable c.args.k c.requires
+
+returns-then-not-t : tie.Need-returns-then-not-t
+returns-then-not-t c = sym (wrong_work _ _ _ _ _ _ _ c.work_off-t.ensures (not-true _ c.if-not-t.true))
+
+returns-then-q-eq0 : tie.Need-returns-then-q-eq0
+returns-then-q-eq0 c =
+    let places : length c.args.q.blocks ≡ 16 = search (unmap, rules) in
+    let e = c in
+    none_waiting _ _ _ _ _ _ _ e.work_off-t.ensures (not-false _ e.if-not-t.false)
+    places c.if-q-eq0.true
+
+is_nothing-requires : tie.Need-is_nothing-requires
+is_nothing-requires c κs = search rules
+
+returns-then-is_nothing : tie.Need-returns-then-is_nothing
+returns-then-is_nothing c =
+    let n = c in
+    let e = c in
+    sym
+    (idle_waiting _ _ _ _ _ _ _ e.work_off-t.ensures (not-false _ e.if-not-t.false) n.if-q-eq0.false
+    (sym c.is_nothing.ensures ∙ c.if-is_nothing.true))
+
+end_of-end-requires : tie.Need-end_of-end-requires
+end_of-end-requires c κs = search rules
+
+capacity-requires : tie.Need-capacity-requires
+capacity-requires c κs = (sound c.requires).settings
+
+is_sound-requires : tie.Need-is_sound-requires
+is_sound-requires c κs =
+    let s = c in
+    (wide s.args.k s.requires, rw c.end_of-end.ensures (work_end_inside s.args.k s.requires))
 
 returns : tie.Need-returns
-returns c = sym (wrong_work _ _ _ _ _ _ _ c.before.before.work-off.ensures (not-true _ c.if1.true))
-
-sixteen : (s : tie.Start) → length s.args.q.blocks ≡ 16
-sixteen s = search (unmap, rules)
-
-returns_2 : tie.Need-returns-2
-returns_2 c =
-    let e = c.before.before.before in
-    none_waiting _ _ _ _ _ _ _ e.before.before.work-off.ensures (not-false _ e.if1.false)
-    (sixteen e.before.before.before.before) c.before.if2.true
-
-is_nothing_requires : tie.Need-is-nothing-requires
-is_nothing_requires c κs = search rules
-
-returns_3 : tie.Need-returns-3
-returns_3 c =
-    let n = c.before.before in
-    let e = n.before.before in
-    sym
-    (idle_waiting _ _ _ _ _ _ _ e.before.before.work-off.ensures (not-false _ e.if1.false) n.if2.false
-    (sym c.before.is-nothing.ensures ∙ c.if3.true))
-
-end_of_requires : tie.Need-end-of-requires
-end_of_requires c κs = search rules
-
-capacity_requires : tie.Need-capacity-requires
-capacity_requires c κs = (sound c.before.before.before.before.before.before.before.before.before.before.before.requires).settings
-
-is_sound_requires : tie.Need-is-sound-requires
-is_sound_requires c κs =
-    let s = c.before.before.before.before.before.before.before.before.before.before.before.before in
-    (wide s.args.k s.requires, rw c.before.end_of_lem.ensures (work_end_inside s.args.k s.requires))
-
-returns_4 : tie.Need-returns-4
-returns_4 c =
-    let b = c.before.before.before.before.before in
-    let e = b.before.before.before.before in
-    rw (c.before.capacity.ensures, c.before.before.end_of_lem.ensures) at c.is-sound.ensures
-    ∙ busy_waiting _ _ _ _ _ _ _ e.before.before.work-off.ensures (not-false _ e.if1.false)
-    (sym b.before.is-nothing.ensures ∙ b.if3.false)
+returns c =
+    let b = c in
+    let e = c in
+    rw (c.capacity.ensures, c.end_of-end.ensures) at c.is_sound.ensures
+    ∙ busy_waiting _ _ _ _ _ _ _ e.work_off-t.ensures (not-false _ e.if-not-t.false)
+    (sym b.is_nothing.ensures ∙ b.if-is_nothing.false)
 
 pub is_right_spec : {M : Type 1} → statement M
-is_right_spec =
-    tie.close
-    (tie.spec work_off_requires returns returns_2 is_nothing_requires returns_3 end_of_requires capacity_requires is_sound_requires
-    returns_4)
+is_right_spec = tie.close (tie.spec work_off-t-requires returns-then-not-t returns-then-q-eq0 is_nothing-requires returns-then-is_nothing end_of-end-requires capacity-requires is_sound-requires returns)

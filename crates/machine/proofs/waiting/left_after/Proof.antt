@@ -5,29 +5,26 @@ use Rattle.machine.specs.laws.Onward.{told_none, told_one, told_refused}
 use Rattle.machine.proofs.waiting.left_after.Statement.{statement}
 use Rattle.machine.proofs.waiting.left_after.Tie as tie
 
-enum_known_tick : tie.Need-enum-known-tick
-enum_known_tick c = search rules
+enum_known-tick : tie.Need-enum_known-tick
+enum_known-tick c = search rules
 
-returns : tie.Need-returns
-returns c =
-    let t = c.before.before.tick.given in
-    omega (arith, told_none t.1 c.if1.true)
+returns-then-byte-lt16 : tie.Need-returns-then-byte-lt16
+returns-then-byte-lt16 c =
+    omega (arith, told_none c.in-Byte.is c.if-byte-lt16.true)
 
-sub_result : tie.Need-overflow-sub-result
-sub_result c =
-    let t = c.before.before.tick.given in
-    omega (arith, told_one t.1 c.if1.false, c.before.before.before.before.requires)
+overflow_sub-result : tie.Need-overflow_sub-result
+overflow_sub-result c =
+    omega (arith, told_one c.in-Byte.is c.if-byte-lt16.false, c.requires)
 
-enum_told : tie.Need-enum-told
-enum_told c = search rules
+enum_told-1 : tie.Need-enum_told-1
+enum_told-1 c = search rules
 
-returns_2 : tie.Need-returns-2
-returns_2 c =
-    let t = c.before.before.tick.given in
-    omega (arith, told_one t.1 c.if1.false)
+returns-else-byte-lt16 : tie.Need-returns-else-byte-lt16
+returns-else-byte-lt16 c =
+    omega (arith, told_one c.in-Byte.is c.if-byte-lt16.false)
 
-returns_3 : tie.Need-returns-3
-returns_3 c = omega (arith, told_refused c.enum_told.given.1)
+returns-in-Refused : tie.Need-returns-in-Refused
+returns-in-Refused c = omega (arith, told_refused c.in-Refused.is)
 
 pub left_after_spec : {M : Type 1} → statement M
-left_after_spec = tie.close (tie.spec enum_known_tick returns sub_result enum_told returns_2 returns_3)
+left_after_spec = tie.close (tie.spec enum_known-tick returns-then-byte-lt16 overflow_sub-result enum_told-1 returns-else-byte-lt16 returns-in-Refused)

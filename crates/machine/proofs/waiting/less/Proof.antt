@@ -5,14 +5,14 @@ use mathlib.Core.Path.{◌∙◌}
 use Rattle.machine.proofs.waiting.less.Statement.{statement}
 use Rattle.machine.proofs.waiting.less.Tie as tie
 
-wrong_requires : tie.Need-wrong-requires
-wrong_requires c κs = search rules
+wrong-requires : tie.Need-wrong-requires
+wrong-requires c κs = search rules
+
+returns-then-count-cycles : tie.Need-returns-then-count-cycles
+returns-then-count-cycles c = let s = c.before.before in c.wrong.ensures ∙ rw (lt-leb s.args.cycles s.args.count c.if-count-cycles.true)
 
 returns : tie.Need-returns
-returns c = let s = c.before.before in c.wrong.ensures ∙ rw (lt-leb s.args.cycles s.args.count c.before.if1.true)
-
-returns_2 : tie.Need-returns-2
-returns_2 c = let s = c.before in rw (le-leb s.args.cycles s.args.count c.if1.false)
+returns c = let s = c.before in rw (le-leb s.args.cycles s.args.count c.if-count-cycles.false)
 
 pub less_spec : {M : Type 1} → statement M
-less_spec = tie.close (tie.spec wrong_requires returns returns_2)
+less_spec = tie.close (tie.spec wrong-requires returns-then-count-cycles returns)

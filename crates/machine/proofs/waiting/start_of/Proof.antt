@@ -3,14 +3,14 @@ use borrow.Author.Rules.{rules}
 use Rattle.machine.proofs.waiting.start_of.Statement.{statement}
 use Rattle.machine.proofs.waiting.start_of.Tie as tie
 
-end_of_requires : tie.Need-end-of-requires
-end_of_requires c κs = search rules
+end_of-requires : tie.Need-end_of-requires
+end_of-requires c κs = search rules
 
-tail_requires : tie.Need-tail-requires
-tail_requires c κs = c.before.before.requires
+tail-requires : tie.Need-tail-requires
+tail-requires c κs = c.requires
 
 returns : tie.Need-returns
-returns c = rw c.before.end_of_lem.ensures at c.tail.ensures
+returns c = rw c.before.end_of.ensures at c.tail.ensures
 
 pub start_of_spec : {M : Type 1} → statement M
-start_of_spec = tie.close (tie.spec end_of_requires tail_requires returns)
+start_of_spec = tie.close (tie.spec end_of-requires tail-requires returns)

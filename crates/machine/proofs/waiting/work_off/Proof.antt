@@ -1,6 +1,6 @@
 -- `work_off` is right because each case of what is in work is asked its own root, and has its own count.
 use borrow.Author.Rules.{rules}
-use borrow.Author.Tests.{eqb-true, eq-eqb, ne_eqb, not-true, not-false}
+use borrow.Author.Tests.{eqb-true, eq-eqb, ne_eqb}
 use mathlib.Core.Path.{refl, sym, ◌∙◌}
 use native.Mathlib.Omega.{arith}
 use Rattle.work.specs.declared.Work.{Work}
@@ -9,108 +9,87 @@ use Rattle.machine.specs.laws.Right.{off_rooted, off_unrooted}
 use Rattle.machine.proofs.waiting.work_off.Statement.{statement}
 use Rattle.machine.proofs.waiting.work_off.Tie as tie
 
-enum_told : tie.Need-enum-told
-enum_told c = search rules
+enum_told-1 : tie.Need-enum_told-1
+enum_told-1 c = search rules
 
-wrong_requires : tie.Need-wrong-requires
-wrong_requires c κs = search rules
+wrong-requires : tie.Need-wrong-requires
+wrong-requires c κs = search rules
 
-returns : tie.Need-returns
-returns c =
-    let n = c.before.before in
+returns-then-root-ne0 : tie.Need-returns-then-root-ne0
+returns-then-root-ne0 c =
+    let n = c in
     c.wrong.ensures
-    ∙ rw n.enum_told.given.1 (off_unrooted _ Work.Nothing _ _ refl (ne_eqb _ 0 c.before.if1.true))
+    ∙ rw n.in-Nothing.is (off_unrooted _ Work.Nothing _ _ refl (ne_eqb _ 0 c.if-root-ne0.true))
 
-less_requires : tie.Need-less-requires
-less_requires c κs = search rules
+less-requires : tie.Need-less-requires
+less-requires c κs = search rules
 
-enum_known_work : tie.Need-enum-known-work
-enum_known_work c = search rules
+enum_known-work : tie.Need-enum_known-work
+enum_known-work c = search rules
 
-wrong_requires_2 : tie.Need-wrong-requires-2
-wrong_requires_2 c κs = search rules
+wrong-requires-then-root-l : tie.Need-wrong-requires-then-root-l
+wrong-requires-then-root-l c κs = search rules
 
-returns_2 : tie.Need-returns-2
-returns_2 c =
-    let w = c.before.before.before.before in
-    c.wrong2.ensures
-    ∙ rw w.work.given.1 (off_unrooted _ (Work.Line _) _ _ refl (ne_eqb _ _ c.before.if2.true))
+returns-then-root-l : tie.Need-returns-then-root-l
+returns-then-root-l c =
+    let w = c in
+    c.wrong-then-root-l.ensures
+    ∙ rw w.in-Line.is (off_unrooted _ (Work.Line _) _ _ refl (ne_eqb _ _ c.if-root-l.true))
 
-sub_less : tie.Need-overflow-sub-less
-sub_less c = let w = c.before.before.before.before in (rw w.work.given.1 at w.before.before.requires).0
+overflow_sub-l : tie.Need-overflow_sub-l
+overflow_sub-l c = let w = c in (rw w.in-Line.is at w.requires).0
 
-less_requires_2 : tie.Need-less-requires-2
-less_requires_2 c κs = search rules
+less-requires-in-Line : tie.Need-less-requires-in-Line
+less-requires-in-Line c κs = search rules
 
-enum_known_work_2 : tie.Need-enum-known-work-2
-enum_known_work_2 c = search rules
+enum_known-work-in-Arc-1 : tie.Need-enum_known-work-in-Arc-1
+enum_known-work-in-Arc-1 c = search rules
 
-mul_is_nearest_root : tie.Need-overflow-mul-is-nearest-root
-mul_is_nearest_root c =
-    let s = c.before.before.before.before in
-    omega (arith, rw c.before.before.work2.given.1 at (rooted s.args.at s.args.work s.requires))
+overflow_mul-a : tie.Need-overflow_mul-a
+overflow_mul-a c =
+    let s = c in
+    omega (arith, rw c.in-Arc.is at (rooted s.args.at s.args.work s.requires))
 
-is_nearest_root_requires : tie.Need-is-nearest-root-requires
-is_nearest_root_requires c κs =
-    let s = c.before.before.before.before in
-    omega (arith, rw c.before.before.work2.given.1 at (rooted s.args.at s.args.work s.requires))
+is_nearest_root-requires : tie.Need-is_nearest_root-requires
+is_nearest_root-requires c κs =
+    let s = c in
+    omega (arith, rw c.in-Arc.is at (rooted s.args.at s.args.work s.requires))
 
-wrong_requires_3 : tie.Need-wrong-requires-3
-wrong_requires_3 c κs = search rules
+wrong-requires-then-not-is_nearest_root : tie.Need-wrong-requires-then-not-is_nearest_root
+wrong-requires-then-not-is_nearest_root c κs = search rules
 
-returns_3 : tie.Need-returns-3
-returns_3 c =
-    let r = c.before.before in
-    c.wrong3.ensures
-    ∙ rw r.before.before.before.work2.given.1
-    (off_unrooted _ (Work.Arc _) _ _ r.is-nearest-root.ensures (not-true _ c.before.if3.true))
+returns-then-not-is_nearest_root : tie.Need-returns-then-not-is_nearest_root
+returns-then-not-is_nearest_root c =
+    let r = c in
+    c.wrong-then-not-is_nearest_root.ensures
+    ∙ rw r.in-Arc.is
+    (off_unrooted _ (Work.Arc _) _ _ r.is_nearest_root.ensures (c.if-not-is_nearest_root.true))
 
-cycles_requires : tie.Need-cycles-requires
-cycles_requires c κs =
-    let r = c.before in
-    let w = r.before.before.before in
-    (rw w.work2.given.1 at w.before.before.requires, eqb-true _ _ (sym r.is-nearest-root.ensures ∙ not-false _ c.if3.false))
+cycles-requires : tie.Need-cycles-requires
+cycles-requires c κs =
+    let r = c in
+    let w = c in
+    (rw w.in-Arc.is at w.requires, eqb-true _ _ (sym r.is_nearest_root.ensures ∙ c.if-not-is_nearest_root.false))
 
-less_requires_3 : tie.Need-less-requires-3
-less_requires_3 c κs = search rules
+less-requires-in-Arc : tie.Need-less-requires-in-Arc
+less-requires-in-Arc c κs = search rules
 
-returns_4 : tie.Need-returns-4
-returns_4 c =
-    c.less.ensures ∙ rw c.before.before.enum_told.given.1 (off_rooted _ Work.Nothing _ _ (eq-eqb _ 0 c.before.if1.false))
+returns-else-root-ne0 : tie.Need-returns-else-root-ne0
+returns-else-root-ne0 c =
+    c.less.ensures ∙ rw c.in-Nothing.is (off_rooted _ Work.Nothing _ _ (eq-eqb _ 0 c.if-root-ne0.false))
 
-returns_5 : tie.Need-returns-5
-returns_5 c =
-    let l = c.before.before in
-    c.less2.ensures ∙ rw l.before.before.before.work.given.1 (off_rooted _ (Work.Line _) _ _ (eq-eqb _ _ l.if2.false))
+returns-else-root-l : tie.Need-returns-else-root-l
+returns-else-root-l c =
+    let l = c in
+    c.less-in-Line.ensures ∙ rw l.in-Line.is (off_rooted _ (Work.Line _) _ _ (eq-eqb _ _ l.if-root-l.false))
 
-returns_6 : tie.Need-returns-6
-returns_6 c =
-    let l = c.before.before in
-    let r = l.before in
-    c.less3.ensures
-    ∙ rw (r.before.before.before.work2.given.1, c.before.cycles.ensures)
-    (off_rooted _ (Work.Arc _) _ _ (sym r.is-nearest-root.ensures ∙ not-false _ l.if3.false))
+returns-else-not-is_nearest_root : tie.Need-returns-else-not-is_nearest_root
+returns-else-not-is_nearest_root c =
+    let l = c in
+    let r = c in
+    c.less-in-Arc.ensures
+    ∙ rw (r.in-Arc.is, c.cycles.ensures)
+    (off_rooted _ (Work.Arc _) _ _ (sym r.is_nearest_root.ensures ∙ l.if-not-is_nearest_root.false))
 
 pub work_off_spec : {M : Type 1} → statement M
-work_off_spec =
-    tie.close
-    (tie.spec
-    enum_told
-    wrong_requires
-    returns
-    less_requires
-    enum_known_work
-    wrong_requires_2
-    returns_2
-    sub_less
-    less_requires_2
-    enum_known_work_2
-    mul_is_nearest_root
-    is_nearest_root_requires
-    wrong_requires_3
-    returns_3
-    cycles_requires
-    less_requires_3
-    returns_4
-    returns_5
-    returns_6)
+work_off_spec = tie.close (tie.spec enum_told-1 wrong-requires returns-then-root-ne0 less-requires enum_known-work wrong-requires-then-root-l returns-then-root-l overflow_sub-l less-requires-in-Line enum_known-work-in-Arc-1 overflow_mul-a is_nearest_root-requires wrong-requires-then-not-is_nearest_root returns-then-not-is_nearest_root cycles-requires less-requires-in-Arc returns-else-root-ne0 returns-else-root-l returns-else-not-is_nearest_root)

@@ -3,23 +3,23 @@ use borrow.Author.Rules.{rules}
 use Rattle.panel.proofs.PanelCheck.is_over.Statement.{statement}
 use Rattle.panel.proofs.PanelCheck.is_over.Tie as tie
 
-enum_told : tie.Need-enum-told
-enum_told c = search rules
+enum_told-1 : tie.Need-enum_told-1
+enum_told-1 c = search rules
 
-enum_told_2 : tie.Need-enum-told-2
-enum_told_2 c = search rules
+enum_told-in-Lines : tie.Need-enum_told-in-Lines
+enum_told-in-Lines c = search rules
 
-enum_told_3 : tie.Need-enum-told-3
-enum_told_3 c = search rules
+enum_told-in-Over : tie.Need-enum_told-in-Over
+enum_told-in-Over c = search rules
 
-returns : tie.Need-returns
-returns c = rw c.enum_told.given.1
+returns-in-Header : tie.Need-returns-in-Header
+returns-in-Header c = rw c.in-Header.is
 
-returns_2 : tie.Need-returns-2
-returns_2 c = rw c.enum-told2.given.1
+returns-in-Lines : tie.Need-returns-in-Lines
+returns-in-Lines c = rw c.in-Lines.is
 
-returns_3 : tie.Need-returns-3
-returns_3 c = rw c.enum-told3.given.1
+returns-in-Over : tie.Need-returns-in-Over
+returns-in-Over c = rw c.in-Over.is
 
 pub is_over_spec : {M : Type 1} → statement M
-is_over_spec = tie.close (tie.spec enum_told enum_told_2 enum_told_3 returns returns_2 returns_3)
+is_over_spec = tie.close (tie.spec enum_told-1 enum_told-in-Lines enum_told-in-Over returns-in-Header returns-in-Lines returns-in-Over)

@@ -4,17 +4,17 @@ use native.Mathlib.Omega.{arith}
 use Rattle.plane.proofs.byte.with_marks.Statement.{statement}
 use Rattle.plane.proofs.byte.with_marks.Tie as tie
 
-add_result : tie.Need-overflow-add-result
-add_result c = search rules
+overflow_add-result : tie.Need-overflow_add-result
+overflow_add-result c = search rules
 
-add_result_2 : tie.Need-overflow-add-result-2
-add_result_2 c = search rules
+overflow_add-result-else-ended : tie.Need-overflow_add-result-else-ended
+overflow_add-result-else-ended c = search rules
 
-returns : tie.Need-returns
-returns c = rw c.if1.true (omega arith)
+returns-then-ended : tie.Need-returns-then-ended
+returns-then-ended c = rw c.if-ended.true (omega arith)
 
-returns_2 : tie.Need-returns-2
-returns_2 c = rw c.if1.false (omega arith)
+returns-else-ended : tie.Need-returns-else-ended
+returns-else-ended c = rw c.if-ended.false (omega arith)
 
 pub with_marks_spec : {M : Type 1} → statement M
-with_marks_spec = tie.close (tie.spec add_result add_result_2 returns returns_2)
+with_marks_spec = tie.close (tie.spec overflow_add-result overflow_add-result-else-ended returns-then-ended returns-else-ended)

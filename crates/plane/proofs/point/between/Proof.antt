@@ -6,11 +6,11 @@ use mir.Facts.{to_z-of_z}
 use Rattle.plane.proofs.point.between.Statement.{statement}
 use Rattle.plane.proofs.point.between.Tie as tie
 
-difference_requires : tie.Need-difference-requires
-difference_requires c κs = search rules
+difference-requires : tie.Need-difference-requires
+difference-requires c κs = search rules
 
-difference_requires_2 : tie.Need-difference-requires-2
-difference_requires_2 c κs = search rules
+difference-requires-2 : tie.Need-difference-requires-2
+difference-requires-2 c κs = search rules
 
 returns : tie.Need-returns
 returns c =
@@ -19,9 +19,9 @@ returns c =
     let from_y : SFits w64 s.args.from.y = search rules in
     let to_x : SFits w64 s.args.to.x = search rules in
     let to_y : SFits w64 s.args.to.y = search rules in
-    let x_is = simp to_z-of_z at c.before.before.before.difference.ensures in
-    let y_is = simp to_z-of_z at c.difference2.ensures in
+    let x_is = simp to_z-of_z at c.difference.ensures in
+    let y_is = simp to_z-of_z at c.difference-2.ensures in
     λ i. record { x = x_is i; y = y_is i }
 
 pub between_spec : {M : Type 1} → statement M
-between_spec = tie.close (tie.spec difference_requires difference_requires_2 returns)
+between_spec = tie.close (tie.spec difference-requires difference-requires-2 returns)

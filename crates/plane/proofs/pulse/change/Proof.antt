@@ -4,26 +4,26 @@ use Rattle.plane.specs.Pulse.{change_of}
 use Rattle.plane.proofs.pulse.change.Statement.{statement}
 use Rattle.plane.proofs.pulse.change.Tie as tie
 
+returns-then-before-after : tie.Need-returns-then-before-after
+unfolding change_of
+returns-then-before-after c =
+    let before = c.ranges.before in
+    let after = c.ranges.after in
+    simp (simp to_z-of_z at c.if-before-after.true)
+
+returns-then-after-before : tie.Need-returns-then-after-before
+unfolding change_of
+returns-then-after-before c =
+    let before = c.ranges.before in
+    let after = c.ranges.after in
+    simp (simp to_z-of_z at c.if-before-after.false, simp to_z-of_z at c.if-after-before.true)
+
 returns : tie.Need-returns
 unfolding change_of
 returns c =
-    let before = c.before.ranges.before in
-    let after = c.before.ranges.after in
-    simp (simp to_z-of_z at c.if1.true)
-
-returns_2 : tie.Need-returns-2
-unfolding change_of
-returns_2 c =
-    let before = c.before.before.ranges.before in
-    let after = c.before.before.ranges.after in
-    simp (simp to_z-of_z at c.before.if1.false, simp to_z-of_z at c.if2.true)
-
-returns_3 : tie.Need-returns-3
-unfolding change_of
-returns_3 c =
-    let before = c.before.before.ranges.before in
-    let after = c.before.before.ranges.after in
-    simp (simp to_z-of_z at c.before.if1.false, simp to_z-of_z at c.if2.false)
+    let before = c.ranges.before in
+    let after = c.ranges.after in
+    simp (simp to_z-of_z at c.if-before-after.false, simp to_z-of_z at c.if-after-before.false)
 
 pub change_spec : {M : Type 1} → statement M
-change_spec = tie.close (tie.spec returns returns_2 returns_3)
+change_spec = tie.close (tie.spec returns-then-before-after returns-then-after-before returns)

@@ -14,32 +14,32 @@ use Rattle.plane.proofs.pulse.shifted.Tie as tie
 known : (at : ℤ) {code : ℕ} (k : ℕ) → code ≡ k → SFits w64 (at +ℤ pulse_of code) → SFits w64 (at +ℤ pulse_of k)
 known at k e f = rw e at f
 
-add_result : tie.Need-overflow-add-result
-add_result c = let s = c.before in let f = s.ranges.at in simp to_z-of_z (known s.args.at 1 c.if1.true s.requires)
+overflow_add-result : tie.Need-overflow_add-result
+overflow_add-result c = let s = c.before in let f = s.ranges.at in simp to_z-of_z (known s.args.at 1 c.if-code-eq1.true s.requires)
+
+returns-then-code-eq1 : tie.Need-returns-then-code-eq1
+returns-then-code-eq1 c =
+    let s = c.before in
+    let f = s.ranges.at in
+    let g = known s.args.at 1 c.if-code-eq1.true s.requires in
+    simp to_z-of_z (ap (λ (k : ℕ). s.args.at +ℤ pulse_of k) (sym c.if-code-eq1.true))
+
+overflow_sub-result : tie.Need-overflow_sub-result
+overflow_sub-result c = let s = c.before.before in let f = s.ranges.at in simp to_z-of_z (known s.args.at 2 c.if-code-eq2.true s.requires)
+
+returns-then-code-eq2 : tie.Need-returns-then-code-eq2
+returns-then-code-eq2 c =
+    let s = c.before.before in
+    let f = s.ranges.at in
+    let g = known s.args.at 2 c.if-code-eq2.true s.requires in
+    simp to_z-of_z (ap (λ (k : ℕ). s.args.at +ℤ pulse_of k) (sym c.if-code-eq2.true))
 
 returns : tie.Need-returns
 returns c =
-    let s = c.before in
-    let f = s.ranges.at in
-    let g = known s.args.at 1 c.if1.true s.requires in
-    simp to_z-of_z (ap (λ (k : ℕ). s.args.at +ℤ pulse_of k) (sym c.if1.true))
-
-sub_result : tie.Need-overflow-sub-result
-sub_result c = let s = c.before.before in let f = s.ranges.at in simp to_z-of_z (known s.args.at 2 c.if2.true s.requires)
-
-returns_2 : tie.Need-returns-2
-returns_2 c =
     let s = c.before.before in
     let f = s.ranges.at in
-    let g = known s.args.at 2 c.if2.true s.requires in
-    simp to_z-of_z (ap (λ (k : ℕ). s.args.at +ℤ pulse_of k) (sym c.if2.true))
-
-returns_3 : tie.Need-returns-3
-returns_3 c =
-    let s = c.before.before in
-    let f = s.ranges.at in
-    let none = pulse_none s.args.code c.before.if1.false c.if2.false in
+    let none = pulse_none s.args.code c.if-code-eq1.false c.if-code-eq2.false in
     simp to_z-of_z (sym (+ℤ_idr s.args.at) ∙ ap (λ (z : ℤ). s.args.at +ℤ z) (sym none))
 
 pub shifted_spec : {M : Type 1} → statement M
-shifted_spec = tie.close (tie.spec add_result returns sub_result returns_2 returns_3)
+shifted_spec = tie.close (tie.spec overflow_add-result returns-then-code-eq1 overflow_sub-result returns-then-code-eq2 returns)

@@ -7,22 +7,22 @@ use Rattle.plane.specs.Travel.{within_of}
 use Rattle.plane.proofs.travel.within.Statement.{statement}
 use Rattle.plane.proofs.travel.within.Tie as tie
 
-returns : tie.Need-returns
+returns-then-range-at : tie.Need-returns-then-range-at
 unfolding within_of
-returns c =
+returns-then-range-at c =
     let s = c.before.before.before.before.before in
     let at : SFits w64 s.args.at = s.ranges.at in
     let lower : SFits w64 s.args.range.lower = search rules in
     let upper : SFits w64 s.args.range.upper = search rules in
-    simp (to_z-of_z, simp to_z-of_z at c.before.before.if1.true)
+    simp (to_z-of_z, simp to_z-of_z at c.if-range-at.true)
 
-returns_2 : tie.Need-returns-2
+returns-else-range-at : tie.Need-returns-else-range-at
 unfolding within_of
-returns_2 c =
+returns-else-range-at c =
     let s = c.before.before.before in
     let at : SFits w64 s.args.at = s.ranges.at in
     let lower : SFits w64 s.args.range.lower = search rules in
-    simp (to_z-of_z, simp to_z-of_z at c.if1.false)
+    simp (to_z-of_z, simp to_z-of_z at c.if-range-at.false)
 
 pub within_spec : {M : Type 1} → statement M
-within_spec = tie.close (tie.spec returns returns_2)
+within_spec = tie.close (tie.spec returns-then-range-at returns-else-range-at)

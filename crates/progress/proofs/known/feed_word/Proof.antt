@@ -7,47 +7,35 @@ use borrow.Author.Rules.{rules}
 use Rattle.progress.proofs.known.feed_word.Statement.{statement}
 use Rattle.progress.proofs.known.feed_word.Tie as tie
 
-enum_told : tie.Need-enum-told
-enum_told c = search rules
+enum_told-1 : tie.Need-enum_told-1
+enum_told-1 c = search rules
 
-enum_known_feed : tie.Need-enum-known-feed
-enum_known_feed c = search rules
+enum_known-feed : tie.Need-enum_known-feed
+enum_known-feed c = search rules
 
-cast_word : tie.Need-overflow-cast-word
-cast_word c = search rules
+overflow_cast-millimetres : tie.Need-overflow_cast-millimetres
+overflow_cast-millimetres c = search rules
 
-mul_word : tie.Need-overflow-mul-word
-mul_word c = search rules
+overflow_mul-millimetres : tie.Need-overflow_mul-millimetres
+overflow_mul-millimetres c = search rules
 
-cast_word_2 : tie.Need-overflow-cast-word-2
-cast_word_2 c = search rules
+overflow_cast-thousandths : tie.Need-overflow_cast-thousandths
+overflow_cast-thousandths c = search rules
 
-add_word : tie.Need-overflow-add-word
-add_word c = search rules
+overflow_add-millimetres : tie.Need-overflow_add-millimetres
+overflow_add-millimetres c = search rules
 
-word_requires : tie.Need-word-requires
-word_requires c κs = search rules
+word-requires : tie.Need-word-requires
+word-requires c κs = search rules
 
-returns : tie.Need-returns
-returns c = cc
+returns-in-Unknown : tie.Need-returns-in-Unknown
+returns-in-Unknown c = cc
 
-returns_2 : tie.Need-returns-2
-returns_2 c =
-    let f = c.before.before.feed.given in
-    let few : f.0.0 < 2 ^ 32 = search rules in
-    let small : f.0.1.0 < 2 ^ 32 = search rules in
-    rw f.1 (through (word_fits _) c.word.ensures ∙ word_small (omega arith))
+returns-in-Known : tie.Need-returns-in-Known
+returns-in-Known c =
+    let few : c.in-Known.millimetres < 2 ^ 32 = search rules in
+    let small : c.in-Known.thousandths < 2 ^ 32 = search rules in
+    rw c.in-Known.is (through (word_fits _) c.word.ensures ∙ word_small (omega arith))
 
 pub feed_word_spec : {M : Type 1} → statement M
-feed_word_spec =
-    tie.close
-    (tie.spec
-    enum_told
-    enum_known_feed
-    cast_word
-    mul_word
-    cast_word_2
-    add_word
-    word_requires
-    returns
-    returns_2)
+feed_word_spec = tie.close (tie.spec enum_told-1 enum_known-feed overflow_cast-millimetres overflow_mul-millimetres overflow_cast-thousandths overflow_add-millimetres word-requires returns-in-Unknown returns-in-Known)

@@ -1,6 +1,5 @@
 -- `known_right` is right because it asks both ranges.
 use borrow.Author.Rules.{rules}
-use borrow.Author.Tests.{not-true, not-false}
 use mathlib.Core.Path.{◌≡◌, sym, ◌∙◌}
 use mir.Syntax.{w64}
 use mir.Val.{SFits}
@@ -11,28 +10,28 @@ use Rattle.progress.proofs.known.known_right.Statement.{statement}
 use Rattle.progress.proofs.known.known_right.Tie as tie
 
 -- what each call says, over the word itself
-motion_is : (c : tie.After-within) → c.within.result ≡ within_of motions c.before.before.args.k.motion
-motion_is c = let f : SFits w64 c.before.before.args.k.motion = search rules in simp to_z-of_z at c.within.ensures
+motion_is : (c : tie.After-within) → c.within.result ≡ within_of motions c.args.k.motion
+motion_is c = let f : SFits w64 c.args.k.motion = search rules in simp to_z-of_z at c.within.ensures
 
-feed_is : (c : tie.After-within2) → c.within2.result ≡ within_of feeds c.before.before.before.before.before.args.k.feed
-feed_is c = let f : SFits w64 c.before.before.before.before.before.args.k.feed = search rules in
-    simp to_z-of_z at c.within2.ensures
+feed_is : (c : tie.After-within-2) → c.within-2.result ≡ within_of feeds c.args.k.feed
+feed_is c = let f : SFits w64 c.args.k.feed = search rules in
+    simp to_z-of_z at c.within-2.ensures
 
-within_requires : tie.Need-within-requires
-within_requires c κs = search rules
+within-requires : tie.Need-within-requires
+within-requires c κs = search rules
+
+returns-then-not-within : tie.Need-returns-then-not-within
+unfolding known_right
+returns-then-not-within c = rw (sym (motion_is c.before) ∙ c.if-not-within.true)
+
+within-requires-2 : tie.Need-within-requires-2
+within-requires-2 c κs = search rules
 
 returns : tie.Need-returns
 unfolding known_right
-returns c = rw (sym (motion_is c.before) ∙ not-true _ c.if1.true)
-
-within_requires_2 : tie.Need-within-requires-2
-within_requires_2 c κs = search rules
-
-returns_2 : tie.Need-returns-2
-unfolding known_right
-returns_2 c =
+returns c =
     let e1 = c.before.before in
-    feed_is c ∙ rw (sym (motion_is e1.before) ∙ not-false _ e1.if1.false)
+    feed_is c ∙ rw (sym (motion_is e1.before) ∙ e1.if-not-within.false)
 
 pub known_right_spec : {M : Type 1} → statement M
-known_right_spec = tie.close (tie.spec within_requires returns within_requires_2 returns_2)
+known_right_spec = tie.close (tie.spec within-requires returns-then-not-within within-requires-2 returns)

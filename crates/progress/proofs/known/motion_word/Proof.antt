@@ -4,36 +4,27 @@ use Rattle.encoding.specs.laws.Number.{turn_fits, through}
 use Rattle.progress.proofs.known.motion_word.Statement.{statement}
 use Rattle.progress.proofs.known.motion_word.Tie as tie
 
-enum_told : tie.Need-enum-told
-enum_told c = search rules
+enum_told-1 : tie.Need-enum_told-1
+enum_told-1 c = search rules
 
-enum_told_2 : tie.Need-enum-told-2
-enum_told_2 c = search rules
+enum_told-in-Line : tie.Need-enum_told-in-Line
+enum_told-in-Line c = search rules
 
-enum_known_motion : tie.Need-enum-known-motion
-enum_known_motion c = search rules
+enum_known-motion : tie.Need-enum_known-motion
+enum_known-motion c = search rules
 
-turn_word_requires : tie.Need-turn-word-requires
-turn_word_requires c κs = search rules
+turn_word-requires : tie.Need-turn_word-requires
+turn_word-requires c κs = search rules
 
-returns : tie.Need-returns
-returns c = cc
+returns-in-Unknown : tie.Need-returns-in-Unknown
+returns-in-Unknown c = cc
 
-returns_2 : tie.Need-returns-2
-returns_2 c = cc
+returns-in-Line : tie.Need-returns-in-Line
+returns-in-Line c = cc
 
-returns_3 : tie.Need-returns-3
-returns_3 c = simp c.before.before.motion.given.1
-    (through (turn_fits c.before.before.motion.given.0.0) c.turn-word.ensures)
+returns-in-Arc : tie.Need-returns-in-Arc
+returns-in-Arc c = simp c.in-Arc.is
+    (through (turn_fits c.in-Arc.turn) c.turn_word.ensures)
 
 pub motion_word_spec : {M : Type 1} → statement M
-motion_word_spec =
-    tie.close
-    (tie.spec
-    enum_told
-    enum_told_2
-    enum_known_motion
-    turn_word_requires
-    returns
-    returns_2
-    returns_3)
+motion_word_spec = tie.close (tie.spec enum_told-1 enum_told-in-Line enum_known-motion turn_word-requires returns-in-Unknown returns-in-Line returns-in-Arc)

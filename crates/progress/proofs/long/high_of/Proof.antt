@@ -6,23 +6,23 @@ use borrow.Author.Rules.{rules}
 use Rattle.progress.proofs.long.high_of.Statement.{statement}
 use Rattle.progress.proofs.long.high_of.Tie as tie
 
-count_requires : tie.Need-count-requires
-count_requires c κs = search rules
+count-n-requires : tie.Need-count-n-requires
+count-n-requires c κs = search rules
 
-cast_result : tie.Need-overflow-cast-result
-cast_result c = search rules
+overflow_cast-result : tie.Need-overflow_cast-result
+overflow_cast-result c = search rules
+
+returns-then-n-lt4294967296 : tie.Need-returns-then-n-lt4294967296
+returns-then-n-lt4294967296 c =
+    let f = c.ranges.word in
+    let e = simp to_z-of_z at c.count-n.ensures in
+    rw (← e, lt-ltb c.count-n.result (2 ^ 32) (search rules))
 
 returns : tie.Need-returns
 returns c =
-    let f = c.before.before.ranges.word in
-    let e = simp to_z-of_z at c.before.count.ensures in
-    rw (← e, lt-ltb c.before.count.result (2 ^ 32) (search rules))
-
-returns_2 : tie.Need-returns-2
-returns_2 c =
-    let f = c.before.before.ranges.word in
-    let e = simp to_z-of_z at c.before.count.ensures in
-    rw (← e, le-ltb c.before.count.result (2 ^ 32) (search rules))
+    let f = c.ranges.word in
+    let e = simp to_z-of_z at c.count-n.ensures in
+    rw (← e, le-ltb c.count-n.result (2 ^ 32) (search rules))
 
 pub high_of_spec : {M : Type 1} → statement M
-high_of_spec = tie.close (tie.spec count_requires cast_result returns returns_2)
+high_of_spec = tie.close (tie.spec count-n-requires overflow_cast-result returns-then-n-lt4294967296 returns)

@@ -4,15 +4,15 @@ use Rattle.progress.specs.Progress.{encode_progress}
 use Rattle.progress.proofs.progress.encode_progress.Statement.{statement}
 use Rattle.progress.proofs.progress.encode_progress.Tie as tie
 
-progress_of_requires : tie.Need-progress-of-requires
-progress_of_requires c κs = search rules
+progress_of-requires : tie.Need-progress_of-requires
+progress_of-requires c κs = search rules
 
-in_order_requires : tie.Need-in-order-requires
-in_order_requires c κs = search rules
+in_order-requires : tie.Need-in_order-requires
+in_order-requires c κs = search rules
 
 returns : tie.Need-returns
 unfolding encode_progress
-returns c = simp (c.in_order.ensures, c.before.progress-of.ensures)
+returns c = simp (c.in_order.ensures, c.progress_of.ensures)
 
 pub encode_progress_spec : {M : Type 1} → statement M
-encode_progress_spec = tie.close (tie.spec progress_of_requires in_order_requires returns)
+encode_progress_spec = tie.close (tie.spec progress_of-requires in_order-requires returns)

@@ -3,14 +3,14 @@ use borrow.Author.Tests.{eq-eqb, ne_eqb}
 use Rattle.progress.proofs.progress.stage_of.Statement.{statement}
 use Rattle.progress.proofs.progress.stage_of.Tie as tie
 
+returns-then-n-eq1 : tie.Need-returns-then-n-eq1
+returns-then-n-eq1 c = rw (eq-eqb _ _ c.if-n-eq1.true)
+
+returns-then-n-eq2 : tie.Need-returns-then-n-eq2
+returns-then-n-eq2 c = rw (ne_eqb _ _ c.if-n-eq1.false, eq-eqb _ _ c.if-n-eq2.true)
+
 returns : tie.Need-returns
-returns c = rw (eq-eqb _ _ c.if1.true)
-
-returns_2 : tie.Need-returns-2
-returns_2 c = rw (ne_eqb _ _ c.before.if1.false, eq-eqb _ _ c.if2.true)
-
-returns_3 : tie.Need-returns-3
-returns_3 c = rw (ne_eqb _ _ c.before.if1.false, ne_eqb _ _ c.if2.false)
+returns c = rw (ne_eqb _ _ c.if-n-eq1.false, ne_eqb _ _ c.if-n-eq2.false)
 
 pub stage_of_spec : {M : Type 1} → statement M
-stage_of_spec = tie.close (tie.spec returns returns_2 returns_3)
+stage_of_spec = tie.close (tie.spec returns-then-n-eq1 returns-then-n-eq2 returns)

@@ -4,18 +4,18 @@ use Rattle.queue.specs.Queue.{pushed_of}
 use Rattle.queue.proofs.Queue.push.Statement.{statement}
 use Rattle.queue.proofs.Queue.push.Tie as tie
 
-mul_w : tie.Need-overflow-mul-w
-mul_w c = search rules
+offset_bounds-next-at : tie.Need-offset_bounds-next-at
+offset_bounds-next-at c = search rules
 
-element_set_from_w : tie.Need-element-set-from-w
-element_set_from_w c = search rules
+bounds-next-at : tie.Need-bounds-next-at
+bounds-next-at c = search rules
 
-add_next : tie.Need-overflow-add-next
-add_next c = search rules
+overflow_add-next : tie.Need-overflow_add-next
+overflow_add-next c = search rules
 
 returns : tie.Need-returns
 unfolding pushed_of
 returns c = search rules
 
 pub push_spec : {M : Type 1} → statement M
-push_spec = tie.close (tie.spec mul_w element_set_from_w add_next returns)
+push_spec = tie.close (tie.spec offset_bounds-next-at bounds-next-at overflow_add-next returns)

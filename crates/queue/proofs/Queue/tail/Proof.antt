@@ -9,24 +9,24 @@ use Rattle.queue.specs.laws.Waiting.{end_last}
 use Rattle.queue.proofs.Queue.tail.Statement.{statement}
 use Rattle.queue.proofs.Queue.tail.Tie as tie
 
-returns : tie.Need-returns
+returns-then-self-eq0 : tie.Need-returns-then-self-eq0
 unfolding chain_end
-returns c = simp c.if1.true
+returns-then-self-eq0 c = simp c.if-self-eq0.true
 
-sub_at : tie.Need-overflow-sub-at
-sub_at c = search rules
+overflow_sub-at : tie.Need-overflow_sub-at
+overflow_sub-at c = search rules
 
-mul_w : tie.Need-overflow-mul-w
-mul_w c = search rules
+offset_bounds-self-at : tie.Need-offset_bounds-self-at
+offset_bounds-self-at c = search rules
 
-element_copy_out_w : tie.Need-element-copy-out-w
-element_copy_out_w c = search rules
+bounds-self-at : tie.Need-bounds-self-at
+bounds-self-at c = search rules
 
-returns_2 : tie.Need-returns-2
-returns_2 c =
+returns : tie.Need-returns
+returns c =
     let s = c.before.before.before.before in
-    let places : length s.args.t1.blocks ≡ 16 = search (unmap, rules) in
-    end_last s.args.from s.args.t1.blocks s.args.t1.len (search rules) (omega (arith, places, s.requires))
+    let places : length s.args.self.blocks ≡ 16 = search (unmap, rules) in
+    end_last s.args.from s.args.self.blocks s.args.self.len (search rules) (omega (arith, places, s.requires))
 
 pub tail_spec : {M : Type 1} → statement M
-tail_spec = tie.close (tie.spec returns sub_at mul_w element_copy_out_w returns_2)
+tail_spec = tie.close (tie.spec returns-then-self-eq0 overflow_sub-at offset_bounds-self-at bounds-self-at returns)

@@ -4,11 +4,11 @@ use Rattle.reader.specs.computed.Reader.{longest_line}
 use Rattle.reader.proofs.asked.broken_no.Statement.{statement}
 use Rattle.reader.proofs.asked.broken_no.Tie as tie
 
-returns : tie.Need-returns
-returns c = rw (le-leb _ longest_line c.if1.true)
+returns-then-bytes-le-LONGEST_LINE : tie.Need-returns-then-bytes-le-LONGEST_LINE
+returns-then-bytes-le-LONGEST_LINE c = rw (le-leb _ longest_line c.if-bytes-le-LONGEST_LINE.true)
 
-returns_2 : tie.Need-returns-2
-returns_2 c = rw (lt-leb _ longest_line c.if1.false)
+returns-else-bytes-le-LONGEST_LINE : tie.Need-returns-else-bytes-le-LONGEST_LINE
+returns-else-bytes-le-LONGEST_LINE c = rw (lt-leb _ longest_line c.if-bytes-le-LONGEST_LINE.false)
 
 pub broken_no_spec : {M : Type 1} → statement M
-broken_no_spec = tie.close (tie.spec returns returns_2)
+broken_no_spec = tie.close (tie.spec returns-then-bytes-le-LONGEST_LINE returns-else-bytes-le-LONGEST_LINE)

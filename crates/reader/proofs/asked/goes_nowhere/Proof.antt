@@ -4,20 +4,20 @@ use mathlib.Core.Path.{◌∙◌}
 use Rattle.reader.proofs.asked.goes_nowhere.Statement.{statement}
 use Rattle.reader.proofs.asked.goes_nowhere.Tie as tie
 
-enum_told : tie.Need-enum-told
-enum_told c = search rules
+enum_told-1 : tie.Need-enum_told-1
+enum_told-1 c = search rules
 
-is_same_requires : tie.Need-is-same-requires
-is_same_requires c κs = search rules
+is_same-requires : tie.Need-is_same-requires
+is_same-requires c κs = search rules
 
-enum_told_2 : tie.Need-enum-told-2
-enum_told_2 c = search rules
+enum_told-in-Arc : tie.Need-enum_told-in-Arc
+enum_told-in-Arc c = search rules
 
-returns : tie.Need-returns
-returns c = c.is_same.ensures ∙ rw c.before.enum_told.given.1
+returns-in-Line : tie.Need-returns-in-Line
+returns-in-Line c = c.is_same.ensures ∙ rw c.in-Line.is
 
-returns_2 : tie.Need-returns-2
-returns_2 c = search rules
+returns-in-Arc : tie.Need-returns-in-Arc
+returns-in-Arc c = search rules
 
 pub goes_nowhere_spec : {M : Type 1} → statement M
-goes_nowhere_spec = tie.close (tie.spec enum_told is_same_requires enum_told_2 returns returns_2)
+goes_nowhere_spec = tie.close (tie.spec enum_told-1 is_same-requires enum_told-in-Arc returns-in-Line returns-in-Arc)

@@ -8,19 +8,19 @@ use Rattle.reader.specs.laws.Small.{pulses_fit}
 use Rattle.reader.proofs.command.coordinate_of.Statement.{statement}
 use Rattle.reader.proofs.command.coordinate_of.Tie as tie
 
-in_pulses_requires : tie.Need-in-pulses-requires
-in_pulses_requires c κs = search rules
+in_pulses-requires : tie.Need-in_pulses-requires
+in_pulses-requires c κs = search rules
+
+returns-then-w : tie.Need-returns-then-w
+returns-then-w c =
+    let s = c.before.before in
+    let fits : SFits w64 (in_pulses s.args.scale s.args.w) = pulses_fit s.args.scale s.args.w s.requires in
+    rw (c.in_pulses.ensures, c.if-w.true) (to_z-of_z fits)
 
 returns : tie.Need-returns
 returns c =
-    let s = c.before.before in
-    let fits : SFits w64 (in_pulses s.args.scale s.args.w) = pulses_fit s.args.scale s.args.w s.requires in
-    rw (c.in-pulses.ensures, c.before.if1.true) (to_z-of_z fits)
-
-returns_2 : tie.Need-returns-2
-returns_2 c =
-    let here : SFits w64 c.before.args.here = c.before.ranges.here in
-    rw c.if1.false (to_z-of_z here)
+    let here : SFits w64 c.args.here = c.ranges.here in
+    rw c.if-w.false (to_z-of_z here)
 
 pub coordinate_of_spec : {M : Type 1} → statement M
-coordinate_of_spec = tie.close (tie.spec in_pulses_requires returns returns_2)
+coordinate_of_spec = tie.close (tie.spec in_pulses-requires returns-then-w returns)

@@ -3,17 +3,17 @@ use borrow.Author.Rules.{rules}
 use Rattle.reader.proofs.command.feed_after.Statement.{statement}
 use Rattle.reader.proofs.command.feed_after.Tie as tie
 
-cast_t5 : tie.Need-overflow-cast-t5
-cast_t5 c = search rules
+overflow_cast-result : tie.Need-overflow_cast-result
+overflow_cast-result c = search rules
 
-cast_t7 : tie.Need-overflow-cast-t7
-cast_t7 c = search rules
+overflow_cast-result-then-w : tie.Need-overflow_cast-result-then-w
+overflow_cast-result-then-w c = search rules
+
+returns-then-w : tie.Need-returns-then-w
+returns-then-w c = rw c.if-w.true
 
 returns : tie.Need-returns
-returns c = rw c.before.before.if1.true
-
-returns_2 : tie.Need-returns-2
-returns_2 c = search rules
+returns c = search rules
 
 pub feed_after_spec : {M : Type 1} → statement M
-feed_after_spec = tie.close (tie.spec cast_t5 cast_t7 returns returns_2)
+feed_after_spec = tie.close (tie.spec overflow_cast-result overflow_cast-result-then-w returns-then-w returns)

@@ -3,17 +3,17 @@ use borrow.Author.Tests.{eq-eqb, ne_eqb}
 use Rattle.reader.proofs.command.motion_of.Statement.{statement}
 use Rattle.reader.proofs.command.motion_of.Tie as tie
 
+returns-then-g-eq1 : tie.Need-returns-then-g-eq1
+returns-then-g-eq1 c = rw (eq-eqb _ _ c.if-g-eq1.true)
+
+returns-then-g-eq2 : tie.Need-returns-then-g-eq2
+returns-then-g-eq2 c = rw (ne_eqb _ _ c.if-g-eq1.false, eq-eqb _ _ c.if-g-eq2.true)
+
+returns-then-g-eq3 : tie.Need-returns-then-g-eq3
+returns-then-g-eq3 c = rw (ne_eqb _ _ c.if-g-eq1.false, ne_eqb _ _ c.if-g-eq2.false, eq-eqb _ _ c.if-g-eq3.true)
+
 returns : tie.Need-returns
-returns c = rw (eq-eqb _ _ c.if1.true)
-
-returns_2 : tie.Need-returns-2
-returns_2 c = rw (ne_eqb _ _ c.before.if1.false, eq-eqb _ _ c.if2.true)
-
-returns_3 : tie.Need-returns-3
-returns_3 c = rw (ne_eqb _ _ c.before.before.if1.false, ne_eqb _ _ c.before.if2.false, eq-eqb _ _ c.if3.true)
-
-returns_4 : tie.Need-returns-4
-returns_4 c = rw (ne_eqb _ _ c.before.before.if1.false, ne_eqb _ _ c.before.if2.false, ne_eqb _ _ c.if3.false)
+returns c = rw (ne_eqb _ _ c.if-g-eq1.false, ne_eqb _ _ c.if-g-eq2.false, ne_eqb _ _ c.if-g-eq3.false)
 
 pub motion_of_spec : {M : Type 1} → statement M
-motion_of_spec = tie.close (tie.spec returns returns_2 returns_3 returns_4)
+motion_of_spec = tie.close (tie.spec returns-then-g-eq1 returns-then-g-eq2 returns-then-g-eq3 returns)

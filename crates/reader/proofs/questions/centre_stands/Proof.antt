@@ -2,11 +2,11 @@
 use Rattle.reader.proofs.questions.centre_stands.Statement.{statement}
 use Rattle.reader.proofs.questions.centre_stands.Tie as tie
 
-returns : tie.Need-returns
-returns c = rw c.if1.true
+returns-then-i : tie.Need-returns-then-i
+returns-then-i c = rw c.if-i.true
 
-returns_2 : tie.Need-returns-2
-returns_2 c = rw c.if1.false
+returns-else-i : tie.Need-returns-else-i
+returns-else-i c = rw c.if-i.false
 
 pub centre_stands_spec : {M : Type 1} → statement M
-centre_stands_spec = tie.close (tie.spec returns returns_2)
+centre_stands_spec = tie.close (tie.spec returns-then-i returns-else-i)

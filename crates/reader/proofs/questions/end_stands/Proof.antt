@@ -2,11 +2,11 @@
 use Rattle.reader.proofs.questions.end_stands.Statement.{statement}
 use Rattle.reader.proofs.questions.end_stands.Tie as tie
 
-returns : tie.Need-returns
-returns c = rw c.if1.true
+returns-then-x : tie.Need-returns-then-x
+returns-then-x c = rw c.if-x.true
 
-returns_2 : tie.Need-returns-2
-returns_2 c = rw c.if1.false
+returns-else-x : tie.Need-returns-else-x
+returns-else-x c = rw c.if-x.false
 
 pub end_stands_spec : {M : Type 1} → statement M
-end_stands_spec = tie.close (tie.spec returns returns_2)
+end_stands_spec = tie.close (tie.spec returns-then-x returns-else-x)

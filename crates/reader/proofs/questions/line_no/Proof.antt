@@ -9,65 +9,65 @@ use Rattle.reader.proofs.questions.line_no.Statement.{statement}
 use Rattle.reader.proofs.questions.line_no.Tie as tie
 
 -- the answers of the questions before
-short : (c : tie.Else1) → leb c.before.args.bytes longest_line ≡ true
-short c = le-leb _ _ c.if1.false
+short : (c : tie.Else-bytes-gt-LONGEST_LINE) → leb c.args.bytes longest_line ≡ true
+short c = le-leb _ _ c.if-bytes-gt-LONGEST_LINE.false
 
-formed : (c : tie.Else2) → c.before.before.before.args.l.formed ≡ true
-formed c = not-false c.before.before.before.args.l.formed c.if2.false
+formed : (c : tie.Else-not-l) → c.args.l.formed ≡ true
+formed c = not-false c.args.l.formed c.if-not-l.false
 
-once : (c : tie.Else3) → c.before.before.before.before.before.args.l.once ≡ true
-once c = not-false c.before.before.before.before.before.args.l.once c.if3.false
+once : (c : tie.Else-not-l-2) → c.args.l.once ≡ true
+once c = not-false c.args.l.once c.if-not-l-2.false
 
-motion : (c : tie.Else4) → motion_right c.before.before.before.before.before.before.before.before.before.args.l.words.g ≡ true
-motion c = sym c.before.motion_right.ensures ∙ not-false _ c.if4.false
+motion : (c : tie.Else-not-motion_right) → motion_right c.args.l.words.g ≡ true
+motion c = sym c.motion_right.ensures ∙ c.if-not-motion_right.false
 
-pulses : (c : tie.Else5)
-    → all_on_pulse c.before.before.before.before.before.before.before.before.before.before.before.args.scale
-    c.before.before.before.before.before.before.before.before.before.before.before.args.l.words ≡ true
-pulses c = sym c.before.all-on-pulse.ensures ∙ not-false _ c.if5.false
+pulses : (c : tie.Else-not-all_on_pulse)
+    → all_on_pulse c.args.scale
+    c.args.l.words ≡ true
+pulses c = sym c.all_on_pulse.ensures ∙ c.if-not-all_on_pulse.false
 
-known : (c : tie.Else6)
-    → all_known c.before.before.before.before.before.before.before.before.before.before.before.before.before.args.k
-    c.before.before.before.before.before.before.before.before.before.before.before.before.before.args.l.words ≡ true
-known c = sym c.before.all_Known.ensures ∙ not-false _ c.if6.false
+known : (c : tie.Else-not-all_known)
+    → all_known c.args.k
+    c.args.l.words ≡ true
+known c = sym c.before.all_known.ensures ∙ c.if-not-all_known.false
 
-returns : tie.Need-returns
+returns-then-bytes-gt-LONGEST_LINE : tie.Need-returns-then-bytes-gt-LONGEST_LINE
 unfolding line_no
-returns c = rw (lt-leb _ _ c.if1.true)
+returns-then-bytes-gt-LONGEST_LINE c = rw (lt-leb _ _ c.if-bytes-gt-LONGEST_LINE.true)
 
-returns_2 : tie.Need-returns-2
+returns-then-not-l : tie.Need-returns-then-not-l
 unfolding line_no
-returns_2 c = rw (short c.before.before, not-true c.before.before.before.args.l.formed c.if2.true)
+returns-then-not-l c = rw (short c.before.before, not-true c.args.l.formed c.if-not-l.true)
 
-returns_3 : tie.Need-returns-3
+returns-then-not-l-2 : tie.Need-returns-then-not-l-2
 unfolding line_no
-returns_3 c = rw (
+returns-then-not-l-2 c = rw (
   short c.before.before.before.before,
   formed c.before.before,
-  not-true c.before.before.before.before.before.args.l.once c.if3.true,
+  not-true c.args.l.once c.if-not-l-2.true,
 )
 
-motion_right_requires : tie.Need-motion-right-requires
-motion_right_requires c κs = search rules
+motion_right-requires : tie.Need-motion_right-requires
+motion_right-requires c κs = search rules
 
-returns_4 : tie.Need-returns-4
+returns-then-not-motion_right : tie.Need-returns-then-not-motion_right
 unfolding line_no
-returns_4 c =
+returns-then-not-motion_right c =
     let e3 = c.before.before.before.before in
     rw (
       short e3.before.before.before.before,
       formed e3.before.before,
       once e3,
-      sym c.before.motion_right.ensures
-          ∙ not-true _ c.if4.true,
+      sym c.motion_right.ensures
+          ∙ c.if-not-motion_right.true,
     )
 
-all_on_pulse_requires : tie.Need-all-on-pulse-requires
-all_on_pulse_requires c κs = search rules
+all_on_pulse-requires : tie.Need-all_on_pulse-requires
+all_on_pulse-requires c κs = search rules
 
-returns_5 : tie.Need-returns-5
+returns-then-not-all_on_pulse : tie.Need-returns-then-not-all_on_pulse
 unfolding line_no
-returns_5 c =
+returns-then-not-all_on_pulse c =
     let e4 = c.before.before in
     let e3 = e4.before.before.before.before in
     rw (
@@ -75,16 +75,16 @@ returns_5 c =
       formed e3.before.before,
       once e3,
       motion e4,
-      sym c.before.all-on-pulse.ensures
-          ∙ not-true _ c.if5.true,
+      sym c.all_on_pulse.ensures
+          ∙ c.if-not-all_on_pulse.true,
     )
 
-all_known_requires : tie.Need-all-known-requires
-all_known_requires c κs = search rules
+all_known-requires : tie.Need-all_known-requires
+all_known-requires c κs = search rules
 
-returns_6 : tie.Need-returns-6
+returns-then-not-all_known : tie.Need-returns-then-not-all_known
 unfolding line_no
-returns_6 c =
+returns-then-not-all_known c =
     let e5 = c.before.before in
     let e4 = e5.before.before in
     let e3 = e4.before.before.before.before in
@@ -94,15 +94,15 @@ returns_6 c =
       once e3,
       motion e4,
       pulses e5,
-      sym c.before.all_Known.ensures ∙ not-true _ c.if6.true,
+      sym c.before.all_known.ensures ∙ c.if-not-all_known.true,
     )
 
-centre_right_requires : tie.Need-centre-right-requires
-centre_right_requires c κs = search rules
+centre_right-requires : tie.Need-centre_right-requires
+centre_right-requires c κs = search rules
 
-returns_7 : tie.Need-returns-7
+returns-then-not-centre_right : tie.Need-returns-then-not-centre_right
 unfolding line_no
-returns_7 c =
+returns-then-not-centre_right c =
     let e6 = c.before.before in
     let e5 = e6.before.before in
     let e4 = e5.before.before in
@@ -114,12 +114,12 @@ returns_7 c =
       motion e4,
       pulses e5,
       known e6,
-      sym c.before.centre-right.ensures ∙ not-true _ c.if7.true,
+      sym c.centre_right.ensures ∙ c.if-not-centre_right.true,
     )
 
-returns_8 : tie.Need-returns-8
+returns : tie.Need-returns
 unfolding line_no
-returns_8 c =
+returns c =
     let e6 = c.before.before in
     let e5 = e6.before.before in
     let e4 = e5.before.before in
@@ -131,22 +131,8 @@ returns_8 c =
       motion e4,
       pulses e5,
       known e6,
-      sym c.before.centre-right.ensures ∙ not-false _ c.if7.false,
+      sym c.centre_right.ensures ∙ c.if-not-centre_right.false,
     )
 
 pub line_no_spec : {M : Type 1} → statement M
-line_no_spec =
-    tie.close
-    (tie.spec
-    returns
-    returns_2
-    returns_3
-    motion_right_requires
-    returns_4
-    all_on_pulse_requires
-    returns_5
-    all_known_requires
-    returns_6
-    centre_right_requires
-    returns_7
-    returns_8)
+line_no_spec = tie.close (tie.spec returns-then-bytes-gt-LONGEST_LINE returns-then-not-l returns-then-not-l-2 motion_right-requires returns-then-not-motion_right all_on_pulse-requires returns-then-not-all_on_pulse all_known-requires returns-then-not-all_known centre_right-requires returns-then-not-centre_right returns)

@@ -4,17 +4,17 @@ use borrow.Author.Tests.{not-false, lt-leb, le-leb}
 use Rattle.reader.proofs.questions.motion_right.Statement.{statement}
 use Rattle.reader.proofs.questions.motion_right.Tie as tie
 
+returns-then-not-g : tie.Need-returns-then-not-g
+returns-then-not-g c = search rules
+
+returns-then-g-lt1 : tie.Need-returns-then-g-lt1
+returns-then-g-lt1 c = rw (not-false c.args.g.stands c.if-not-g.false, lt-leb _ _ c.if-g-lt1.true)
+
 returns : tie.Need-returns
-returns c = search rules
-
-returns_2 : tie.Need-returns-2
-returns_2 c = rw (not-false c.before.before.before.before.args.g.stands c.before.before.if1.false, lt-leb _ _ c.if2.true)
-
-returns_3 : tie.Need-returns-3
-returns_3 c = rw (
-  not-false c.before.before.before.before.before.args.g.stands c.before.before.before.if1.false,
-  le-leb _ _ c.before.if2.false,
+returns c = rw (
+  not-false c.args.g.stands c.if-not-g.false,
+  le-leb _ _ c.if-g-lt1.false,
 )
 
 pub motion_right_spec : {M : Type 1} → statement M
-motion_right_spec = tie.close (tie.spec returns returns_2 returns_3)
+motion_right_spec = tie.close (tie.spec returns-then-not-g returns-then-g-lt1 returns)

@@ -4,17 +4,17 @@ use mathlib.Core.Path.{sym, ◌∙◌}
 use Rattle.reader.proofs.questions.moves.Statement.{statement}
 use Rattle.reader.proofs.questions.moves.Tie as tie
 
-end_stands_requires : tie.Need-end-stands-requires
-end_stands_requires c κs = search rules
+end_stands-requires : tie.Need-end_stands-requires
+end_stands-requires c κs = search rules
+
+returns-then-end_stands : tie.Need-returns-then-end_stands
+returns-then-end_stands c = rw (sym c.end_stands.ensures ∙ c.if-end_stands.true)
+
+centre_stands-requires : tie.Need-centre_stands-requires
+centre_stands-requires c κs = search rules
 
 returns : tie.Need-returns
-returns c = rw (sym c.before.end-stands.ensures ∙ c.if1.true)
-
-centre_stands_requires : tie.Need-centre-stands-requires
-centre_stands_requires c κs = search rules
-
-returns_2 : tie.Need-returns-2
-returns_2 c = c.centre_stands.ensures ∙ rw (sym c.before.before.end-stands.ensures ∙ c.before.if1.false)
+returns c = c.centre_stands.ensures ∙ rw (sym c.end_stands.ensures ∙ c.if-end_stands.false)
 
 pub moves_spec : {M : Type 1} → statement M
-moves_spec = tie.close (tie.spec end_stands_requires returns centre_stands_requires returns_2)
+moves_spec = tie.close (tie.spec end_stands-requires returns-then-end_stands centre_stands-requires returns)

@@ -11,120 +11,89 @@ use Rattle.encoding.specs.Words.{at}
 use Rattle.record.proofs.read.block_words_in.Statement.{statement}
 use Rattle.record.proofs.read.block_words_in.Tie as tie
 
-mul_at : tie.Need-overflow-mul-at
-mul_at c = search rules
+overflow_mul-at : tie.Need-overflow_mul-at
+overflow_mul-at c = search rules
 
-add_at : tie.Need-overflow-add-at
-add_at c = search rules
+overflow_add-at : tie.Need-overflow_add-at
+overflow_add-at c = search rules
 
-add_x : tie.Need-overflow-add-x
-add_x c = search rules
+overflow_add-x : tie.Need-overflow_add-x
+overflow_add-x c = search rules
 
-add_y : tie.Need-overflow-add-y
-add_y c = search rules
+overflow_add-y : tie.Need-overflow_add-y
+overflow_add-y c = search rules
 
-add_feed : tie.Need-overflow-add-feed
-add_feed c = search rules
+overflow_add-feed : tie.Need-overflow_add-feed
+overflow_add-feed c = search rules
 
-add_i : tie.Need-overflow-add-i
-add_i c = search rules
+overflow_add-i : tie.Need-overflow_add-i
+overflow_add-i c = search rules
 
-add_j : tie.Need-overflow-add-j
-add_j c = search rules
+overflow_add-j : tie.Need-overflow_add-j
+overflow_add-j c = search rules
 
-add_root : tie.Need-overflow-add-root
-add_root c = search rules
+overflow_add-root : tie.Need-overflow_add-root
+overflow_add-root c = search rules
 
-mul_t10 : tie.Need-overflow-mul-t10
-mul_t10 c = search rules
+offset_bounds-words-at : tie.Need-offset_bounds-words-at
+offset_bounds-words-at c = search rules
 
-element_copy_out_t13 : tie.Need-element-copy-out-t13
-element_copy_out_t13 c = search rules
+bounds-words-at : tie.Need-bounds-words-at
+bounds-words-at c = search rules
 
-mul_t14 : tie.Need-overflow-mul-t14
-mul_t14 c = search rules
+offset_bounds-words-x : tie.Need-offset_bounds-words-x
+offset_bounds-words-x c = search rules
 
-element_copy_out_t17 : tie.Need-element-copy-out-t17
-element_copy_out_t17 c = search rules
+bounds-words-x : tie.Need-bounds-words-x
+bounds-words-x c = search rules
 
-mul_t18 : tie.Need-overflow-mul-t18
-mul_t18 c = search rules
+offset_bounds-words-y : tie.Need-offset_bounds-words-y
+offset_bounds-words-y c = search rules
 
-element_copy_out_t21 : tie.Need-element-copy-out-t21
-element_copy_out_t21 c = search rules
+bounds-words-y : tie.Need-bounds-words-y
+bounds-words-y c = search rules
 
-mul_t22 : tie.Need-overflow-mul-t22
-mul_t22 c = search rules
+offset_bounds-words-feed : tie.Need-offset_bounds-words-feed
+offset_bounds-words-feed c = search rules
 
-element_copy_out_t25 : tie.Need-element-copy-out-t25
-element_copy_out_t25 c = search rules
+bounds-words-feed : tie.Need-bounds-words-feed
+bounds-words-feed c = search rules
 
-mul_t26 : tie.Need-overflow-mul-t26
-mul_t26 c = search rules
+offset_bounds-words-i : tie.Need-offset_bounds-words-i
+offset_bounds-words-i c = search rules
 
-element_copy_out_t29 : tie.Need-element-copy-out-t29
-element_copy_out_t29 c = search rules
+bounds-words-i : tie.Need-bounds-words-i
+bounds-words-i c = search rules
 
-mul_t30 : tie.Need-overflow-mul-t30
-mul_t30 c = search rules
+offset_bounds-words-j : tie.Need-offset_bounds-words-j
+offset_bounds-words-j c = search rules
 
-element_copy_out_t33 : tie.Need-element-copy-out-t33
-element_copy_out_t33 c = search rules
+bounds-words-j : tie.Need-bounds-words-j
+bounds-words-j c = search rules
 
-mul_t34 : tie.Need-overflow-mul-t34
-mul_t34 c = search rules
+offset_bounds-words-root : tie.Need-offset_bounds-words-root
+offset_bounds-words-root c = search rules
 
-element_copy_out_t37 : tie.Need-element-copy-out-t37
-element_copy_out_t37 c = search rules
+bounds-words-root : tie.Need-bounds-words-root
+bounds-words-root c = search rules
 
 -- a word as its bits tell it
 read : (z : ℤ) → mag z < 2 ^ 63 → to_z w64 (of_z w64 z) ≡ z
-read z h = to_z-of_z (sfits_of h)
+read z h = to_z-of_z {w = w64} (sfits_of h)
 
 returns : tie.Need-returns
 returns c =
-    let j = c.before in
-    let i = j.before in
-    let feed = i.before in
-    let y = feed.before in
-    let x = y.before in
-    let kind = x.before in
-    let ws = kind.before.args.words.now in
-    let n = 22 + 7 * kind.before.args.place in
+    let ws = c.args.words.now in
+    let n = 22 + 7 * c.args.place in
     simp (
-      read (at ws n) kind.t13.given,
-      read (at ws (n + 1)) x.t17.given,
-      read (at ws (n + 2)) y.t21.given,
-      read (at ws (n + 3)) feed.t25.given,
-      read (at ws (n + 4)) i.t29.given,
-      read (at ws (n + 5)) j.t33.given,
-      read (at ws (n + 6)) c.t37.given,
+      read (at ws n) c.result-1.given,
+      read (at ws (n + 1)) c.result-2-1.given,
+      read (at ws (n + 2)) c.result-3-1.given,
+      read (at ws (n + 3)) c.result-4-1.given,
+      read (at ws (n + 4)) c.result-5-1.given,
+      read (at ws (n + 5)) c.result-6-1.given,
+      read (at ws (n + 6)) c.result-7-1.given,
     )
 
 pub block_words_in_spec : {M : Type 1} → statement M
-block_words_in_spec =
-    tie.close
-    (tie.spec
-    mul_at
-    add_at
-    add_x
-    add_y
-    add_feed
-    add_i
-    add_j
-    add_root
-    mul_t10
-    element_copy_out_t13
-    mul_t14
-    element_copy_out_t17
-    mul_t18
-    element_copy_out_t21
-    mul_t22
-    element_copy_out_t25
-    mul_t26
-    element_copy_out_t29
-    mul_t30
-    element_copy_out_t33
-    mul_t34
-    element_copy_out_t37
-    returns)
+block_words_in_spec = tie.close (tie.spec overflow_mul-at overflow_add-at overflow_add-x overflow_add-y overflow_add-feed overflow_add-i overflow_add-j overflow_add-root offset_bounds-words-at bounds-words-at offset_bounds-words-x bounds-words-x offset_bounds-words-y bounds-words-y offset_bounds-words-feed bounds-words-feed offset_bounds-words-i bounds-words-i offset_bounds-words-j bounds-words-j offset_bounds-words-root bounds-words-root returns)

@@ -7,31 +7,29 @@ use Rattle.record.specs.laws.Places.{none_end, last_end}
 use Rattle.record.proofs.read.start_in.Statement.{statement}
 use Rattle.record.proofs.read.start_in.Tie as tie
 
-len_in_requires : tie.Need-len-in-requires
-len_in_requires c κs = search rules
+len_in-len-requires : tie.Need-len_in-len-requires
+len_in-len-requires c κs = search rules
 
-end_of_requires : tie.Need-end-of-requires
-end_of_requires c κs = search rules
+end_of-requires : tie.Need-end_of-requires
+end_of-requires c κs = search rules
+
+returns-then-len-eq0 : tie.Need-returns-then-len-eq0
+returns-then-len-eq0 c =
+    let l = c.before.before.before in
+    c.end_of.ensures ∙ none_end l.args.words.now _ l.len_in-len.ensures c.if-len-eq0.true
+
+overflow_sub-len : tie.Need-overflow_sub-len
+overflow_sub-len c = search rules
+
+waiting_in-w-requires : tie.Need-waiting_in-w-requires
+waiting_in-w-requires c κs = search rules
 
 returns : tie.Need-returns
 returns c =
-    let l = c.before.before.before in
-    c.end_of_lem.ensures ∙ none_end l.before.args.words.now _ l.len-in.ensures c.before.before.if1.true
-
-sub_waiting_in : tie.Need-overflow-sub-waiting-in
-sub_waiting_in c = search rules
-
-waiting_in_requires : tie.Need-waiting-in-requires
-waiting_in_requires c κs = search rules
-
-returns_2 : tie.Need-returns-2
-returns_2 c =
     let e = c.before.before.before in
     let l = e.before in
-    ap (λ (w : Waiting). w.block.end) c.before.before.waiting-in.ensures
-    ∙ last_end l.before.args.words.now _ l.len-in.ensures e.if1.false (omega (arith, l.len-in.ensures, l.before.requires))
+    ap (λ (w : Waiting). w.block.end) c.waiting_in-w.ensures
+    ∙ last_end l.args.words.now _ l.len_in-len.ensures e.if-len-eq0.false (omega (arith, l.len_in-len.ensures, l.requires))
 
 pub start_in_spec : {M : Type 1} → statement M
-start_in_spec =
-    tie.close
-    (tie.spec len_in_requires end_of_requires returns sub_waiting_in waiting_in_requires returns_2)
+start_in_spec = tie.close (tie.spec len_in-len-requires end_of-requires returns-then-len-eq0 overflow_sub-len waiting_in-w-requires returns)

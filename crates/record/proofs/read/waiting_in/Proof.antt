@@ -3,14 +3,14 @@ use borrow.Author.Rules.{rules}
 use Rattle.record.proofs.read.waiting_in.Statement.{statement}
 use Rattle.record.proofs.read.waiting_in.Tie as tie
 
-block_words_in_requires : tie.Need-block-words-in-requires
-block_words_in_requires c κs = search rules
+block_words_in-requires : tie.Need-block_words_in-requires
+block_words_in-requires c κs = search rules
 
-waiting_of_requires : tie.Need-waiting-of-requires
-waiting_of_requires c κs = search rules
+waiting_of-requires : tie.Need-waiting_of-requires
+waiting_of-requires c κs = search rules
 
 returns : tie.Need-returns
-returns c = simp (c.waiting-of.ensures, c.before.block-words-in.ensures)
+returns c = simp (c.waiting_of.ensures, c.block_words_in.ensures)
 
 pub waiting_in_spec : {M : Type 1} → statement M
-waiting_in_spec = tie.close (tie.spec block_words_in_requires waiting_of_requires returns)
+waiting_in_spec = tie.close (tie.spec block_words_in-requires waiting_of-requires returns)

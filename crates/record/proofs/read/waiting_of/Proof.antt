@@ -4,18 +4,18 @@ use Rattle.record.specs.computed.Words.{waiting_of}
 use Rattle.record.proofs.read.waiting_of.Statement.{statement}
 use Rattle.record.proofs.read.waiting_of.Tie as tie
 
-path_of_requires : tie.Need-path-of-requires
-path_of_requires c κs = search rules
+path_of-requires : tie.Need-path_of-requires
+path_of-requires c κs = search rules
 
-count_requires : tie.Need-count-requires
-count_requires c κs = search rules
+count-requires : tie.Need-count-requires
+count-requires c κs = search rules
 
-count_requires_2 : tie.Need-count-requires-2
-count_requires_2 c κs = search rules
+count-requires-2 : tie.Need-count-requires-2
+count-requires-2 c κs = search rules
 
 returns : tie.Need-returns
 unfolding waiting_of
-returns c = search (rules, c.before.before.before.before.path-of.ensures, c.before.before.count.ensures, c.count2.ensures)
+returns c = search (rules, c.path_of.ensures, c.count.ensures, c.count-2.ensures)
 
 pub waiting_of_spec : {M : Type 1} → statement M
-waiting_of_spec = tie.close (tie.spec path_of_requires count_requires count_requires_2 returns)
+waiting_of_spec = tie.close (tie.spec path_of-requires count-requires count-requires-2 returns)

@@ -1,6 +1,5 @@
 -- `is_sound` is right because it asks the words in front, the bench that they tell, and what waits behind it.
 use borrow.Author.Rules.{rules}
-use borrow.Author.Tests.{not-true, not-false}
 use mathlib.Core.Path.{◌≡◌, sym, ap, ◌∙◌}
 use lib.ListN.{length}
 use Rattle.bench.specs.computed.Bench.{sound_of}
@@ -9,55 +8,45 @@ use Rattle.record.specs.laws.Sound.{front_wrong, bench_wrong, waiting_is}
 use Rattle.record.proofs.sound.is_sound.Statement.{statement}
 use Rattle.record.proofs.sound.is_sound.Tie as tie
 
-long : (c : tie.After-seen-arg) → length c.before.args.words.now ≡ 134
-long c = c.seen-arg.given.0
+long : (c : tie.After-seen-arg-1) → length c.args.words.now ≡ 134
+long c = c.seen-arg-1.given
 
 -- the bench that the test asked
 bench_is : (c : tie.After-sound) → c.sound.result ≡ sound_of
-    (bench_in c.before.before.before.before.before.before.before.before.args.words.now)
-bench_is c = c.sound.ensures ∙ ap sound_of c.before.before.before.bench-in.ensures
+    (bench_in c.args.words.now)
+bench_is c = c.sound.ensures ∙ ap sound_of c.bench_in-k.ensures
 
-seen_requires : tie.Need-seen-requires
-seen_requires c κs = search rules
+seen-requires : tie.Need-seen-requires
+seen-requires c κs = search rules
 
-is_front_requires : tie.Need-is-front-requires
-is_front_requires c κs = search rules
+is_front-requires : tie.Need-is_front-requires
+is_front-requires c κs = search rules
+
+returns-then-not-is_front : tie.Need-returns-then-not-is_front
+returns-then-not-is_front c = sym (front_wrong _ (long c.before.before.before) (sym c.is_front.ensures ∙ c.if-not-is_front.true))
+
+bench_in-k-requires : tie.Need-bench_in-k-requires
+bench_in-k-requires c κs = search rules
+
+sound-requires : tie.Need-sound-requires
+sound-requires c κs = search rules
+
+returns-then-not-sound : tie.Need-returns-then-not-sound
+returns-then-not-sound c =
+    let s = c.before.before.before.before.before.before.before.before in
+    sym (bench_wrong _ (long s) (sym (bench_is c.before) ∙ c.if-not-sound.true))
+
+waiting_right-requires : tie.Need-waiting_right-requires
+waiting_right-requires c κs = sym c.sound.ensures ∙ c.if-not-sound.false
 
 returns : tie.Need-returns
-returns c = sym (front_wrong _ (long c.before.before.before) (sym c.before.is_front.ensures ∙ not-true _ c.if1.true))
-
-bench_in_requires : tie.Need-bench-in-requires
-bench_in_requires c κs = search rules
-
-sound_requires : tie.Need-sound-requires
-sound_requires c κs = search rules
-
-returns_2 : tie.Need-returns-2
-returns_2 c =
-    let s = c.before.before.before.before.before.before.before.before in
-    sym (bench_wrong _ (long s) (sym (bench_is c.before) ∙ not-true _ c.if2.true))
-
-waiting_right_requires : tie.Need-waiting-right-requires
-waiting_right_requires c κs = sym c.before.sound.ensures ∙ not-false _ c.if2.false
-
-returns_3 : tie.Need-returns-3
-returns_3 c =
+returns c =
     let e = c.before in
     let front = e.before.before.before.before.before in
     let s = front.before.before.before in
-    rw e.before.before.before.before.bench-in.ensures at c.waiting_right.ensures
-    ∙ waiting_is s.before.args.words.now (long s) (sym front.before.is_front.ensures ∙ not-false _ front.if1.false)
-    (sym (bench_is e.before) ∙ not-false _ e.if2.false)
+    rw e.bench_in-k.ensures at c.waiting_right.ensures
+    ∙ waiting_is s.args.words.now (long s) (sym front.is_front.ensures ∙ front.if-not-is_front.false)
+    (sym (bench_is e.before) ∙ e.if-not-sound.false)
 
 pub is_sound_spec : {M : Type 1} → statement M
-is_sound_spec =
-    tie.close
-    (tie.spec
-    seen_requires
-    is_front_requires
-    returns
-    bench_in_requires
-    sound_requires
-    returns_2
-    waiting_right_requires
-    returns_3)
+is_sound_spec = tie.close (tie.spec seen-requires is_front-requires returns-then-not-is_front bench_in-k-requires sound-requires returns-then-not-sound waiting_right-requires returns)

@@ -8,110 +8,94 @@ use Prim.Native.Nat.{◌-◌, ◌≤◌}
 use native.Mathlib.Omega.{arith}
 use Rattle.plane.specs.Travel.{inside_of}
 use Rattle.plane.specs.computed.Travel.{Wide}
-use Rattle.block.specs.laws.Accepted.{yes}
+use Rattle.block.proofs.laws.Accepted.{yes}
 use Rattle.queue.specs.laws.Test.{fits_has}
 use Rattle.record.specs.computed.Right.{row_right}
 use Rattle.record.specs.laws.Right.{row_long, row_tested, row_end, wrong_words, wrong_block, fitting, counted}
 use Rattle.record.proofs.sound.row_right.Statement.{statement}
 use Rattle.record.proofs.sound.row_right.Tie as tie
 
-abbrev invariant_loop : tie.invariant_loop
-invariant_loop words len q0 travel cycles n start₀ left₀ i₀ start left i =
+abbrev invariant-loop-i : tie.invariant-loop-i
+invariant-loop-i words len q0 travel cycles n start₀ left₀ i₀ start left i =
     Wide travel × (inside_of travel start ≡ true) × (n ≡ len) × (n ≤ 16) × (i ≤ n)
     × (row_right q0 travel words start₀ left₀ 0 (n - 0) ≡ row_right q0 travel words start left i (n - i))
 
-abbrev decreases_loop : tie.decreases_loop
-decreases_loop words len q0 travel cycles n start₀ left₀ i₀ start left i = n - i
+abbrev decreases-loop-i : tie.decreases-loop-i
+decreases-loop-i words len q0 travel cycles n start₀ left₀ i₀ start left i = n - i
 
-returns : tie.Need-returns invariant_loop decreases_loop
-returns c = sym (row_long _ _ _ _ _ _ c.if1.true)
+returns-then-len-gt16 : tie.Need-returns-then-len-gt16 invariant-loop-i decreases-loop-i
+returns-then-len-gt16 c = sym (row_long _ _ _ _ _ _ c.if-len-gt16.true)
 
-loop_holds : tie.Need-loop-init invariant_loop decreases_loop
-loop_holds c = (c.before.requires.0, c.before.requires.1, refl, c.if1.false, omega arith, refl)
+loop-i-init : tie.Need-loop-i-init invariant-loop-i decreases-loop-i
+loop-i-init c = (c.requires.0, c.requires.1, refl, c.if-len-gt16.false, omega arith, refl)
 
-block_words_in_requires : tie.Need-block-words-in-requires invariant_loop decreases_loop
-block_words_in_requires c κs = omega (arith, c.before.loop.invariant.3, c.loop-test.true)
+block_words_in-b-requires : tie.Need-block_words_in-b-requires invariant-loop-i decreases-loop-i
+block_words_in-b-requires c κs = omega (arith, c.loop-i.invariant.3, c.loop-i-test.true)
 
-is_block_requires : tie.Need-is-block-requires invariant_loop decreases_loop
-is_block_requires c κs = search rules
+is_block-requires : tie.Need-is_block-requires invariant-loop-i decreases-loop-i
+is_block-requires c κs = search rules
 
-returns_2 : tie.Need-returns-2 invariant_loop decreases_loop
-returns_2 c =
-    let l = c.before.before.before.before.loop in
+returns-then-not-is_block : tie.Need-returns-then-not-is_block invariant-loop-i decreases-loop-i
+returns-then-not-is_block c =
+    let l = c.loop-i in
     let v = l.invariant in
     row_tested _ _ _ _ _ _ v.3
     (v.5
-    ∙ wrong_words _ _ _ _ l.left l.i _ c.before.before.before.loop-test.true c.before.before.block-words-in.ensures
-    c.before.is_block.ensures (not-true _ c.if2.true))
+    ∙ wrong_words _ _ _ _ l.left l.i _ c.loop-i-test.true c.block_words_in-b.ensures
+    c.is_block.ensures (c.if-not-is_block.true))
 
-waiting_of_requires : tie.Need-waiting-of-requires invariant_loop decreases_loop
-waiting_of_requires c κs = search rules
+waiting_of-w-requires : tie.Need-waiting_of-w-requires invariant-loop-i decreases-loop-i
+waiting_of-w-requires c κs = search rules
 
-take_off_requires : tie.Need-take-off-requires invariant_loop decreases_loop
-take_off_requires c κs = let v = c.before.before.before.before.before.loop.invariant in (v.0, v.1)
+take_off-t-requires : tie.Need-take_off-t-requires invariant-loop-i decreases-loop-i
+take_off-t-requires c κs = let v = c.loop-i.invariant in (v.0, v.1)
 
-returns_3 : tie.Need-returns-3 invariant_loop decreases_loop
-returns_3 c =
+returns-then-not-t : tie.Need-returns-then-not-t invariant-loop-i decreases-loop-i
+returns-then-not-t c =
     let o = c.before.before in
     let k = o.before.before in
-    let l = k.before.before.before.before.loop in
+    let l = k.loop-i in
     let v = l.invariant in
     row_tested _ _ _ _ _ _ v.3
     (v.5
-    ∙ wrong_block _ _ _ _ l.left l.i _ k.before.before.before.loop-test.true k.before.before.block-words-in.ensures
-    k.before.is_block.ensures (not-false _ k.if2.false) o.before.waiting-of.ensures o.take-off.ensures
-    (not-true _ c.if3.true))
+    ∙ wrong_block _ _ _ _ l.left l.i _ k.loop-i-test.true k.block_words_in-b.ensures
+    k.is_block.ensures (k.if-not-is_block.false) o.waiting_of-w.ensures o.take_off-t.ensures
+    (not-true _ c.if-not-t.true))
 
-add_i : tie.Need-overflow-add-i invariant_loop decreases_loop
-add_i c = search rules
+overflow_add-i : tie.Need-overflow_add-i invariant-loop-i decreases-loop-i
+overflow_add-i c = search rules
 
-loop_less : tie.Need-loop-smaller invariant_loop decreases_loop
-loop_less c = search rules
+loop-i-smaller : tie.Need-loop-i-smaller invariant-loop-i decreases-loop-i
+loop-i-smaller c = search rules
 
-loop_again : tie.Need-loop-preserved invariant_loop decreases_loop
-loop_again c =
+loop-i-preserved : tie.Need-loop-i-preserved invariant-loop-i decreases-loop-i
+loop-i-preserved c =
     let e = c.before.before in
     let o = e.before.before in
     let k = o.before.before in
-    let l = k.before.before.before.before.loop in
+    let l = k.loop-i in
     let v = l.invariant in
-    let in-loop = k.before.before.before.loop-test.true in
-    let words = k.before.before.block-words-in.ensures in
-    let block = k.before.is_block.ensures in
-    let own = not-false _ k.if2.false in
-    let told = o.before.waiting-of.ensures in
-    let off = o.take-off.ensures in
-    let fit = not-false _ e.if3.false in
-    let ws = k.before.before.before.before.before.before.args.words.now in (
+    let in-loop = k.loop-i-test.true in
+    let words = k.block_words_in-b.ensures in
+    let block = k.is_block.ensures in
+    let own = k.if-not-is_block.false in
+    let told = o.waiting_of-w.ensures in
+    let off = o.take_off-t.ensures in
+    let fit = not-false _ e.if-not-t.false in
+    let ws = k.args.words.now in (
       v.0,
-      (yes _ _ true _ _ (fits_has _ _ _ _ _ (fitting _ _ ws _ l.left l.i _ in-loop words block own told off fit)).asked).end_in,
+      (yes _ _ true _ _ (fits_has _ _ _ _ _ (fitting _ _ ws _ l.left l.i _ in-loop words block own told off fit)).asked).end_in_lem,
       v.2,
       v.3,
       omega arith,
       v.5 ∙ counted _ _ _ _ l.left l.i _ in-loop words block own told off fit,
     )
 
-returns_4 : tie.Need-returns-4 invariant_loop decreases_loop
-returns_4 c =
-    let l = c.before.loop in
+returns : tie.Need-returns invariant-loop-i decreases-loop-i
+returns c =
+    let l = c.loop-i in
     let v = l.invariant in
-    row_tested _ _ _ _ _ _ v.3 (v.5 ∙ row_end _ _ _ _ l.left l.i _ c.loop-test.false)
+    row_tested _ _ _ _ _ _ v.3 (v.5 ∙ row_end _ _ _ _ l.left l.i _ c.loop-i-test.false)
 
 pub row_right_spec : {M : Type 1} → statement M
-row_right_spec =
-    tie.close
-    (tie.spec
-    invariant_loop
-    decreases_loop
-    returns
-    loop_holds
-    block_words_in_requires
-    is_block_requires
-    returns_2
-    waiting_of_requires
-    take_off_requires
-    returns_3
-    add_i
-    loop_less
-    loop_again
-    returns_4)
+row_right_spec = tie.close (tie.spec invariant-loop-i decreases-loop-i returns-then-len-gt16 loop-i-init block_words_in-b-requires is_block-requires returns-then-not-is_block waiting_of-w-requires take_off-t-requires returns-then-not-t overflow_add-i loop-i-smaller loop-i-preserved returns)

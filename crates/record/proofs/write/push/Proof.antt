@@ -6,69 +6,50 @@ use Rattle.record.specs.laws.Load.{pushes}
 use Rattle.record.proofs.write.push.Statement.{statement}
 use Rattle.record.proofs.write.push.Tie as tie
 
-seen_requires : tie.Need-seen-requires
-seen_requires c κs = search rules
+seen-requires : tie.Need-seen-requires
+seen-requires c κs = search rules
 
-len_in_requires : tie.Need-len-in-requires
-len_in_requires c κs = search rules
+len_in-len-requires : tie.Need-len_in-len-requires
+len_in-len-requires c κs = search rules
 
-word_requires : tie.Need-word-requires
-word_requires c κs = search rules
+word-requires : tie.Need-word-requires
+word-requires c κs = search rules
 
-element_set_from_words : tie.Need-element-set-from-words
-element_set_from_words c = search rules
+bounds-words-20 : tie.Need-bounds-words-20
+bounds-words-20 c = search rules
 
-add_word : tie.Need-overflow-add-word
-add_word c = search rules
+overflow_add-len : tie.Need-overflow_add-len
+overflow_add-len c = search rules
 
-word_requires_2 : tie.Need-word-requires-2
-word_requires_2 c κs = search rules
+word-requires-2 : tie.Need-word-requires-2
+word-requires-2 c κs = search rules
 
-element_set_from_words_2 : tie.Need-element-set-from-words-2
-element_set_from_words_2 c = search rules
+bounds-words-21 : tie.Need-bounds-words-21
+bounds-words-21 c = search rules
 
-mul_at : tie.Need-overflow-mul-at
-mul_at c = search rules
+overflow_mul-at : tie.Need-overflow_mul-at
+overflow_mul-at c = search rules
 
-add_at : tie.Need-overflow-add-at
-add_at c = search rules
+overflow_add-at : tie.Need-overflow_add-at
+overflow_add-at c = search rules
 
-block_words_requires : tie.Need-block-words-requires
-block_words_requires c κs = search rules
+block_words-requires : tie.Need-block_words-requires
+block_words-requires c κs = search rules
 
-set_block_requires : tie.Need-set-block-requires
-set_block_requires c κs = search rules
+set_block-requires : tie.Need-set_block-requires
+set_block-requires c κs = search rules
 
 returns : tie.Need-returns
 unfolding machine_in
 returns c =
-    let b = c.before in
-    let m = b.before.before in
-    let l = m.before.before in
-    let n = l.before.before.before in
-    let s = n.before.before in
     simp (
-      c.set-block.ensures,
-      b.Block-words.ensures,
-      through (word_fits _) m.before.word.ensures,
-      through (word_fits _) m.word2.ensures,
-      l.len-in.ensures,
+      c.set_block.ensures,
+      c.block_words.ensures,
+      through (word_fits _) c.word.ensures,
+      through (word_fits _) c.word-2.ensures,
+      c.len_in-len.ensures,
     )
-    (pushes s.args.words.now s.requires.0 n.seen-arg2.given.0 s.args.w s.args.left s.requires.1)
+    (pushes c.args.words.now c.requires.0 c.seen-arg-2-1.given c.args.w c.args.left c.requires.1)
 
 pub push_spec : {M : Type 1} → statement M
-push_spec =
-    tie.close
-    (tie.spec
-    seen_requires
-    len_in_requires
-    word_requires
-    element_set_from_words
-    add_word
-    word_requires_2
-    element_set_from_words_2
-    mul_at
-    add_at
-    block_words_requires
-    set_block_requires
-    returns)
+push_spec = tie.close (tie.spec seen-requires len_in-len-requires word-requires bounds-words-20 overflow_add-len word-requires-2 bounds-words-21 overflow_mul-at overflow_add-at block_words-requires set_block-requires returns)

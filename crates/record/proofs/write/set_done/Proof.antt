@@ -4,14 +4,14 @@ use Rattle.encoding.specs.laws.Number.{word_fits, through}
 use Rattle.record.proofs.write.set_done.Statement.{statement}
 use Rattle.record.proofs.write.set_done.Tie as tie
 
-word_requires : tie.Need-word-requires
-word_requires c κs = search rules
+word-requires : tie.Need-word-requires
+word-requires c κs = search rules
 
-element_set_from_words : tie.Need-element-set-from-words
-element_set_from_words c = search rules
+bounds-words-18 : tie.Need-bounds-words-18
+bounds-words-18 c = search rules
 
 returns : tie.Need-returns
 returns c = simp (through (word_fits _) c.word.ensures)
 
 pub set_done_spec : {M : Type 1} → statement M
-set_done_spec = tie.close (tie.spec word_requires element_set_from_words returns)
+set_done_spec = tie.close (tie.spec word-requires bounds-words-18 returns)

@@ -7,17 +7,17 @@ use Rattle.encoding.specs.laws.Number.{word_fits, through}
 use Rattle.record.proofs.write.set_place.Statement.{statement}
 use Rattle.record.proofs.write.set_place.Tie as tie
 
-element_set_from_x : tie.Need-element-set-from-x
-element_set_from_x c = search rules
+bounds-words-7 : tie.Need-bounds-words-7
+bounds-words-7 c = search rules
 
-element_set_from_y : tie.Need-element-set-from-y
-element_set_from_y c = search rules
+bounds-words-8 : tie.Need-bounds-words-8
+bounds-words-8 c = search rules
 
-word_requires : tie.Need-word-requires
-word_requires c κs = search rules
+word-requires : tie.Need-word-requires
+word-requires c κs = search rules
 
-element_set_from_words : tie.Need-element-set-from-words
-element_set_from_words c = search rules
+bounds-words-10 : tie.Need-bounds-words-10
+bounds-words-10 c = search rules
 
 returns : tie.Need-returns
 returns c =
@@ -27,6 +27,4 @@ returns c =
     simp (to_z-of_z x, to_z-of_z y, through (word_fits _) c.word.ensures)
 
 pub set_place_spec : {M : Type 1} → statement M
-set_place_spec =
-    tie.close
-    (tie.spec element_set_from_x element_set_from_y word_requires element_set_from_words returns)
+set_place_spec = tie.close (tie.spec bounds-words-7 bounds-words-8 word-requires bounds-words-10 returns)

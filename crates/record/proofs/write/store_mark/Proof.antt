@@ -5,16 +5,16 @@ use Rattle.record.specs.laws.Write.{marked}
 use Rattle.record.proofs.write.store_mark.Statement.{statement}
 use Rattle.record.proofs.write.store_mark.Tie as tie
 
-mark_word_requires : tie.Need-mark-word-requires
-mark_word_requires c κs = search rules
+mark_word-requires : tie.Need-mark_word-requires
+mark_word-requires c κs = search rules
 
-element_set_from_words : tie.Need-element-set-from-words
-element_set_from_words c = search rules
+bounds-words-9 : tie.Need-bounds-words-9
+bounds-words-9 c = search rules
 
 returns : tie.Need-returns
 returns c =
     let s = c.before in
-    rw (through (mark_fits s.args.held) c.mark-word.ensures) (marked s.args.words.now s.requires s.args.held)
+    rw (through (mark_fits s.args.held) c.mark_word.ensures) (marked s.args.words.now s.requires s.args.held)
 
 pub store_mark_spec : {M : Type 1} → statement M
-store_mark_spec = tie.close (tie.spec mark_word_requires element_set_from_words returns)
+store_mark_spec = tie.close (tie.spec mark_word-requires bounds-words-9 returns)

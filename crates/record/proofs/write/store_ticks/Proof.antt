@@ -7,68 +7,46 @@ use Rattle.record.specs.laws.Write.{bringing, idle_words, line_words, arc_words}
 use Rattle.record.proofs.write.store_ticks.Statement.{statement}
 use Rattle.record.proofs.write.store_ticks.Tie as tie
 
-set_place_requires : tie.Need-set-place-requires
-set_place_requires c κs = search rules
+set_place-requires : tie.Need-set_place-requires
+set_place-requires c κs = search rules
 
-word_requires : tie.Need-word-requires
-word_requires c κs = search rules
+word-requires : tie.Need-word-requires
+word-requires c κs = search rules
 
-element_set_from_words : tie.Need-element-set-from-words
-element_set_from_words c = search rules
+bounds-words-20 : tie.Need-bounds-words-20
+bounds-words-20 c = search rules
 
-enum_told : tie.Need-enum-told
-enum_told c = search rules
+enum_told-1 : tie.Need-enum_told-1
+enum_told-1 c = search rules
 
-bring_in_requires : tie.Need-bring-in-requires
-bring_in_requires c κs =
-    let m = c.before.before.before in
-    let s = m.before.before.before.before in
-    rw (m.before.set-place.ensures, through (word_fits _) m.word.ensures)
-    (bringing s.args.words.now s.args.k s.args.left s.requires (ap is_nothing c.before.enum_told.given.1))
+bring_in-requires : tie.Need-bring_in-requires
+bring_in-requires c κs =
+    rw (c.set_place.ensures, through (word_fits _) c.word.ensures)
+    (bringing c.args.words.now c.args.k c.args.left c.requires (ap is_nothing c.in-Nothing.is))
 
-enum_known_work : tie.Need-enum-known-work
-enum_known_work c = search rules
+enum_known-work : tie.Need-enum_known-work
+enum_known-work c = search rules
 
-set_done_requires : tie.Need-set-done-requires
-set_done_requires c κs = search rules
+set_done-requires : tie.Need-set_done-requires
+set_done-requires c κs = search rules
 
-enum_told_2 : tie.Need-enum-told-2
-enum_told_2 c = search rules
+enum_told-in-Arc : tie.Need-enum_told-in-Arc
+enum_told-in-Arc c = search rules
 
-returns : tie.Need-returns
-returns c =
-    let m = c.before.before.before.before in
-    let s = m.before.before.before.before in
-    simp (c.bring-in.ensures, m.before.set-place.ensures, through (word_fits _) m.word.ensures)
-    (idle_words s.args.words.now s.args.k s.args.left s.requires (ap is_nothing c.before.before.enum_told.given.1))
+returns-in-Nothing : tie.Need-returns-in-Nothing
+returns-in-Nothing c =
+    simp (c.bring_in.ensures, c.set_place.ensures, through (word_fits _) c.word.ensures)
+    (idle_words c.args.words.now c.args.k c.args.left c.requires (ap is_nothing c.in-Nothing.is))
 
-returns_2 : tie.Need-returns-2
-returns_2 c =
-    let w = c.before.before.before in
-    let m = w.before.before in
-    let s = m.before.before.before.before in
-    simp (c.set-done.ensures, m.before.set-place.ensures, through (word_fits _) m.word.ensures)
-    (line_words s.args.words.now s.args.k s.args.left s.requires _ w.work.given.1)
+returns-in-Line : tie.Need-returns-in-Line
+returns-in-Line c =
+    simp (c.set_done.ensures, c.set_place.ensures, through (word_fits _) c.word.ensures)
+    (line_words c.args.words.now c.args.k c.args.left c.requires _ c.in-Line.is)
 
-returns_3 : tie.Need-returns-3
-returns_3 c =
-    let m = c.before.before in
-    let s = m.before.before.before.before in
-    simp (m.before.set-place.ensures, through (word_fits _) m.word.ensures)
-    (arc_words s.args.words.now s.args.k s.args.left s.requires _ c.enum-told2.given.1)
+returns-in-Arc : tie.Need-returns-in-Arc
+returns-in-Arc c =
+    simp (c.set_place.ensures, through (word_fits _) c.word.ensures)
+    (arc_words c.args.words.now c.args.k c.args.left c.requires _ c.in-Arc.is)
 
 pub store_ticks_spec : {M : Type 1} → statement M
-store_ticks_spec =
-    tie.close
-    (tie.spec
-    set_place_requires
-    word_requires
-    element_set_from_words
-    enum_told
-    bring_in_requires
-    enum_known_work
-    set_done_requires
-    enum_told_2
-    returns
-    returns_2
-    returns_3)
+store_ticks_spec = tie.close (tie.spec set_place-requires word-requires bounds-words-20 enum_told-1 bring_in-requires enum_known-work set_done-requires enum_told-in-Arc returns-in-Nothing returns-in-Line returns-in-Arc)

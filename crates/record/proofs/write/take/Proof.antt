@@ -14,98 +14,74 @@ use Rattle.record.specs.computed.Write.{working_of, waits_of}
 use Rattle.record.proofs.write.take.Statement.{statement}
 use Rattle.record.proofs.write.take.Tie as tie
 
-begin_requires : tie.Need-begin-requires
-begin_requires c κs = accepted_loadable (taken_accepted c.requires.taking)
+begin-begun-requires : tie.Need-begin-begun-requires
+begin-begun-requires c κs = accepted_loadable (taken_accepted c.requires.taking)
 
-root_of_requires : tie.Need-root-of-requires
-root_of_requires c κs =
-    let s = c.before in
-    rooted s.args.start c.begin.result.work (rw c.begin.ensures (begun_countable (taken_accepted s.requires.taking)))
+root_of-root-requires : tie.Need-root_of-root-requires
+root_of-root-requires c κs =
+    rooted c.args.start c.begin-begun.result.work (rw c.begin-begun.ensures (begun_countable (taken_accepted c.requires.taking)))
 
-left_in_requires : tie.Need-left-in-requires
-left_in_requires c κs = search rules
+left_in-requires : tie.Need-left_in-requires
+left_in-requires c κs = search rules
 
-cycles_left_requires : tie.Need-cycles-left-requires
-cycles_left_requires c κs =
-    let r = c.before.before in
-    (rw r.before.begin.ensures (begun_countable (taken_accepted r.before.before.requires.taking)), r.root-of.ensures)
+cycles_left-requires : tie.Need-cycles_left-requires
+cycles_left-requires c κs =
+    (rw c.begin-begun.ensures (begun_countable (taken_accepted c.requires.taking)), c.root_of-root.ensures)
 
-add_left : tie.Need-overflow-add-left
+overflow_add-left : tie.Need-overflow_add-left
 unfolding machine_in
-add_left c =
-    let r = c.before.before.before in
-    let g = r.before.before.requires.taking in
-    let begun = r.before.begin.ensures in
+overflow_add-left c =
+    let g = c.requires.taking in
+    let begun = c.begin-begun.ensures in
     omega (
       arith,
-      c.before.left_in.ensures,
-      taken_fits g (c_own g (ap (λ (b : Begun). b.work) begun) (ap (λ (b : Begun). b.width) begun) r.root-of.ensures
+      c.left_in.ensures,
+      taken_fits g (c_own g (ap (λ (b : Begun). b.work) begun) (ap (λ (b : Begun). b.width) begun) c.root_of-root.ensures
           c.cycles_left.ensures),
     )
 
-is_nothing_requires : tie.Need-is-nothing-requires
-is_nothing_requires c κs = search rules
+is_nothing-requires : tie.Need-is_nothing-requires
+is_nothing-requires c κs = search rules
 
-into_work_requires : tie.Need-into-work-requires
-into_work_requires c κs = search rules
+into_work-requires : tie.Need-into_work-requires
+into_work-requires c κs = search rules
+
+returns-then-is_nothing : tie.Need-returns-then-is_nothing
+unfolding machine_in
+returns-then-is_nothing c =
+    let begun = c.begin-begun.ensures in
+    let ws = c.args.words.now in
+    let idle = ap is_nothing (sym c.requires.work) ∙ sym c.is_nothing.ensures ∙ c.if-is_nothing.true in (
+      ap (λ (b : Begun). b.width) begun,
+      c.into_work.ensures
+          ∙ ap (λ (m : ℕ). over (encode_of (working_of (machine_in ws) c.begin-begun.result.work c.root_of-root.result
+          (m + c.cycles_left.result))) ws)
+          c.left_in.ensures
+          ∙ ap (λ (a : Answered). over (encode_of a.machine) ws)
+          (into_work c.requires.taking (ap (λ (b : Begun). b.work) begun) (ap (λ (b : Begun). b.width) begun) c.root_of-root.ensures
+          c.cycles_left.ensures idle),
+    )
+
+push-requires : tie.Need-push-requires
+unfolding machine_in
+push-requires c κs =
+    (c.requires.sound, room_left c.requires.taking)
 
 returns : tie.Need-returns
 unfolding machine_in
 returns c =
-    let n = c.before.before.before in
-    let k = n.before in
-    let r = k.before.before.before in
-    let s = r.before.before in
-    let begun = r.before.begin.ensures in
-    let ws = s.args.words.now in
-    let idle = ap is_nothing (sym s.requires.work) ∙ sym n.is-nothing.ensures ∙ c.before.before.if1.true in (
-      ap (λ (b : Begun). b.width) begun,
-      c.into_work.ensures
-          ∙ ap (λ (n : ℕ). over (encode_of (working_of (machine_in ws) r.before.begin.result.work r.root-of.result
-          (n + k.cycles_left.result))) ws)
-          k.before.left_in.ensures
-          ∙ ap (λ (a : Answered). over (encode_of a.machine) ws)
-          (into_work s.requires.taking (ap (λ (b : Begun). b.work) begun) (ap (λ (b : Begun). b.width) begun) r.root-of.ensures
-          k.cycles_left.ensures idle),
-    )
-
-push_requires : tie.Need-push-requires
-unfolding machine_in
-push_requires c κs =
-    let s = c.before.before.before.before.before.before.before.before in
-    (s.requires.sound, room_left s.requires.taking)
-
-returns_2 : tie.Need-returns-2
-unfolding machine_in
-returns_2 c =
-    let n = c.before.before.before in
-    let k = n.before in
-    let r = k.before.before.before in
-    let s = r.before.before in
-    let begun = r.before.begin.ensures in
-    let ws = s.args.words.now in
-    let busy = ap is_nothing (sym s.requires.work) ∙ sym n.is-nothing.ensures ∙ c.before.before.if1.false in (
+    let begun = c.begin-begun.ensures in
+    let ws = c.args.words.now in
+    let busy = ap is_nothing (sym c.requires.work) ∙ sym c.is_nothing.ensures ∙ c.if-is_nothing.false in (
       ap (λ (b : Begun). b.width) begun,
       c.push.ensures
-          ∙ ap (λ (n : ℕ). over (encode_of (waits_of (machine_in ws) (record { block = s.args.b; root = r.root-of.result })
-          (n + k.cycles_left.result))) ws)
-          k.before.left_in.ensures
+          ∙ ap (λ (m : ℕ). over (encode_of (waits_of (machine_in ws) (record { block = c.args.b; root = c.root_of-root.result })
+          (m + c.cycles_left.result))) ws)
+          c.left_in.ensures
           ∙ ap (λ (a : Answered). over (encode_of a.machine) ws)
-          (waits s.requires.taking (ap (λ (b : Begun). b.work) begun) (ap (λ (b : Begun). b.width) begun) r.root-of.ensures
-          k.cycles_left.ensures busy),
+          (waits c.requires.taking (ap (λ (b : Begun). b.work) begun) (ap (λ (b : Begun). b.width) begun) c.root_of-root.ensures
+          c.cycles_left.ensures busy),
     )
 
 pub take_spec : {M : Type 1} → statement M
-take_spec =
-    tie.close
-    (tie.spec
-    begin_requires
-    root_of_requires
-    left_in_requires
-    cycles_left_requires
-    add_left
-    is_nothing_requires
-    into_work_requires
-    returns
-    push_requires
-    returns_2)
+take_spec = tie.close (tie.spec begin-begun-requires root_of-root-requires left_in-requires cycles_left-requires overflow_add-left is_nothing-requires into_work-requires returns-then-is_nothing push-requires returns)

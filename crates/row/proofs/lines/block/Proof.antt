@@ -7,40 +7,40 @@ use borrow.Author.Rules.{rules}
 use Rattle.row.proofs.lines.block.Statement.{statement}
 use Rattle.row.proofs.lines.block.Tie as tie
 
-left_requires : tie.Need-left-requires
-left_requires c κs = search rules
+left-requires : tie.Need-left-requires
+left-requires c κs = search rules
 
-returns : tie.Need-returns
-returns c =
-    let a = c.before.before.before.args in
+returns-then-left-lt-ROOM : tie.Need-returns-then-left-lt-ROOM
+returns-then-left-lt-ROOM c =
+    let a = c.args in
     without_room a.out.now a.at (block_line a.block a.line a.kind a.cycles a.x a.y a.bits) (omega arith)
 
-number_requires : tie.Need-number-requires
-number_requires c κs = search rules
+number-at1-requires : tie.Need-number-at1-requires
+number-at1-requires c κs = search rules
 
-number_requires_2 : tie.Need-number-requires-2
-number_requires_2 c κs = search rules
+number-at2-requires : tie.Need-number-at2-requires
+number-at2-requires c κs = search rules
 
-letter_requires : tie.Need-letter-requires
-letter_requires c κs = search rules
+letter-requires : tie.Need-letter-requires
+letter-requires c κs = search rules
 
-byte_requires : tie.Need-byte-requires
-byte_requires c κs = search rules
+byte-at3-requires : tie.Need-byte-at3-requires
+byte-at3-requires c κs = search rules
 
-byte_requires_2 : tie.Need-byte-requires-2
-byte_requires_2 c κs = search rules
+byte-at4-requires : tie.Need-byte-at4-requires
+byte-at4-requires c κs = search rules
 
-number_requires_3 : tie.Need-number-requires-3
-number_requires_3 c κs = search rules
+number-at5-requires : tie.Need-number-at5-requires
+number-at5-requires c κs = search rules
 
-signed_requires : tie.Need-signed-requires
-signed_requires c κs = search rules
+signed-at6-requires : tie.Need-signed-at6-requires
+signed-at6-requires c κs = search rules
 
-signed_requires_2 : tie.Need-signed-requires-2
-signed_requires_2 c κs = search rules
+signed-at7-requires : tie.Need-signed-at7-requires
+signed-at7-requires c κs = search rules
 
-number_requires_4 : tie.Need-number-requires-4
-number_requires_4 c κs =
+number-next-requires : tie.Need-number-next-requires
+number-next-requires c κs =
     let y = c.before.before.before in
     let x = y.before.before.before.before in
     let cycles = x.before.before.before.before in
@@ -49,15 +49,15 @@ number_requires_4 c κs =
     let line = kind.before.before.before.before.before in
     let block = line.before.before.before.before in
     let room = block.before.before in
-    let first = block.number.ensures then line.number2.ensures then kind.byte.ensures then blank.byte2.ensures in
-    let all = first then cycles.number3.ensures then x.signed.ensures then y.signed2.ensures in
-    omega (arith, all.most, all.len, room.if1.false, room.before.left.ensures)
+    let first = block.number-at1.ensures then line.number-at2.ensures then kind.byte-at3.ensures then blank.byte-at4.ensures in
+    let all = first then cycles.number-at5.ensures then x.signed-at6.ensures then y.signed-at7.ensures in
+    omega (arith, all.most, all.len, room.if-left-lt-ROOM.false, room.left.ensures)
 
-same_length : tie.Need-same-length
-same_length c = search rules
+shape_of-out : tie.Need-shape_of-out
+shape_of-out c = search rules
 
-returns_2 : tie.Need-returns-2
-returns_2 c =
+returns : tie.Need-returns
+returns c =
     let bits = c.before.before in
     let y = bits.before.before.before.before in
     let x = y.before.before.before.before in
@@ -71,27 +71,12 @@ returns_2 c =
     let a = start.args in
     let fits-x = start.ranges.x in
     let fits-y = start.ranges.y in
-    let letter = rw kind.before.letter.ensures at kind.byte.ensures in
-    let end-x = simp to_z-of_z at x.signed.ensures in
-    let end-y = simp to_z-of_z at y.signed2.ensures in
-    let later = cycles.number3.ensures then end-x then end-y then bits.number4.ensures in
-    with_room a.out.now a.at (omega (arith, room.if1.false, room.before.left.ensures))
-    (block.number.ensures then line.number2.ensures then letter then blank.byte2.ensures then later)
+    let letter = rw kind.letter.ensures at kind.byte-at3.ensures in
+    let end-x = simp to_z-of_z at x.signed-at6.ensures in
+    let end-y = simp to_z-of_z at y.signed-at7.ensures in
+    let later = cycles.number-at5.ensures then end-x then end-y then bits.number-next.ensures in
+    with_room a.out.now a.at (omega (arith, room.if-left-lt-ROOM.false, room.left.ensures))
+    (block.number-at1.ensures then line.number-at2.ensures then letter then blank.byte-at4.ensures then later)
 
 pub block_spec : {M : Type 1} → statement M
-block_spec =
-    tie.close
-    (tie.spec
-    left_requires
-    returns
-    number_requires
-    number_requires_2
-    letter_requires
-    byte_requires
-    byte_requires_2
-    number_requires_3
-    signed_requires
-    signed_requires_2
-    number_requires_4
-    same_length
-    returns_2)
+block_spec = tie.close (tie.spec left-requires returns-then-left-lt-ROOM number-at1-requires number-at2-requires letter-requires byte-at3-requires byte-at4-requires number-at5-requires signed-at6-requires signed-at7-requires number-next-requires shape_of-out returns)

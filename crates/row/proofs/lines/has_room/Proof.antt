@@ -8,16 +8,16 @@ use Rattle.row.specs.computed.Buffer.{line_room}
 use Rattle.row.proofs.lines.has_room.Statement.{statement}
 use Rattle.row.proofs.lines.has_room.Tie as tie
 
-left_requires : tie.Need-left-requires
-left_requires c κs = search rules
+left-requires : tie.Need-left-requires
+left-requires c κs = search rules
 
 returns : tie.Need-returns
 returns c =
-    let at = c.before.args.at in
-    let len = c.before.args.len in
+    let at = c.args.at in
+    let len = c.args.len in
     rw c.left.ensures
     (same_test (λ e. le-leb (at + line_room) len (omega (arith, leb-true line_room (len - at) e)))
     (λ e. le-leb line_room (len - at) (omega (arith, leb-true (at + line_room) len e))))
 
 pub has_room_spec : {M : Type 1} → statement M
-has_room_spec = tie.close (tie.spec left_requires returns)
+has_room_spec = tie.close (tie.spec left-requires returns)

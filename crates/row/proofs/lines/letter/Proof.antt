@@ -3,17 +3,17 @@ use borrow.Author.Rules.{rules}
 use Rattle.row.proofs.lines.letter.Statement.{statement}
 use Rattle.row.proofs.lines.letter.Tie as tie
 
-enum_told : tie.Need-enum-told
-enum_told c = search rules
+enum_told-1 : tie.Need-enum_told-1
+enum_told-1 c = search rules
 
-enum_told_2 : tie.Need-enum-told-2
-enum_told_2 c = search rules
+enum_told-in-Arc : tie.Need-enum_told-in-Arc
+enum_told-in-Arc c = search rules
 
-returns : tie.Need-returns
-returns c = search rules
+returns-in-Line : tie.Need-returns-in-Line
+returns-in-Line c = search rules
 
-returns_2 : tie.Need-returns-2
-returns_2 c = search rules
+returns-in-Arc : tie.Need-returns-in-Arc
+returns-in-Arc c = search rules
 
 pub letter_spec : {M : Type 1} → statement M
-letter_spec = tie.close (tie.spec enum_told enum_told_2 returns returns_2)
+letter_spec = tie.close (tie.spec enum_told-1 enum_told-in-Arc returns-in-Line returns-in-Arc)

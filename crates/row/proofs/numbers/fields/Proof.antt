@@ -12,82 +12,65 @@ use borrow.Author.Rules.{rules}
 use Rattle.row.proofs.numbers.fields.Statement.{statement}
 use Rattle.row.proofs.numbers.fields.Tie as tie
 
-abbrev invariant_loop : tie.invariant_loop
-invariant_loop out₀ at numbers last next₀ i₀ out next i = Written numbers out₀ at i out next
+abbrev invariant-loop-i : tie.invariant-loop-i
+invariant-loop-i out₀ at numbers last next₀ i₀ out next i = Written numbers out₀ at i out next
 
-abbrev decreases_loop : tie.decreases_loop
-decreases_loop out₀ at numbers last next₀ i₀ out next i = last - i
+abbrev decreases-loop-i : tie.decreases-loop-i
+decreases-loop-i out₀ at numbers last next₀ i₀ out next i = last - i
 
-sub_last : tie.Need-overflow-sub-last invariant_loop decreases_loop
-sub_last c = search rules
+overflow_sub-last : tie.Need-overflow_sub-last invariant-loop-i decreases-loop-i
+overflow_sub-last c = search rules
 
-loop_holds : tie.Need-loop-init invariant_loop decreases_loop
-loop_holds c = written_none _ _ _ c.before.requires.0 (omega (arith, c.before.requires.1))
+loop-i-init : tie.Need-loop-i-init invariant-loop-i decreases-loop-i
+loop-i-init c = written_none _ _ _ c.requires.0 (omega (arith, c.requires.1))
 
-mul_signed : tie.Need-overflow-mul-signed invariant_loop decreases_loop
-mul_signed c = search rules
+offset_bounds-numbers-i : tie.Need-offset_bounds-numbers-i invariant-loop-i decreases-loop-i
+offset_bounds-numbers-i c = search rules
 
-shared_slice_copy_out_signed : tie.Need-shared-slice-copy-out-signed invariant_loop decreases_loop
-shared_slice_copy_out_signed c = c.before.before.loop.invariant.some
+bounds-numbers-i : tie.Need-bounds-numbers-i invariant-loop-i decreases-loop-i
+bounds-numbers-i c = c.loop-i.invariant.some
 
-signed_requires : tie.Need-signed-requires invariant_loop decreases_loop
-signed_requires c κs =
-    let w = c.before.before.before.loop.invariant in
-    omega (arith, w.puts.most, w.puts.len, w.some, c.before.before.before.before.before.requires.1)
+signed-next-requires : tie.Need-signed-next-requires invariant-loop-i decreases-loop-i
+signed-next-requires c κs =
+    let w = c.loop-i.invariant in
+    omega (arith, w.puts.most, w.puts.len, w.some, c.requires.1)
 
-add_i : tie.Need-overflow-add-i invariant_loop decreases_loop
-add_i c = search rules
+overflow_add-i : tie.Need-overflow_add-i invariant-loop-i decreases-loop-i
+overflow_add-i c = search rules
 
-loop_less : tie.Need-loop-smaller invariant_loop decreases_loop
-loop_less c = omega (arith, c.before.before.before.before.before.loop-test.true)
+loop-i-smaller : tie.Need-loop-i-smaller invariant-loop-i decreases-loop-i
+loop-i-smaller c = omega (arith, c.loop-i-test.true)
 
-loop_again : tie.Need-loop-preserved invariant_loop decreases_loop
-loop_again c =
+loop-i-preserved : tie.Need-loop-i-preserved invariant-loop-i decreases-loop-i
+loop-i-preserved c =
     let t = c.before.before.before.before.before in
-    let l = t.before.loop in
+    let l = t.loop-i in
     let s = t.before.before.before in
     let f : SFits w64 (get_or s.args.numbers.now l.i (pos 0)) = search rules in
-    written_more l.invariant (omega (arith, t.loop-test.true)) (simp to_z-of_z at c.before.before.signed.ensures)
+    written_more l.invariant (omega (arith, t.loop-i-test.true)) (simp to_z-of_z at c.signed-next.ensures)
 
-mul_signed_2 : tie.Need-overflow-mul-signed-2 invariant_loop decreases_loop
-mul_signed_2 c = search rules
+offset_bounds-numbers-last : tie.Need-offset_bounds-numbers-last invariant-loop-i decreases-loop-i
+offset_bounds-numbers-last c = search rules
 
-shared_slice_copy_out_signed_2 : tie.Need-shared-slice-copy-out-signed-2 invariant_loop decreases_loop
-shared_slice_copy_out_signed_2 c = omega (arith, c.before.before.before.before.requires.0)
+bounds-numbers-last : tie.Need-bounds-numbers-last invariant-loop-i decreases-loop-i
+bounds-numbers-last c = omega (arith, c.requires.0)
 
-signed_requires_2 : tie.Need-signed-requires-2 invariant_loop decreases_loop
-signed_requires_2 c κs =
-    let w = c.before.before.before.loop.invariant in
-    omega (arith, w.puts.most, w.puts.len, w.some, c.before.before.before.before.before.requires.1)
+signed-requires : tie.Need-signed-requires invariant-loop-i decreases-loop-i
+signed-requires c κs =
+    let w = c.loop-i.invariant in
+    omega (arith, w.puts.most, w.puts.len, w.some, c.requires.1)
 
-same_length : tie.Need-same-length invariant_loop decreases_loop
-same_length c = search rules
+shape_of-out : tie.Need-shape_of-out invariant-loop-i decreases-loop-i
+shape_of-out c = search rules
 
-returns : tie.Need-returns invariant_loop decreases_loop
+returns : tie.Need-returns invariant-loop-i decreases-loop-i
 returns c =
     let t = c.before.before.before.before.before in
-    let l = t.before.loop in
+    let l = t.loop-i in
     let s = t.before.before.before in
     let f : SFits w64 (get_or s.args.numbers.now (length s.args.numbers.now - 1) (pos 0)) = search rules in
-    let last : l.i ≡ length s.args.numbers.now - 1 = omega (arith, t.loop-test.false, l.invariant.some) in
-    written_last l.invariant (omega (arith, last, s.requires.0)) (simp (to_z-of_z, ← last) at c.before.before.signed2.ensures)
+    let last : l.i ≡ length s.args.numbers.now - 1 = omega (arith, t.loop-i-test.false, l.invariant.some) in
+    written_last l.invariant (omega (arith, last, s.requires.0)) (simp (to_z-of_z, ← last) at c.signed.ensures)
 
 pub fields_spec : {M : Type 1} → statement M
-fields_spec =
-    tie.close
-    (tie.spec
-    invariant_loop
-    decreases_loop
-    sub_last
-    loop_holds
-    mul_signed
-    shared_slice_copy_out_signed
-    signed_requires
-    add_i
-    loop_less
-    loop_again
-    mul_signed_2
-    shared_slice_copy_out_signed_2
-    signed_requires_2
-    same_length
-    returns)
+fields_spec = tie.close (tie.spec invariant-loop-i decreases-loop-i overflow_sub-last loop-i-init offset_bounds-numbers-i bounds-numbers-i signed-next-requires overflow_add-i loop-i-smaller loop-i-preserved offset_bounds-numbers-last bounds-numbers-last signed-requires shape_of-out returns)

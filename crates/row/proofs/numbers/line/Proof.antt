@@ -5,55 +5,44 @@ use borrow.Author.Rules.{rules}
 use Rattle.row.proofs.numbers.line.Statement.{statement}
 use Rattle.row.proofs.numbers.line.Tie as tie
 
-returns : tie.Need-returns
-returns c =
-    let a = c.before.before.args in
+returns-then-out-at : tie.Need-returns-then-out-at
+returns-then-out-at c =
+    let a = c.args in
     without_room_for a.numbers.now a.out.now a.at (omega arith)
 
-sub_if2 : tie.Need-overflow-sub-if2
-sub_if2 c = search rules
+overflow_sub-out : tie.Need-overflow_sub-out
+overflow_sub-out c = search rules
 
-returns_2 : tie.Need-returns-2
-returns_2 c =
-    let a = c.before.before.before.args in
+returns-then-out-at-2 : tie.Need-returns-then-out-at-2
+returns-then-out-at-2 c =
+    let a = c.args in
     without_room_for a.numbers.now a.out.now a.at (omega arith)
 
-byte_requires : tie.Need-byte-requires
-byte_requires c κs = search rules
+byte-next-requires : tie.Need-byte-next-requires
+byte-next-requires c κs = search rules
 
-fields_requires : tie.Need-fields-requires
-fields_requires c κs = search rules
+fields-next-requires : tie.Need-fields-next-requires
+fields-next-requires c κs = search rules
 
-same_length : tie.Need-same-length
-same_length c = search rules
+shape_of-out-then-numbers-eq0 : tie.Need-shape_of-out-then-numbers-eq0
+shape_of-out-then-numbers-eq0 c = search rules
 
-returns_3 : tie.Need-returns-3
-returns_3 c =
+returns-then-numbers-eq0 : tie.Need-returns-then-numbers-eq0
+returns-then-numbers-eq0 c =
     let b = c.before.before in
     let t = b.before.before in
-    let a = t.before.before.before.before.args in
+    let a = t.args in
     with_room_for a.numbers.now a.out.now a.at (omega arith)
-    (no_numbers a.numbers.now a.out.now a.at (omega arith) b.byte.ensures)
+    (no_numbers a.numbers.now a.out.now a.at (omega arith) b.byte-next.ensures)
 
-same_length_2 : tie.Need-same-length-2
-same_length_2 c = search rules
+shape_of-out-else-numbers-eq0 : tie.Need-shape_of-out-else-numbers-eq0
+shape_of-out-else-numbers-eq0 c = search rules
 
-returns_4 : tie.Need-returns-4
-returns_4 c =
+returns-else-numbers-eq0 : tie.Need-returns-else-numbers-eq0
+returns-else-numbers-eq0 c =
     let f = c.before.before in
-    let a = f.before.before.before.before.before.before.args in
-    with_room_for a.numbers.now a.out.now a.at (omega arith) f.fields.ensures
+    let a = f.args in
+    with_room_for a.numbers.now a.out.now a.at (omega arith) f.fields-next.ensures
 
 pub line_spec : {M : Type 1} → statement M
-line_spec =
-    tie.close
-    (tie.spec
-    returns
-    sub_if2
-    returns_2
-    byte_requires
-    fields_requires
-    same_length
-    returns_3
-    same_length_2
-    returns_4)
+line_spec = tie.close (tie.spec returns-then-out-at overflow_sub-out returns-then-out-at-2 byte-next-requires fields-next-requires shape_of-out-then-numbers-eq0 returns-then-numbers-eq0 shape_of-out-else-numbers-eq0 returns-else-numbers-eq0)

@@ -7,75 +7,57 @@ use borrow.Author.Rules.{rules}
 use Rattle.row.proofs.push.digits.Statement.{statement}
 use Rattle.row.proofs.push.digits.Tie as tie
 
-abbrev invariant_loop : tie.invariant_loop
-invariant_loop out₀ at n end m₀ i₀ out m i = Behind n out₀ at end out m i
+abbrev invariant-loop-m : tie.invariant-loop-m
+invariant-loop-m out₀ at n end m₀ i₀ out m i = Behind n out₀ at end out m i
 
-abbrev decreases_loop : tie.decreases_loop
-decreases_loop out₀ at n end m₀ i₀ out m i = m
+abbrev decreases-loop-m : tie.decreases-loop-m
+decreases-loop-m out₀ at n end m₀ i₀ out m i = m
 
-width_requires : tie.Need-width-requires invariant_loop decreases_loop
-width_requires c κs = search rules
+width-requires : tie.Need-width-requires invariant-loop-m decreases-loop-m
+width-requires c κs = search rules
 
-add_end : tie.Need-overflow-add-end invariant_loop decreases_loop
-add_end c = omega arith
+overflow_add-end : tie.Need-overflow_add-end invariant-loop-m decreases-loop-m
+overflow_add-end c = omega arith
 
-loop_holds : tie.Need-loop-init invariant_loop decreases_loop
-loop_holds c =
-    let a = c.before.before.args in
+loop-m-init : tie.Need-loop-m-init invariant-loop-m decreases-loop-m
+loop-m-init c =
+    let a = c.args in
     behind_none a.n a.out.now a.at (a.at + c.width.result) (omega arith) (omega arith)
 
-sub_i : tie.Need-overflow-sub-i invariant_loop decreases_loop
-sub_i c = omega (arith, digits_least c.before.loop.m)
+overflow_sub-i : tie.Need-overflow_sub-i invariant-loop-m decreases-loop-m
+overflow_sub-i c = omega (arith, digits_least c.loop-m.m)
 
-cast_d : tie.Need-overflow-cast-d invariant_loop decreases_loop
-cast_d c = search rules
+overflow_cast-d : tie.Need-overflow_cast-d invariant-loop-m decreases-loop-m
+overflow_cast-d c = search rules
 
-add_out : tie.Need-overflow-add-out invariant_loop decreases_loop
-add_out c = search rules
+overflow_add-out : tie.Need-overflow_add-out invariant-loop-m decreases-loop-m
+overflow_add-out c = search rules
 
-slice_write_out : tie.Need-slice-write-out invariant_loop decreases_loop
-slice_write_out c = omega (arith, digits_least c.before.loop.m)
+bounds-out-i : tie.Need-bounds-out-i invariant-loop-m decreases-loop-m
+bounds-out-i c = omega (arith, digits_least c.loop-m.m)
 
-loop_less : tie.Need-loop-smaller invariant_loop decreases_loop
-loop_less c = omega arith
+loop-m-smaller : tie.Need-loop-m-smaller invariant-loop-m decreases-loop-m
+loop-m-smaller c = omega arith
 
-loop_again : tie.Need-loop-preserved invariant_loop decreases_loop
-loop_again c =
-    let v = c.before.loop in
+loop-m-preserved : tie.Need-loop-m-preserved invariant-loop-m decreases-loop-m
+loop-m-preserved c =
+    let v = c.loop-m in
     behind_more v.invariant (v.i - 1) (omega (arith, digits_least v.m)) (omega arith)
 
-cast_d_2 : tie.Need-overflow-cast-d-2 invariant_loop decreases_loop
-cast_d_2 c = search rules
+overflow_cast-d-2 : tie.Need-overflow_cast-d-2 invariant-loop-m decreases-loop-m
+overflow_cast-d-2 c = search rules
 
-add_out_2 : tie.Need-overflow-add-out-2 invariant_loop decreases_loop
-add_out_2 c = search rules
+overflow_add-out-2 : tie.Need-overflow_add-out-2 invariant-loop-m decreases-loop-m
+overflow_add-out-2 c = search rules
 
-slice_write_out_2 : tie.Need-slice-write-out-2 invariant_loop decreases_loop
-slice_write_out_2 c = omega (arith, digits_least c.before.loop.m)
+bounds-out-at : tie.Need-bounds-out-at invariant-loop-m decreases-loop-m
+bounds-out-at c = omega (arith, digits_least c.loop-m.m)
 
-same_length : tie.Need-same-length invariant_loop decreases_loop
-same_length c = search rules
+shape_of-out : tie.Need-shape_of-out invariant-loop-m decreases-loop-m
+shape_of-out c = search rules
 
-returns : tie.Need-returns invariant_loop decreases_loop
-returns c = behind_all c.before.loop.invariant (omega arith)
+returns : tie.Need-returns invariant-loop-m decreases-loop-m
+returns c = behind_all c.loop-m.invariant (omega arith)
 
 pub digits_spec : {M : Type 1} → statement M
-digits_spec =
-    tie.close
-    (tie.spec
-    invariant_loop
-    decreases_loop
-    width_requires
-    add_end
-    loop_holds
-    sub_i
-    cast_d
-    add_out
-    slice_write_out
-    loop_less
-    loop_again
-    cast_d_2
-    add_out_2
-    slice_write_out_2
-    same_length
-    returns)
+digits_spec = tie.close (tie.spec invariant-loop-m decreases-loop-m width-requires overflow_add-end loop-m-init overflow_sub-i overflow_cast-d overflow_add-out bounds-out-i loop-m-smaller loop-m-preserved overflow_cast-d-2 overflow_add-out-2 bounds-out-at shape_of-out returns)

@@ -6,57 +6,43 @@ use borrow.Author.Rules.{rules}
 use Rattle.row.proofs.push.eighteen.Statement.{statement}
 use Rattle.row.proofs.push.eighteen.Tie as tie
 
-abbrev invariant_loop : tie.invariant_loop
-invariant_loop out₀ at n end m₀ i₀ out m i = LastBehind n out₀ at end out m i
+abbrev invariant-loop-i : tie.invariant-loop-i
+invariant-loop-i out₀ at n end m₀ i₀ out m i = LastBehind n out₀ at end out m i
 
-abbrev decreases_loop : tie.decreases_loop
-decreases_loop out₀ at n end m₀ i₀ out m i = i
+abbrev decreases-loop-i : tie.decreases-loop-i
+decreases-loop-i out₀ at n end m₀ i₀ out m i = i
 
-add_end : tie.Need-overflow-add-end invariant_loop decreases_loop
-add_end c = search rules
+overflow_add-end : tie.Need-overflow_add-end invariant-loop-i decreases-loop-i
+overflow_add-end c = search rules
 
-loop_holds : tie.Need-loop-init invariant_loop decreases_loop
-loop_holds c = let a = c.args in last_none a.n a.out.now a.at (omega arith)
+loop-i-init : tie.Need-loop-i-init invariant-loop-i decreases-loop-i
+loop-i-init c = let a = c.args in last_none a.n a.out.now a.at (omega arith)
 
-sub_i : tie.Need-overflow-sub-i invariant_loop decreases_loop
-sub_i c = omega arith
+overflow_sub-i : tie.Need-overflow_sub-i invariant-loop-i decreases-loop-i
+overflow_sub-i c = omega arith
 
-cast_d : tie.Need-overflow-cast-d invariant_loop decreases_loop
-cast_d c = search rules
+overflow_cast-d : tie.Need-overflow_cast-d invariant-loop-i decreases-loop-i
+overflow_cast-d c = search rules
 
-add_out : tie.Need-overflow-add-out invariant_loop decreases_loop
-add_out c = search rules
+overflow_add-out : tie.Need-overflow_add-out invariant-loop-i decreases-loop-i
+overflow_add-out c = search rules
 
-slice_write_out : tie.Need-slice-write-out invariant_loop decreases_loop
-slice_write_out c = let p = c.before.loop.invariant.puts in omega (arith, p.place, p.within, p.len)
+bounds-out-i : tie.Need-bounds-out-i invariant-loop-i decreases-loop-i
+bounds-out-i c = let p = c.loop-i.invariant.puts in omega (arith, p.place, p.within, p.len)
 
-loop_less : tie.Need-loop-smaller invariant_loop decreases_loop
-loop_less c = omega arith
+loop-i-smaller : tie.Need-loop-i-smaller invariant-loop-i decreases-loop-i
+loop-i-smaller c = omega arith
 
-loop_again : tie.Need-loop-preserved invariant_loop decreases_loop
-loop_again c =
-    let v = c.before.loop in
+loop-i-preserved : tie.Need-loop-i-preserved invariant-loop-i decreases-loop-i
+loop-i-preserved c =
+    let v = c.loop-i in
     last_more (v.i - 1) v.invariant (omega arith) (omega arith)
 
-same_length : tie.Need-same-length invariant_loop decreases_loop
-same_length c = search rules
+shape_of-out : tie.Need-shape_of-out invariant-loop-i decreases-loop-i
+shape_of-out c = search rules
 
-returns : tie.Need-returns invariant_loop decreases_loop
-returns c = last_all c.before.loop.invariant (omega arith)
+returns : tie.Need-returns invariant-loop-i decreases-loop-i
+returns c = last_all c.loop-i.invariant (omega arith)
 
 pub eighteen_spec : {M : Type 1} → statement M
-eighteen_spec =
-    tie.close
-    (tie.spec
-    invariant_loop
-    decreases_loop
-    add_end
-    loop_holds
-    sub_i
-    cast_d
-    add_out
-    slice_write_out
-    loop_less
-    loop_again
-    same_length
-    returns)
+eighteen_spec = tie.close (tie.spec invariant-loop-i decreases-loop-i overflow_add-end loop-i-init overflow_sub-i overflow_cast-d overflow_add-out bounds-out-i loop-i-smaller loop-i-preserved shape_of-out returns)

@@ -8,53 +8,40 @@ use Rattle.row.specs.laws.Decimal.{length_small, length_large, digits_after, dig
 use Rattle.row.proofs.push.width.Statement.{statement}
 use Rattle.row.proofs.push.width.Tie as tie
 
-abbrev invariant_loop : tie.invariant_loop
-invariant_loop n m₀ w₀ m w = w + length (decimal m) ≡ length (decimal n) + 1
+abbrev invariant-loop-m : tie.invariant-loop-m
+invariant-loop-m n m₀ w₀ m w = w + length (decimal m) ≡ length (decimal n) + 1
 
-abbrev decreases_loop : tie.decreases_loop
-decreases_loop n m₀ w₀ m w = m
+abbrev decreases-loop-m : tie.decreases-loop-m
+decreases-loop-m n m₀ w₀ m w = m
 
-returns : tie.Need-returns invariant_loop decreases_loop
-returns c = sym (length_small c.before.args.n (omega arith))
+returns-then-n-lt10 : tie.Need-returns-then-n-lt10 invariant-loop-m decreases-loop-m
+returns-then-n-lt10 c = sym (length_small c.args.n (omega arith))
 
-returns_2 : tie.Need-returns-2 invariant_loop decreases_loop
-returns_2 c = sym (digits_between 1 c.before.before.args.n (omega arith) (omega arith))
+returns-then-n-lt100 : tie.Need-returns-then-n-lt100 invariant-loop-m decreases-loop-m
+returns-then-n-lt100 c = sym (digits_between 1 c.args.n (omega arith) (omega arith))
 
-returns_3 : tie.Need-returns-3 invariant_loop decreases_loop
-returns_3 c = sym (digits_between 2 c.before.before.before.args.n (omega arith) (omega arith))
+returns-then-n-lt1000 : tie.Need-returns-then-n-lt1000 invariant-loop-m decreases-loop-m
+returns-then-n-lt1000 c = sym (digits_between 2 c.args.n (omega arith) (omega arith))
 
-returns_4 : tie.Need-returns-4 invariant_loop decreases_loop
-returns_4 c = sym (digits_between 3 c.before.before.before.before.args.n (omega arith) (omega arith))
+returns-then-n-lt10000 : tie.Need-returns-then-n-lt10000 invariant-loop-m decreases-loop-m
+returns-then-n-lt10000 c = sym (digits_between 3 c.args.n (omega arith) (omega arith))
 
-loop_holds : tie.Need-loop-init invariant_loop decreases_loop
-loop_holds c = omega (arith, digits_after 4 c.before.before.before.before.args.n (omega arith))
+loop-m-init : tie.Need-loop-m-init invariant-loop-m decreases-loop-m
+loop-m-init c = omega (arith, digits_after 4 c.args.n (omega arith))
 
-add_w : tie.Need-overflow-add-w invariant_loop decreases_loop
-add_w c =
+overflow_add-w : tie.Need-overflow_add-w invariant-loop-m decreases-loop-m
+overflow_add-w c =
     let start = c.before.before.before.before.before.before in
     omega (arith, digits_most start.args.n start.ranges.n)
 
-loop_less : tie.Need-loop-smaller invariant_loop decreases_loop
-loop_less c = omega arith
+loop-m-smaller : tie.Need-loop-m-smaller invariant-loop-m decreases-loop-m
+loop-m-smaller c = omega arith
 
-loop_again : tie.Need-loop-preserved invariant_loop decreases_loop
-loop_again c = omega (arith, length_large c.before.loop.m (omega arith))
+loop-m-preserved : tie.Need-loop-m-preserved invariant-loop-m decreases-loop-m
+loop-m-preserved c = omega (arith, length_large c.loop-m.m (omega arith))
 
-returns_5 : tie.Need-returns-5 invariant_loop decreases_loop
-returns_5 c = omega (arith, length_small c.before.loop.m (omega arith))
+returns : tie.Need-returns invariant-loop-m decreases-loop-m
+returns c = omega (arith, length_small c.loop-m.m (omega arith))
 
 pub width_spec : {M : Type 1} → statement M
-width_spec =
-    tie.close
-    (tie.spec
-    invariant_loop
-    decreases_loop
-    returns
-    returns_2
-    returns_3
-    returns_4
-    loop_holds
-    add_w
-    loop_less
-    loop_again
-    returns_5)
+width_spec = tie.close (tie.spec invariant-loop-m decreases-loop-m returns-then-n-lt10 returns-then-n-lt100 returns-then-n-lt1000 returns-then-n-lt10000 loop-m-init overflow_add-w loop-m-smaller loop-m-preserved returns)

@@ -28,52 +28,52 @@ use Rattle.run.specs.laws.ArcRun.{StandsOn, arc_asks, arc_small, charge_here, co
 use Rattle.run.proofs.arc_run.run_arc.Statement.{statement}
 use Rattle.run.proofs.arc_run.run_arc.Tie as tie
 
-abbrev invariant_loop : tie.invariant_loop
-invariant_loop capacity remainder a most out₀ added end n last straight diagonal tracer₀ gap₀ cycles₀ out tracer gap cycles =
+abbrev invariant-loop-gap : tie.invariant-loop-gap
+invariant-loop-gap capacity remainder a most out₀ added end n last straight diagonal tracer₀ gap₀ cycles₀ out tracer gap cycles =
     Cycling capacity a.feed most (strip_of capacity most (tracer_at a.centre tracer₀) remainder (Work.Arc a)) out₀ out last n 0 cycles
     (tracer_at a.centre tracer) (Work.Arc a) gap × StandsOn a tracer
 
-abbrev decreases_loop : tie.decreases_loop
-decreases_loop capacity remainder a most out₀ added end n last straight diagonal tracer₀ gap₀ cycles₀ out tracer gap cycles =
+abbrev decreases-loop-gap : tie.decreases-loop-gap
+decreases-loop-gap capacity remainder a most out₀ added end n last straight diagonal tracer₀ gap₀ cycles₀ out tracer gap cycles =
     last - gap.ticks
 
 -- from the loop's head back: the start, the n bytes that the run writes, and the tick before which no cycle ends the arc
-abbrev start : tie.At-loop invariant_loop decreases_loop → tie.Start invariant_loop decreases_loop
+abbrev start : tie.At-loop-gap invariant-loop-gap decreases-loop-gap → tie.Start invariant-loop-gap decreases-loop-gap
 start l = l.before.before.before.before.before.before.before.before.before.before.before.before.before.before.before
 
-abbrev bytes : tie.At-loop invariant_loop decreases_loop → ℕ
-bytes l = l.before.before.before.before.before.before.before.before.before.before.before.least.result
+abbrev bytes : tie.At-loop-gap invariant-loop-gap decreases-loop-gap → ℕ
+bytes l = l.least-n.result
 
-abbrev last_of : tie.At-loop invariant_loop decreases_loop → ℕ
-last_of l = l.before.before.before.before.before.before.before.before.before.before.least2.result
+abbrev last_of : tie.At-loop-gap invariant-loop-gap decreases-loop-gap → ℕ
+last_of l = l.least-last.result
 
-cleared : (l : tie.At-loop invariant_loop decreases_loop)
-    → l.before.before.before.before.before.before.before.before.clear.new.0 ≡ cleared_of (bytes l) (start l).args.out.now
-cleared l = l.before.before.before.before.before.before.before.before.clear.ensures
+cleared : (l : tie.At-loop-gap invariant-loop-gap decreases-loop-gap)
+    → l.clear.new.out ≡ cleared_of (bytes l) (start l).args.out.now
+cleared l = l.clear.ensures
 
-long : (l : tie.At-loop invariant_loop decreases_loop) → length l.loop.out ≡ length (start l).args.out.now
+long : (l : tie.At-loop-gap invariant-loop-gap decreases-loop-gap) → length l.loop-gap.out ≡ length (start l).args.out.now
 long l =
-    l.loop.invariant.0.going.long
-    ∙ cleared_long (start l).args.most (start l).args.out.now (start l).requires.1 l.loop.invariant.0.left.short (cleared l)
+    l.loop-gap.invariant.0.going.long
+    ∙ cleared_long (start l).args.most (start l).args.out.now (start l).requires.1 l.loop-gap.invariant.0.left.short (cleared l)
 
-in_time : (l : tie.At-loop invariant_loop decreases_loop) {t : ℕ} → t < bytes l → t < length l.loop.out
-in_time l h = omega (arith, long l, (start l).requires.1, l.loop.invariant.0.left.short)
+in_time : (l : tie.At-loop-gap invariant-loop-gap decreases-loop-gap) {t : ℕ} → t < bytes l → t < length l.loop-gap.out
+in_time l h = omega (arith, long l, (start l).requires.1, l.loop-gap.invariant.0.left.short)
 
 -- the tracer begins at the point, and knows the first charge
-abbrev entry : tie.After-enter invariant_loop decreases_loop → tie.Start invariant_loop decreases_loop
+abbrev entry : tie.After-enter-tracer invariant-loop-gap decreases-loop-gap → tie.Start invariant-loop-gap decreases-loop-gap
 entry c = c.before.before.before.before.before.before.before.before.before.before.before.before
 
-entered : (c : tie.After-enter invariant_loop decreases_loop) → (entry c).args.at ≡ tracer_at (entry c).args.a.centre c.enter.result
+entered : (c : tie.After-enter-tracer invariant-loop-gap decreases-loop-gap) → (entry c).args.at ≡ tracer_at (entry c).args.a.centre c.enter-tracer.result
 entered c =
     let b = entry c in
-    sym (ap (tracer_at b.args.a.centre) c.enter.ensures ∙ tracer_at_lem b.args.a b.args.at (circles (run_ready b.pre.0).0))
+    sym (ap (tracer_at b.args.a.centre) c.enter-tracer.ensures ∙ tracer_at_lem b.args.a b.args.at (circles (run_ready b.requires.0).0))
 
-first_charge : (c : tie.After-charge invariant_loop decreases_loop) → (let s = (entry c.before).args in c.charge.result ≡ arc_charge s.a s.at)
+first_charge : (c : tie.After-charge invariant-loop-gap decreases-loop-gap) → (let s = (entry c.before).args in c.charge.result ≡ arc_charge s.a s.at)
 first_charge c =
     let b = entry c.before in
     c.charge.ensures
-    ∙ ap (λ (t : Tracer). move_charge t.next) c.before.enter.ensures
-    ∙ tracer_charge b.args.a b.args.at (circles (run_ready b.pre.0).0)
+    ∙ ap (λ (t : Tracer). move_charge t.next) c.enter-tracer.ensures
+    ∙ tracer_charge b.args.a b.args.at (circles (run_ready b.requires.0).0)
 
 begins : {q0 f most : ℕ} (a : Arc) (r : ℕ) {out : List ℕ} {last n : ℕ} {at p : Point} {g : Gap} → at ≡ p
     → Cycling q0 f most (strip_of q0 most at r (Work.Arc a)) out out last n 0 0 at (Work.Arc a) g
@@ -81,212 +81,174 @@ begins : {q0 f most : ℕ} (a : Arc) (r : ℕ) {out : List ℕ} {last n : ℕ} {
 begins {q0} {f} {most} a r {out} {last} {n} {g = g} same i =
     subst (λ (x : Point). Cycling q0 f most (strip_of q0 most x r (Work.Arc a)) out out last n 0 0 x (Work.Arc a) g) same i
 
-abbrev strip : tie.Start invariant_loop decreases_loop → Point → Strip
+abbrev strip : tie.Start invariant-loop-gap decreases-loop-gap → Point → Strip
 strip c p = strip_of c.args.capacity c.args.most p c.args.remainder (Work.Arc c.args.a)
 
 -- the charge after the loop
-last_charge : (c : tie.After-charge2 invariant_loop decreases_loop) → (let l = c.before.before.before.before.before.before in
-    c.charge2.result ≡ arc_charge (start l).args.a (tracer_at (start l).args.a.centre l.loop.tracer))
+last_charge : (c : tie.After-charge-2 invariant-loop-gap decreases-loop-gap) → (let l = c.before.before.before.before.before.before in
+    c.charge-2.result ≡ arc_charge (start l).args.a (tracer_at (start l).args.a.centre l.loop-gap.tracer))
 last_charge c =
     let l = c.before.before.before.before.before.before in
-    c.charge2.ensures ∙ charge_here (start l).args.a l.loop.tracer l.loop.invariant.0 l.loop.invariant.1
+    c.charge-2.ensures ∙ charge_here (start l).args.a l.loop-gap.tracer l.loop-gap.invariant.0 l.loop-gap.invariant.1
 
-mul_added : tie.Need-overflow-mul-added invariant_loop decreases_loop
-mul_added c = let i = c.before.before.requires.0 in omega (arith, (in_work_lem i).feed.most, i.capacity)
+overflow_mul-added : tie.Need-overflow_mul-added invariant-loop-gap decreases-loop-gap
+overflow_mul-added c = let i = c.requires.0 in omega (arith, (in_work_lem i).feed.most, i.capacity)
 
-arc_end_requires : tie.Need-arc-end-requires invariant_loop decreases_loop
-arc_end_requires c κs = c.before.before.requires.0
+arc_end-end-requires : tie.Need-arc_end-end-requires invariant-loop-gap decreases-loop-gap
+arc_end-end-requires c κs = c.requires.0
 
-least_requires : tie.Need-least-requires invariant_loop decreases_loop
-least_requires c κs = search rules
+least-n-requires : tie.Need-least-n-requires invariant-loop-gap decreases-loop-gap
+least-n-requires c κs = search rules
 
-sub_least : tie.Need-overflow-sub-least invariant_loop decreases_loop
-sub_least c = omega (arith, same_some c.before.arc_end.ensures (end_range c.before.before.before.before.requires.0).0)
+overflow_sub-end : tie.Need-overflow_sub-end invariant-loop-gap decreases-loop-gap
+overflow_sub-end c = omega (arith, same_some c.arc_end-end.ensures (end_range c.requires.0).0)
 
-least_requires_2 : tie.Need-least-requires-2 invariant_loop decreases_loop
-least_requires_2 c κs = search rules
+least-last-requires : tie.Need-least-last-requires invariant-loop-gap decreases-loop-gap
+least-last-requires c κs = search rules
 
-clear_requires : tie.Need-clear-requires invariant_loop decreases_loop
-clear_requires c κs = omega (arith, c.before.before.least.ensures, c.before.before.before.before.before.before.requires.1)
+clear-requires : tie.Need-clear-requires invariant-loop-gap decreases-loop-gap
+clear-requires c κs = omega (arith, c.least-n.ensures, c.requires.1)
 
-mul_divide : tie.Need-overflow-mul-divide invariant_loop decreases_loop
-mul_divide c = omega (arith, c.before.before.before.before.before.before.before.before.before.requires.0.capacity)
+overflow_mul-capacity : tie.Need-overflow_mul-capacity invariant-loop-gap decreases-loop-gap
+overflow_mul-capacity c = omega (arith, c.requires.0.capacity)
 
-divide_requires : tie.Need-divide-requires invariant_loop decreases_loop
-divide_requires c κs = added_some c.before.before.before.before.before.before.before.before.before.requires.0
+divide-straight-requires : tie.Need-divide-straight-requires invariant-loop-gap decreases-loop-gap
+divide-straight-requires c κs = added_some c.requires.0
 
-mul_divide_2 : tie.Need-overflow-mul-divide-2 invariant_loop decreases_loop
-mul_divide_2 c = omega (arith, c.before.before.before.before.before.before.before.before.before.before.requires.0.capacity)
+overflow_mul-capacity-2 : tie.Need-overflow_mul-capacity-2 invariant-loop-gap decreases-loop-gap
+overflow_mul-capacity-2 c = omega (arith, c.requires.0.capacity)
 
-divide_requires_2 : tie.Need-divide-requires-2 invariant_loop decreases_loop
-divide_requires_2 c κs = added_some c.before.before.before.before.before.before.before.before.before.before.requires.0
+divide-diagonal-requires : tie.Need-divide-diagonal-requires invariant-loop-gap decreases-loop-gap
+divide-diagonal-requires c κs = added_some c.requires.0
 
-enter_requires : tie.Need-enter-requires invariant_loop decreases_loop
-enter_requires c κs = (run_ready c.before.before.before.before.before.before.before.before.before.before.before.requires.0).0
+enter-tracer-requires : tie.Need-enter-tracer-requires invariant-loop-gap decreases-loop-gap
+enter-tracer-requires c κs = (run_ready c.requires.0).0
 
-charge_requires : tie.Need-charge-requires invariant_loop decreases_loop
-charge_requires c κs = search rules
+charge-requires : tie.Need-charge-requires invariant-loop-gap decreases-loop-gap
+charge-requires c κs = search rules
 
-mul_first_gap : tie.Need-overflow-mul-first-gap invariant_loop decreases_loop
-mul_first_gap c = rw (first_charge c) (omega (arith, due_most (entry c.before).pre.0))
+overflow_mul-charge : tie.Need-overflow_mul-charge invariant-loop-gap decreases-loop-gap
+overflow_mul-charge c = rw (first_charge c) (omega (arith, due_most (entry c.before).requires.0))
 
-first_gap_requires : tie.Need-first-gap-requires invariant_loop decreases_loop
-first_gap_requires c κs = let i = (entry c.before).pre.0 in rw (first_charge c) (feed_due i, due_most i, rest_most i)
+first_gap-gap-requires : tie.Need-first_gap-gap-requires invariant-loop-gap decreases-loop-gap
+first_gap-gap-requires c κs = let i = (entry c.before).requires.0 in rw (first_charge c) (feed_due i, due_most i, rest_most i)
 
-loop_holds : tie.Need-loop-init invariant_loop decreases_loop
-loop_holds c =
+loop-gap-init : tie.Need-loop-gap-init invariant-loop-gap decreases-loop-gap
+loop-gap-init c =
     let b = entry c.before.before in
     let k = c.before.before.before.before.before.before.before.before.before in
-    let e = k.before.before.arc_end.ensures in
-    let last = k.least2.ensures ∙ same_before e (end_range b.pre.0).0 in
-    let n = k.before.least.ensures ∙ same_least e in
+    let e = k.arc_end-end.ensures in
+    let last = k.least-last.ensures ∙ same_before e (end_range b.requires.0).0 in
+    let n = k.least-n.ensures ∙ same_least e in
     let same = entered c.before.before in
     let due = ap (λ (d : ℕ). gap_of (d * b.args.capacity) (1000 * b.args.a.feed) b.args.remainder) (first_charge c.before) in
-    let clear = c.before.before.before.before.before.before.before.clear.ensures in
-    let i = cycling_start b.args.most b.args.out.now b.pre.0 b.pre.1 last n clear (c.first-gap.ensures ∙ due) 0 in
-    (begins b.args.a b.args.remainder same i, c.before.before.enter.ensures ∙ ap (arc_tracer b.args.a) same)
+    let clear = c.clear.ensures in
+    let i = cycling_start b.args.most b.args.out.now b.requires.0 b.requires.1 last n clear (c.first_gap-gap.ensures ∙ due) 0 in
+    (begins b.args.a b.args.remainder same i, c.enter-tracer.ensures ∙ ap (arc_tracer b.args.a) same)
 
-cycle_requires : tie.Need-cycle-requires invariant_loop decreases_loop
-cycle_requires c κs = let l = c.before.before in (arc_asks (start l).args.a l.loop.tracer l.loop.invariant.0 l.loop.invariant.1).1
+cycle-t-requires : tie.Need-cycle-t-requires invariant-loop-gap decreases-loop-gap
+cycle-t-requires c κs = let l = c.before.before in (arc_asks (start l).args.a l.loop-gap.tracer l.loop-gap.invariant.0 l.loop-gap.invariant.1).1
 
-with_marks_requires : tie.Need-with-marks-requires invariant_loop decreases_loop
-with_marks_requires c κs =
+with_marks-requires : tie.Need-with_marks-requires invariant-loop-gap decreases-loop-gap
+with_marks-requires c κs =
     let l = c.before.before.before in
-    arc_small (start l).args.a l.loop.tracer l.loop.invariant.0 l.loop.invariant.1 c.cycle.ensures
+    arc_small (start l).args.a l.loop-gap.tracer l.loop-gap.invariant.0 l.loop-gap.invariant.1 c.cycle-t.ensures
 
-slice_write_out : tie.Need-slice-write-out invariant_loop decreases_loop
-slice_write_out c =
+bounds-out-tick : tie.Need-bounds-out-tick invariant-loop-gap decreases-loop-gap
+bounds-out-tick c =
     let l = c.before.before.before.before in
-    in_time l (omega (arith, c.before.before.if1.true, l.loop.invariant.0.left.low))
+    in_time l (omega (arith, c.loop-gap-test.true, l.loop-gap.invariant.0.left.low))
 
-add_cycles : tie.Need-overflow-add-cycles invariant_loop decreases_loop
-add_cycles c =
+overflow_add-cycles : tie.Need-overflow_add-cycles invariant-loop-gap decreases-loop-gap
+overflow_add-cycles c =
     let l = c.before.before.before.before.before in
-    omega (arith, count_on (start l).args.a l.loop.tracer l.loop.invariant.0 l.loop.invariant.1)
+    omega (arith, count_on (start l).args.a l.loop-gap.tracer l.loop-gap.invariant.0 l.loop-gap.invariant.1)
 
-arc_gap_requires : tie.Need-arc-gap-requires invariant_loop decreases_loop
-arc_gap_requires c κs =
+arc_gap-gap-requires : tie.Need-arc_gap-gap-requires invariant-loop-gap decreases-loop-gap
+arc_gap-gap-requires c κs =
     let l = c.before.before.before.before.before in
-    let s = l.loop.invariant.0 in
+    let s = l.loop-gap.invariant.0 in
     record {
       some = added_some s.work;
       most = omega (arith, (in_work_lem s.work).feed.most);
       capacity = s.work.capacity;
-      is_straight = l.before.before.before.before.before.divide.ensures;
-      is_diagonal = l.before.before.before.before.divide2.ensures;
+      is_straight = l.divide-straight.ensures;
+      is_diagonal = l.divide-diagonal.ensures;
       rest = gap_left s;
-      early = omega (arith, c.before.before.before.if1.true, s.left.low, s.few, s.work.capacity);
+      early = omega (arith, c.loop-gap-test.true, s.left.low, s.few, s.work.capacity);
     }
 
-loop_less : tie.Need-loop-smaller invariant_loop decreases_loop
+loop-gap-smaller : tie.Need-loop-gap-smaller invariant-loop-gap decreases-loop-gap
 unfolding next_gap
-loop_less c = omega (arith, ap (λ (g : Gap). g.ticks) c.arc-gap.ensures, c.before.before.before.before.if1.true)
+loop-gap-smaller c = omega (arith, ap (λ (g : Gap). g.ticks) c.arc_gap-gap.ensures, c.loop-gap-test.true)
 
-loop_again : tie.Need-loop-preserved invariant_loop decreases_loop
-loop_again c =
+loop-gap-preserved : tie.Need-loop-gap-preserved invariant-loop-gap decreases-loop-gap
+loop-gap-preserved c =
     let l = c.before.before.before.before.before.before in
-    arc_on (start l).args.a l.loop.tracer l.loop.invariant.0 l.loop.invariant.1
-    c.before.before.before.cycle.ensures c.before.before.before.before.if1.true
-    c.before.before.with-marks.ensures c.arc-gap.ensures
+    arc_on (start l).args.a l.loop-gap.tracer l.loop-gap.invariant.0 l.loop-gap.invariant.1
+    c.cycle-t.ensures c.loop-gap-test.true
+    c.with_marks.ensures c.arc_gap-gap.ensures
 
-last_code_requires : tie.Need-last-code-requires invariant_loop decreases_loop
-last_code_requires c κs =
+last_code-code-requires : tie.Need-last_code-code-requires invariant-loop-gap decreases-loop-gap
+last_code-code-requires c κs =
     let l = c.before.before.before in
-    (arc_asks (start l).args.a l.loop.tracer l.loop.invariant.0 l.loop.invariant.1).1
+    (arc_asks (start l).args.a l.loop-gap.tracer l.loop-gap.invariant.0 l.loop-gap.invariant.1).1
 
-with_marks_requires_2 : tie.Need-with-marks-requires-2 invariant_loop decreases_loop
-with_marks_requires_2 c κs =
+with_marks-requires-then-last-n : tie.Need-with_marks-requires-then-last-n invariant-loop-gap decreases-loop-gap
+with_marks-requires-then-last-n c κs =
     let l = c.before.before.before.before.before in
-    let small = arc_small (start l).args.a l.loop.tracer l.loop.invariant.0 l.loop.invariant.1 {t = traced_of l.loop.tracer} refl in
-    omega (arith, small, c.before.last_code.ensures)
+    let small = arc_small (start l).args.a l.loop-gap.tracer l.loop-gap.invariant.0 l.loop-gap.invariant.1 {t = traced_of l.loop-gap.tracer} refl in
+    omega (arith, small, c.last_code-code.ensures)
 
-slice_write_out_2 : tie.Need-slice-write-out-2 invariant_loop decreases_loop
-slice_write_out_2 c = let l = c.before.before.before.before.before.before in in_time l c.before.before.before.if2.true
+bounds-out-tick-then-last-n : tie.Need-bounds-out-tick-then-last-n invariant-loop-gap decreases-loop-gap
+bounds-out-tick-then-last-n c = let l = c.before.before.before.before.before.before in in_time l c.if-last-n.true
 
-add_t34 : tie.Need-overflow-add-t34 invariant_loop decreases_loop
-add_t34 c =
+overflow_add-result : tie.Need-overflow_add-result invariant-loop-gap decreases-loop-gap
+overflow_add-result c =
     let l = c.before.before.before.before.before.before in
-    omega (arith, count_on (start l).args.a l.loop.tracer l.loop.invariant.0 l.loop.invariant.1)
+    omega (arith, count_on (start l).args.a l.loop-gap.tracer l.loop-gap.invariant.0 l.loop-gap.invariant.1)
 
-same_length : tie.Need-same-length invariant_loop decreases_loop
-same_length c =
+shape_of-out-then-last-n : tie.Need-shape_of-out-then-last-n invariant-loop-gap decreases-loop-gap
+shape_of-out-then-last-n c =
     let l = c.before.before.before.before.before.before in
-    length-set l.loop.out (last_of l) c.with-marks2.result ∙ long l
+    length-set l.loop-gap.out (last_of l) c.with_marks-then-last-n.result ∙ long l
 
-returns : tie.Need-returns invariant_loop decreases_loop
-returns c =
+returns-then-last-n : tie.Need-returns-then-last-n invariant-loop-gap decreases-loop-gap
+returns-then-last-n c =
     let l = c.before.before.before.before.before.before in
     let t = c.before.before.before in
-    let byte = rw c.before.before.last_code.ensures at c.with-marks2.ensures in
+    let byte = rw c.last_code-code.ensures at c.with_marks-then-last-n.ensures in
     answers (strip (start l)) (entered l.before.before.before)
-    (arc_end (start l).args.a l.loop.tracer l.loop.invariant.0 l.loop.invariant.1 {t = traced_of l.loop.tracer} refl
-    t.if2.true t.before.if1.false byte (cleared l))
+    (arc_end (start l).args.a l.loop-gap.tracer l.loop-gap.invariant.0 l.loop-gap.invariant.1 {t = traced_of l.loop-gap.tracer} refl
+    t.if-last-n.true t.loop-gap-test.false byte (cleared l))
 
-leave_requires : tie.Need-leave-requires invariant_loop decreases_loop
-leave_requires c κs =
+leave-requires : tie.Need-leave-requires invariant-loop-gap decreases-loop-gap
+leave-requires c κs =
     let l = c.before.before.before.before in
-    arc_asks (start l).args.a l.loop.tracer l.loop.invariant.0 l.loop.invariant.1
+    arc_asks (start l).args.a l.loop-gap.tracer l.loop-gap.invariant.0 l.loop-gap.invariant.1
 
-charge_requires_2 : tie.Need-charge-requires-2 invariant_loop decreases_loop
-charge_requires_2 c κs = search rules
+charge-requires-2 : tie.Need-charge-requires-2 invariant-loop-gap decreases-loop-gap
+charge-requires-2 c κs = search rules
 
-mul_remainder_at : tie.Need-overflow-mul-remainder-at invariant_loop decreases_loop
-mul_remainder_at c = rw (last_charge c) (omega (arith, due_most c.before.before.before.before.before.before.loop.invariant.0.work))
+overflow_mul-charge-2 : tie.Need-overflow_mul-charge-2 invariant-loop-gap decreases-loop-gap
+overflow_mul-charge-2 c = rw (last_charge c) (omega (arith, due_most c.loop-gap.invariant.0.work))
 
-remainder_at_requires : tie.Need-remainder-at-requires invariant_loop decreases_loop
-remainder_at_requires c κs =
+remainder_at-requires : tie.Need-remainder_at-requires invariant-loop-gap decreases-loop-gap
+remainder_at-requires c κs =
     let l = c.before.before.before.before.before.before in
-    rw (last_charge c) (out_asks l.loop.invariant.0 c.before.before.before.if2.false c.before.before.before.before.if1.false)
+    rw (last_charge c) (out_asks l.loop-gap.invariant.0 c.if-last-n.false c.loop-gap-test.false)
 
-same_length_2 : tie.Need-same-length-2 invariant_loop decreases_loop
-same_length_2 c = long c.before.before.before.before.before.before.before
+shape_of-out : tie.Need-shape_of-out invariant-loop-gap decreases-loop-gap
+shape_of-out c = long c.before.before.before.before.before.before.before
 
-returns_2 : tie.Need-returns-2 invariant_loop decreases_loop
-returns_2 c =
+returns : tie.Need-returns invariant-loop-gap decreases-loop-gap
+returns c =
     let l = c.before.before.before.before.before.before.before in
     let t = c.before.before.before.before in
     let a =
-    arc_out (start l).args.a l.loop.tracer l.loop.invariant.0 l.loop.invariant.1 t.if2.false t.before.if1.false (cleared l) in
+    arc_out (start l).args.a l.loop-gap.tracer l.loop-gap.invariant.0 l.loop-gap.invariant.1 t.if-last-n.false t.loop-gap-test.false (cleared l) in
     answers (strip (start l)) (entered l.before.before.before)
-    (rw (c.before.before.leave.ensures, c.remainder-at.ensures, last_charge c.before) a)
+    (rw (c.leave.ensures, c.remainder_at.ensures, last_charge c.before) a)
 
 pub run_arc_spec : {M : Type 1} → statement M
-run_arc_spec =
-    tie.close
-    (tie.spec
-    invariant_loop
-    decreases_loop
-    mul_added
-    arc_end_requires
-    least_requires
-    sub_least
-    least_requires_2
-    clear_requires
-    mul_divide
-    divide_requires
-    mul_divide_2
-    divide_requires_2
-    enter_requires
-    charge_requires
-    mul_first_gap
-    first_gap_requires
-    loop_holds
-    cycle_requires
-    with_marks_requires
-    slice_write_out
-    add_cycles
-    arc_gap_requires
-    loop_less
-    loop_again
-    last_code_requires
-    with_marks_requires_2
-    slice_write_out_2
-    add_t34
-    same_length
-    returns
-    leave_requires
-    charge_requires_2
-    mul_remainder_at
-    remainder_at_requires
-    same_length_2
-    returns_2)
+run_arc_spec = tie.close (tie.spec invariant-loop-gap decreases-loop-gap overflow_mul-added arc_end-end-requires least-n-requires overflow_sub-end least-last-requires clear-requires overflow_mul-capacity divide-straight-requires overflow_mul-capacity-2 divide-diagonal-requires enter-tracer-requires charge-requires overflow_mul-charge first_gap-gap-requires loop-gap-init cycle-t-requires with_marks-requires bounds-out-tick overflow_add-cycles arc_gap-gap-requires loop-gap-smaller loop-gap-preserved last_code-code-requires with_marks-requires-then-last-n bounds-out-tick-then-last-n overflow_add-result shape_of-out-then-last-n returns-then-last-n leave-requires charge-requires-2 overflow_mul-charge-2 remainder_at-requires shape_of-out returns)

@@ -10,55 +10,44 @@ use Rattle.run.specs.computed.Gap.{cleared_of}
 use Rattle.run.proofs.buffer.clear.Statement.{statement}
 use Rattle.run.proofs.buffer.clear.Tie as tie
 
-abbrev invariant_loop : tie.invariant_loop
-invariant_loop out₀ n i₀ out i = (i ≤ n) × (out ≡ cleared_of i out₀) × (lists.length out ≡ lists.length out₀)
+abbrev invariant-loop-i : tie.invariant-loop-i
+invariant-loop-i out₀ n i₀ out i = (i ≤ n) × (out ≡ cleared_of i out₀) × (lists.length out ≡ lists.length out₀)
 
-abbrev decreases_loop : tie.decreases_loop
-decreases_loop out₀ n i₀ out i = n - i
+abbrev decreases-loop-i : tie.decreases-loop-i
+decreases-loop-i out₀ n i₀ out i = n - i
 
-loop_holds : tie.Need-loop-init invariant_loop decreases_loop
+loop-i-init : tie.Need-loop-i-init invariant-loop-i decreases-loop-i
 unfolding cleared_of
-loop_holds c = (omega arith, refl, refl)
+loop-i-init c = (omega arith, refl, refl)
 
-slice_write_out : tie.Need-slice-write-out invariant_loop decreases_loop
-slice_write_out c = search rules
+bounds-out-at : tie.Need-bounds-out-at invariant-loop-i decreases-loop-i
+bounds-out-at c = search rules
 
-add_i : tie.Need-overflow-add-i invariant_loop decreases_loop
-add_i c = search rules
+overflow_add-i : tie.Need-overflow_add-i invariant-loop-i decreases-loop-i
+overflow_add-i c = search rules
 
-loop_less : tie.Need-loop-smaller invariant_loop decreases_loop
-loop_less c = search rules
+loop-i-smaller : tie.Need-loop-i-smaller invariant-loop-i decreases-loop-i
+loop-i-smaller c = search rules
 
-loop_again : tie.Need-loop-preserved invariant_loop decreases_loop
+loop-i-preserved : tie.Need-loop-i-preserved invariant-loop-i decreases-loop-i
 unfolding cleared_of
-loop_again c =
-    let i = c.before.loop.invariant in
-    let room : c.before.loop.i < lists.length c.before.before.args.out.now = omega (arith, i.2) in (
+loop-i-preserved c =
+    let i = c.loop-i.invariant in
+    let room : c.loop-i.i < lists.length c.args.out.now = omega (arith, i.2) in (
       omega arith,
-      ap (λ (l : List ℕ). lists.set l c.before.loop.i 0) i.1
-          ∙ fill_more c.before.loop.i 0 c.before.before.args.out.now room,
-      lists.length-set c.before.loop.out c.before.loop.i 0 ∙ i.2,
+      ap (λ (l : List ℕ). lists.set l c.loop-i.i 0) i.1
+          ∙ fill_more c.loop-i.i 0 c.args.out.now room,
+      lists.length-set c.loop-i.out c.loop-i.i 0 ∙ i.2,
     )
 
-same_length : tie.Need-same-length invariant_loop decreases_loop
-same_length c = search rules
+shape_of-out : tie.Need-shape_of-out invariant-loop-i decreases-loop-i
+shape_of-out c = search rules
 
-returns : tie.Need-returns invariant_loop decreases_loop
+returns : tie.Need-returns invariant-loop-i decreases-loop-i
 returns c =
-    let i = c.before.loop.invariant in
-    let all : c.before.loop.i ≡ c.before.before.args.n = omega arith in
-    i.1 ∙ ap (λ (k : ℕ). cleared_of k c.before.before.args.out.now) all
+    let i = c.loop-i.invariant in
+    let all : c.loop-i.i ≡ c.args.n = omega arith in
+    i.1 ∙ ap (λ (k : ℕ). cleared_of k c.args.out.now) all
 
 pub clear_spec : {M : Type 1} → statement M
-clear_spec =
-    tie.close
-    (tie.spec
-    invariant_loop
-    decreases_loop
-    loop_holds
-    slice_write_out
-    add_i
-    loop_less
-    loop_again
-    same_length
-    returns)
+clear_spec = tie.close (tie.spec invariant-loop-i decreases-loop-i loop-i-init bounds-out-at overflow_add-i loop-i-smaller loop-i-preserved shape_of-out returns)

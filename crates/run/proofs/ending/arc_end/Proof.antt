@@ -14,66 +14,53 @@ use Rattle.run.proofs.ending.arc_end.Statement.{statement}
 use Rattle.run.proofs.ending.arc_end.Tie as tie
 
 -- the longer way is charged no more than what is left
-few : (c : tie.After-longer-way) → (let s = c.before.before.before.args in 1000 * c.longer-way.result ≤ arc_charges s.a s.at)
-few c = let s = c.before.before.before in rw c.longer-way.ensures (way_few s.args.a s.args.at s.requires)
+few : (c : tie.After-longer_way) → (let s = c.args in 1000 * c.longer_way.result ≤ arc_charges s.a s.at)
+few c = let s = c.before.before.before in rw c.longer_way.ensures (way_few s.args.a s.args.at s.requires)
 
-few_due : (c : tie.After-longer-way) → (let s = c.before.before.before.args in
-    1000 * c.longer-way.result * s.capacity ≤ arc_charges s.a s.at * s.capacity)
+few_due : (c : tie.After-longer_way) → (let s = c.args in
+    1000 * c.longer_way.result * s.capacity ≤ arc_charges s.a s.at * s.capacity)
 few_due c = mul-le-mul_right _ (few c)
 
-mul_added : tie.Need-overflow-mul-added
-mul_added c = let e = end_asks c.before.before.requires in omega (arith, e.1)
+overflow_mul-added : tie.Need-overflow_mul-added
+overflow_mul-added c = let e = end_asks c.requires in omega (arith, e.1)
 
-longer_way_requires : tie.Need-longer-way-requires
-longer_way_requires c κs = search rules
+longer_way-requires : tie.Need-longer_way-requires
+longer_way-requires c κs = search rules
 
-mul_least : tie.Need-overflow-mul-least
-mul_least c = omega (arith, few c, (in_work_lem c.before.before.before.requires).most)
+overflow_mul-least : tie.Need-overflow_mul-least
+overflow_mul-least c = omega (arith, few c, (in_work_lem c.requires).most)
 
-mul_least_2 : tie.Need-overflow-mul-least-2
-mul_least_2 c = omega (arith, few_due c, (end_asks c.before.before.before.requires).1)
+overflow_mul-least-2 : tie.Need-overflow_mul-least-2
+overflow_mul-least-2 c = omega (arith, few_due c, (end_asks c.requires).1)
 
-falls_short_requires : tie.Need-falls-short-requires
-falls_short_requires c κs = short_asks c.before.before.before.requires
+falls_short-requires : tie.Need-falls_short-requires
+falls_short-requires c κs = short_asks c.requires
 
-add_result : tie.Need-overflow-add-result
-add_result c = omega (arith, short_few _ _ _ _ (sym c.before.falls-short.ensures ∙ c.if1.true))
+overflow_add-result : tie.Need-overflow_add-result
+overflow_add-result c = omega (arith, short_few _ _ _ _ (sym c.falls_short.ensures ∙ c.if-falls_short.true))
+
+returns-then-falls_short : tie.Need-returns-then-falls_short
+returns-then-falls_short c =
+    short_same c.requires _ _ (few_due c.before.before)
+    (sym c.falls_short.ensures ∙ c.if-falls_short.true)
+
+span-span-requires : tie.Need-span-span-requires
+span-span-requires c κs = (run_ready c.requires).0
+
+overflow_mul-span : tie.Need-overflow_mul-span
+overflow_mul-span c =
+    let e = end_asks c.requires in
+    rw c.span-span.ensures (omega (arith, e.1))
+
+last_tick-requires : tie.Need-last_tick-requires
+last_tick-requires c κs = rw c.span-span.ensures (end_asks c.requires)
 
 returns : tie.Need-returns
 returns c =
-    short_same c.before.before.before.before.before.requires _ _ (few_due c.before.before)
-    (sym c.before.falls-short.ensures ∙ c.if1.true)
-
-span_requires : tie.Need-span-requires
-span_requires c κs = (run_ready c.before.before.before.before.before.requires).0
-
-mul_last_tick : tie.Need-overflow-mul-last-tick
-mul_last_tick c =
-    let e = end_asks c.before.before.before.before.before.before.before.requires in
-    rw c.before.span.ensures (omega (arith, e.1))
-
-last_tick_requires : tie.Need-last-tick-requires
-last_tick_requires c κs = rw c.before.span.ensures (end_asks c.before.before.before.before.before.before.before.requires)
-
-returns_2 : tie.Need-returns-2
-returns_2 c =
-    let s = c.before.before.before.before.before.before.before.before.args in
-    let way = c.before.before.span.ensures in
+    let s = c.args in
+    let way = c.span-span.ensures in
     let end = ap (λ (w : Span). last_tick (w.charges * s.capacity) (1000 * s.a.feed) s.remainder w.cycles) way in
     record { same = ap (min (suc s.most)) (c.last_tick.ensures ∙ end) }
 
 pub arc_end_spec : {M : Type 1} → statement M
-arc_end_spec =
-    tie.close
-    (tie.spec
-    mul_added
-    longer_way_requires
-    mul_least
-    mul_least_2
-    falls_short_requires
-    add_result
-    returns
-    span_requires
-    mul_last_tick
-    last_tick_requires
-    returns_2)
+arc_end_spec = tie.close (tie.spec overflow_mul-added longer_way-requires overflow_mul-least overflow_mul-least-2 falls_short-requires overflow_add-result returns-then-falls_short span-span-requires overflow_mul-span last_tick-requires returns)

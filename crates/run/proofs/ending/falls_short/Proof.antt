@@ -8,24 +8,24 @@ use Rattle.run.proofs.ending.falls_short.Statement.{statement}
 use Rattle.run.proofs.ending.falls_short.Tie as tie
 
 -- what the ticks add
-product : (c : tie.Else1) → c.before.args.ticks * c.before.args.added ≤ 10000000 * 1200000000000
+product : (c : tie.Else-ticks-ge10000000) → c.args.ticks * c.args.added ≤ 10000000 * 1200000000000
 product c =
-    let few : c.before.args.ticks ≤ 10000000 = omega (arith, c.if1.false) in
-    mul-le-mul few c.before.requires.0
+    let few : c.args.ticks ≤ 10000000 = omega (arith, c.if-ticks-ge10000000.false) in
+    mul-le-mul few c.requires.0
+
+returns-then-ticks-ge10000000 : tie.Need-returns-then-ticks-ge10000000
+unfolding falls_short
+returns-then-ticks-ge10000000 c = rw (le-ltb _ _ c.if-ticks-ge10000000.true)
+
+overflow_mul-result : tie.Need-overflow_mul-result
+overflow_mul-result c = omega (arith, product c)
+
+overflow_add-result : tie.Need-overflow_add-result
+overflow_add-result c = omega (arith, product c, c.requires.1)
 
 returns : tie.Need-returns
 unfolding falls_short
-returns c = rw (le-ltb _ _ c.if1.true)
-
-mul_result : tie.Need-overflow-mul-result
-mul_result c = omega (arith, product c)
-
-add_result : tie.Need-overflow-add-result
-add_result c = omega (arith, product c, c.before.requires.1)
-
-returns_2 : tie.Need-returns-2
-unfolding falls_short
-returns_2 c = rw (lt-ltb _ _ c.if1.false)
+returns c = rw (lt-ltb _ _ c.if-ticks-ge10000000.false)
 
 pub falls_short_spec : {M : Type 1} → statement M
-falls_short_spec = tie.close (tie.spec returns mul_result add_result returns_2)
+falls_short_spec = tie.close (tie.spec returns-then-ticks-ge10000000 overflow_mul-result overflow_add-result returns)

@@ -14,56 +14,43 @@ due : (c : lts.Start reads.Pre reads.Post) → (let s = c.args in
     DueGap s.due s.added s.remainder (gap_of s.due s.added s.remainder))
 due c = gap_due _ _ _ c.requires.0.some
 
-add_t6 : tie.Need-overflow-add-t6
-add_t6 c = search rules
+overflow_add-result : tie.Need-overflow_add-result
+overflow_add-result c = search rules
 
-sub_t7 : tie.Need-overflow-sub-t7
-sub_t7 c = search rules
+overflow_sub-result : tie.Need-overflow_sub-result
+overflow_sub-result c = search rules
 
 -- a due that is there already takes no tick
-returns : tie.Need-returns
-returns c =
+returns-then-due-remainder : tie.Need-returns-then-due-remainder
+returns-then-due-remainder c =
     let s = c.before in
     due_unique {g = record { ticks = 0; remainder = s.args.remainder + s.args.added - s.args.due }}
     (record { before = λ h. absurd (omega arith); leaves = omega arith }) (due s)
 
-sub_ticks : tie.Need-overflow-sub-ticks
-sub_ticks c = search rules
+overflow_sub-ticks : tie.Need-overflow_sub-ticks
+overflow_sub-ticks c = search rules
 
-sub_ticks_2 : tie.Need-overflow-sub-ticks-2
-sub_ticks_2 c = search rules
+overflow_sub-ticks-2 : tie.Need-overflow_sub-ticks-2
+overflow_sub-ticks-2 c = search rules
 
-div_ticks : tie.Need-nonzero-div-ticks
-div_ticks c = search rules
+nonzero_div-ticks : tie.Need-nonzero_div-ticks
+nonzero_div-ticks c = search rules
 
-mul_t8 : tie.Need-overflow-mul-t8
-mul_t8 c = let s = c.before.args in omega (arith, div-mul-le_self (s.due - 1 - s.remainder) s.added)
+overflow_mul-result : tie.Need-overflow_mul-result
+overflow_mul-result c = let s = c.args in omega (arith, div-mul-le_self (s.due - 1 - s.remainder) s.added)
 
-add_t9 : tie.Need-overflow-add-t9
-add_t9 c = let s = c.before.args in omega (arith, div-mul-le_self (s.due - 1 - s.remainder) s.added)
+overflow_add-result-2 : tie.Need-overflow_add-result-2
+overflow_add-result-2 c = let s = c.args in omega (arith, div-mul-le_self (s.due - 1 - s.remainder) s.added)
 
-add_t10 : tie.Need-overflow-add-t10
-add_t10 c = let s = c.before.args in omega (arith, div-mul-le_self (s.due - 1 - s.remainder) s.added, c.before.requires.0.most)
+overflow_add-result-3 : tie.Need-overflow_add-result-3
+overflow_add-result-3 c = let s = c.args in omega (arith, div-mul-le_self (s.due - 1 - s.remainder) s.added, c.requires.0.most)
 
-sub_t11 : tie.Need-overflow-sub-t11
-sub_t11 c = let s = c.before.args in omega (arith, lt-div-mul-add {a = s.due - 1 - s.remainder} c.before.requires.0.some)
+overflow_sub-result-2 : tie.Need-overflow_sub-result-2
+overflow_sub-result-2 c = let s = c.args in omega (arith, lt-div-mul-add {a = s.due - 1 - s.remainder} c.requires.0.some)
 
-returns_2 : tie.Need-returns-2
+returns : tie.Need-returns
 unfolding gap_of
-returns_2 c = search rules
+returns c = search rules
 
 pub first_gap_spec : {M : Type 1} → statement M
-first_gap_spec =
-    tie.close
-    (tie.spec
-    add_t6
-    sub_t7
-    returns
-    sub_ticks
-    sub_ticks_2
-    div_ticks
-    mul_t8
-    add_t9
-    add_t10
-    sub_t11
-    returns_2)
+first_gap_spec = tie.close (tie.spec overflow_add-result overflow_sub-result returns-then-due-remainder overflow_sub-ticks overflow_sub-ticks-2 nonzero_div-ticks overflow_mul-result overflow_add-result-2 overflow_add-result-3 overflow_sub-result-2 returns)

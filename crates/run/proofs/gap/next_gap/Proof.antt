@@ -10,69 +10,56 @@ use Rattle.run.specs.laws.Gap.{Parts, parts, whole_most, next_over, next_either,
 parts_of : (c : tie.Start) → Parts c.args.due c.args.added c.args.parts
 parts_of c = parts c.requires.0 c.requires.1
 
-first_gap_requires : tie.Need-first-gap-requires
-first_gap_requires c κs = search rules
+first_gap-more-requires : tie.Need-first_gap-more-requires
+first_gap-more-requires c κs = search rules
 
-add_t11 : tie.Need-overflow-add-t11
-add_t11 c = search rules
+overflow_add-result : tie.Need-overflow_add-result
+overflow_add-result c = search rules
 
-add_t12 : tie.Need-overflow-add-t12
-add_t12 c =
+overflow_add-result-then-added-gap : tie.Need-overflow_add-result-then-added-gap
+overflow_add-result-then-added-gap c =
     let s = c.before.before.before.before.before in
     let most = gap_most s.args.due s.args.added s.args.gap.remainder s.requires.0.some in
-    omega (arith, ap (λ (x : Gap). x.ticks) c.before.before.first-gap.ensures, most)
+    omega (arith, ap (λ (x : Gap). x.ticks) c.first_gap-more.ensures, most)
 
-returns : tie.Need-returns
-returns c =
+returns-then-added-gap : tie.Need-returns-then-added-gap
+returns-then-added-gap c =
     let s = c.before.before.before.before.before in
-    next_over s.args.due s.args.added s.args.gap c.before.before.first-gap.ensures
+    next_over s.args.due s.args.added s.args.gap c.first_gap-more.ensures
 
-if_less_requires : tie.Need-if-less-requires
-if_less_requires c κs = search rules
+if_less-late-requires : tie.Need-if_less-late-requires
+if_less-late-requires c κs = search rules
 
-if_less_requires_2 : tie.Need-if-less-requires-2
-if_less_requires_2 c κs = search rules
+if_less-more-requires : tie.Need-if_less-more-requires
+if_less-more-requires c κs = search rules
 
-add_t13 : tie.Need-overflow-add-t13
-add_t13 c = let s = c.before.before.before.before.before.before in let m = whole_most s.requires.0 (parts_of s) in omega arith
+overflow_add-result-2 : tie.Need-overflow_add-result-2
+overflow_add-result-2 c = let s = c.before.before.before.before.before.before in let m = whole_most s.requires.0 (parts_of s) in omega arith
 
-add_t14 : tie.Need-overflow-add-t14
-add_t14 c =
+overflow_add-result-3 : tie.Need-overflow_add-result-3
+overflow_add-result-3 c =
     let s = c.before.before.before.before.before.before in
     let m = whole_most s.requires.0 (parts_of s) in
     let late = if_less_most s.args.gap.remainder s.args.parts.over 1 in
-    omega (arith, c.before.before.before.if-less.ensures, late)
+    omega (arith, c.if_less-late.ensures, late)
 
-add_t15 : tie.Need-overflow-add-t15
-add_t15 c =
+overflow_add-result-4 : tie.Need-overflow_add-result-4
+overflow_add-result-4 c =
     let s = c.before.before.before.before.before.before in
     let more = if_less_most s.args.gap.remainder s.args.parts.over s.args.added in
-    omega (arith, c.before.before.if-less2.ensures, more, s.requires.0.most)
+    omega (arith, c.if_less-more.ensures, more, s.requires.0.most)
 
-sub_t16 : tie.Need-overflow-sub-t16
-sub_t16 c =
+overflow_sub-result : tie.Need-overflow_sub-result
+overflow_sub-result c =
     let s = c.before.before.before.before.before.before in
-    let fits = over_fits s.requires.0 (parts_of s) s.args.gap c.before.before.before.before.if1.false in
-    omega (arith, c.before.before.if-less2.ensures, fits)
+    let fits = over_fits s.requires.0 (parts_of s) s.args.gap c.if-added-gap.false in
+    omega (arith, c.if_less-more.ensures, fits)
 
-returns_2 : tie.Need-returns-2
-returns_2 c =
+returns : tie.Need-returns
+returns c =
     let s = c.before.before.before.before.before.before in
-    rw (c.before.before.before.if-less.ensures, c.before.before.if-less2.ensures)
-    (next_either s.requires.0 (parts_of s) s.args.gap c.before.before.before.before.if1.false)
+    rw (c.if_less-late.ensures, c.if_less-more.ensures)
+    (next_either s.requires.0 (parts_of s) s.args.gap c.if-added-gap.false)
 
 pub next_gap_spec : {M : Type 1} → statement M
-next_gap_spec =
-    tie.close
-    (tie.spec
-    first_gap_requires
-    add_t11
-    add_t12
-    returns
-    if_less_requires
-    if_less_requires_2
-    add_t13
-    add_t14
-    add_t15
-    sub_t16
-    returns_2)
+next_gap_spec = tie.close (tie.spec first_gap-more-requires overflow_add-result overflow_add-result-then-added-gap returns-then-added-gap if_less-late-requires if_less-more-requires overflow_add-result-2 overflow_add-result-3 overflow_add-result-4 overflow_sub-result returns)

@@ -20,230 +20,196 @@ use Rattle.run.specs.laws.Ending.{same_least, same_some, same_before}
 use Rattle.run.specs.laws.Cycling.{Cycling, cycling_start, cleared_long, gap_left, out_asks, cycling_out}
 use Rattle.run.specs.laws.LineRun.{line_after, point_after, line_drawn, line_more, line_asks_lem, line_small, line_on_lem, line_end}
 
-abbrev invariant_loop : tie.invariant_loop
-invariant_loop capacity remainder l most out₀ due added end n last parts gap₀ stepper₀ cycles₀ out gap stepper cycles =
+abbrev invariant-loop-gap : tie.invariant-loop-gap
+invariant-loop-gap capacity remainder l most out₀ due added end n last parts gap₀ stepper₀ cycles₀ out gap stepper cycles =
     Cycling capacity l.feed most (strip_of capacity most (point_after l l.done) remainder (Work.Line l)) out₀ out last n
     l.done cycles (point_after l cycles) (Work.Line (line_after l cycles)) gap
     × (stepper ≡ stepper_of (line_after l cycles))
 
-abbrev decreases_loop : tie.decreases_loop
-decreases_loop capacity remainder l most out₀ due added end n last parts gap₀ stepper₀ cycles₀ out gap stepper cycles =
+abbrev decreases-loop-gap : tie.decreases-loop-gap
+decreases-loop-gap capacity remainder l most out₀ due added end n last parts gap₀ stepper₀ cycles₀ out gap stepper cycles =
     last - gap.ticks
 
 -- from the loop's head back: the start, the n bytes that the run writes, and the tick before which no cycle ends the line
-abbrev start : tie.At-loop invariant_loop decreases_loop → tie.Start invariant_loop decreases_loop
+abbrev start : tie.At-loop-gap invariant-loop-gap decreases-loop-gap → tie.Start invariant-loop-gap decreases-loop-gap
 start l = l.before.before.before.before.before.before.before.before.before.before.before.before.before
 
-abbrev bytes : tie.At-loop invariant_loop decreases_loop → ℕ
-bytes l = l.before.before.before.before.before.before.before.before.before.least.result
+abbrev bytes : tie.At-loop-gap invariant-loop-gap decreases-loop-gap → ℕ
+bytes l = l.least-n.result
 
-abbrev last_of : tie.At-loop invariant_loop decreases_loop → ℕ
-last_of l = l.before.before.before.before.before.before.before.before.least2.result
+abbrev last_of : tie.At-loop-gap invariant-loop-gap decreases-loop-gap → ℕ
+last_of l = l.least-last.result
 
-cleared : (l : tie.At-loop invariant_loop decreases_loop)
-    → l.before.before.before.before.before.before.clear.new.0 ≡ cleared_of (bytes l) (start l).args.out.now
-cleared l = l.before.before.before.before.before.before.clear.ensures
+cleared : (l : tie.At-loop-gap invariant-loop-gap decreases-loop-gap)
+    → l.clear.new.out ≡ cleared_of (bytes l) (start l).args.out.now
+cleared l = l.clear.ensures
 
-long : (l : tie.At-loop invariant_loop decreases_loop) → length l.loop.out ≡ length (start l).args.out.now
+long : (l : tie.At-loop-gap invariant-loop-gap decreases-loop-gap) → length l.loop-gap.out ≡ length (start l).args.out.now
 long l =
-    l.loop.invariant.0.going.long
-    ∙ cleared_long (start l).args.most (start l).args.out.now (start l).requires.1 l.loop.invariant.0.left.short (cleared l)
+    l.loop-gap.invariant.0.going.long
+    ∙ cleared_long (start l).args.most (start l).args.out.now (start l).requires.1 l.loop-gap.invariant.0.left.short (cleared l)
 
-in_time : (l : tie.At-loop invariant_loop decreases_loop) {t : ℕ} → t < bytes l → t < length l.loop.out
-in_time l h = omega (arith, long l, (start l).requires.1, l.loop.invariant.0.left.short)
+in_time : (l : tie.At-loop-gap invariant-loop-gap decreases-loop-gap) {t : ℕ} → t < bytes l → t < length l.loop-gap.out
+in_time l h = omega (arith, long l, (start l).requires.1, l.loop-gap.invariant.0.left.short)
 
 -- the point is the one that "Lines" gives
-reached : (c : tie.Start invariant_loop decreases_loop) → c.args.at ≡ point_after c.args.l c.args.l.done
+reached : (c : tie.Start invariant-loop-gap decreases-loop-gap) → c.args.at ≡ point_after c.args.l c.args.l.done
 reached c = (line_at_lem (run_ready c.requires.0).0).reached
 
-sound : (c : tie.Start invariant_loop decreases_loop)
+sound : (c : tie.Start invariant-loop-gap decreases-loop-gap)
     → SoundIn c.args.capacity (point_after c.args.l c.args.l.done) c.args.remainder (Work.Line c.args.l)
 sound c = subst (λ (p : Point). SoundIn c.args.capacity p c.args.remainder (Work.Line c.args.l)) (reached c) c.requires.0
 
-abbrev strip : tie.Start invariant_loop decreases_loop → Point → Strip
+abbrev strip : tie.Start invariant-loop-gap decreases-loop-gap → Point → Strip
 strip c p = strip_of c.args.capacity c.args.most p c.args.remainder (Work.Line c.args.l)
 
-mul_due : tie.Need-overflow-mul-due invariant_loop decreases_loop
-mul_due c = omega (arith, c.before.requires.0.capacity)
+overflow_mul-due : tie.Need-overflow_mul-due invariant-loop-gap decreases-loop-gap
+overflow_mul-due c = omega (arith, c.requires.0.capacity)
 
-mul_added : tie.Need-overflow-mul-added invariant_loop decreases_loop
-mul_added c = let i = c.before.before.requires.0 in omega (arith, (in_work_lem i).feed.most, i.capacity)
+overflow_mul-added : tie.Need-overflow_mul-added invariant-loop-gap decreases-loop-gap
+overflow_mul-added c = let i = c.requires.0 in omega (arith, (in_work_lem i).feed.most, i.capacity)
 
-line_end_requires : tie.Need-line-end-requires invariant_loop decreases_loop
-line_end_requires c κs = c.before.before.requires.0
+line_end-end-requires : tie.Need-line_end-end-requires invariant-loop-gap decreases-loop-gap
+line_end-end-requires c κs = c.requires.0
 
-least_requires : tie.Need-least-requires invariant_loop decreases_loop
-least_requires c κs = search rules
+least-n-requires : tie.Need-least-n-requires invariant-loop-gap decreases-loop-gap
+least-n-requires c κs = search rules
 
-sub_least : tie.Need-overflow-sub-least invariant_loop decreases_loop
-sub_least c = omega (arith, same_some c.before.line_end.ensures (end_range c.before.before.before.before.requires.0).0)
+overflow_sub-end : tie.Need-overflow_sub-end invariant-loop-gap decreases-loop-gap
+overflow_sub-end c = omega (arith, same_some c.line_end-end.ensures (end_range c.requires.0).0)
 
-least_requires_2 : tie.Need-least-requires-2 invariant_loop decreases_loop
-least_requires_2 c κs = search rules
+least-last-requires : tie.Need-least-last-requires invariant-loop-gap decreases-loop-gap
+least-last-requires c κs = search rules
 
-clear_requires : tie.Need-clear-requires invariant_loop decreases_loop
-clear_requires c κs = omega (arith, c.before.before.least.ensures, c.before.before.before.before.before.before.requires.1)
+clear-requires : tie.Need-clear-requires invariant-loop-gap decreases-loop-gap
+clear-requires c κs = omega (arith, c.least-n.ensures, c.requires.1)
 
-divide_requires : tie.Need-divide-requires invariant_loop decreases_loop
-divide_requires c κs = added_some c.before.before.before.before.before.before.before.before.before.requires.0
+divide-parts-requires : tie.Need-divide-parts-requires invariant-loop-gap decreases-loop-gap
+divide-parts-requires c κs = added_some c.requires.0
 
-first_gap_requires : tie.Need-first-gap-requires invariant_loop decreases_loop
-first_gap_requires c κs =
-    let i = c.before.before.before.before.before.before.before.before.before.before.requires.0 in
+first_gap-gap-requires : tie.Need-first_gap-gap-requires invariant-loop-gap decreases-loop-gap
+first_gap-gap-requires c κs =
+    let i = c.requires.0 in
     (feed_due i, due_most i, rest_most i)
 
-enter_requires : tie.Need-enter-requires invariant_loop decreases_loop
-enter_requires c κs = (run_ready c.before.before.before.before.before.before.before.before.before.before.before.requires.0).0
+enter-stepper-requires : tie.Need-enter-stepper-requires invariant-loop-gap decreases-loop-gap
+enter-stepper-requires c κs = (run_ready c.requires.0).0
 
-loop_holds : tie.Need-loop-init invariant_loop decreases_loop
-loop_holds c =
+loop-gap-init : tie.Need-loop-gap-init invariant-loop-gap decreases-loop-gap
+loop-gap-init c =
     let b = c.before.before.before.before.before.before.before.before.before.before.before.before in
     let k = c.before.before.before.before.before.before.before in
-    let e = k.before.before.line_end.ensures in
-    let last = k.least2.ensures ∙ same_before e (end_range b.requires.0).0 in
-    let n = k.before.least.ensures ∙ same_least e in
-    let clear = c.before.before.before.before.before.clear.ensures in (
-      cycling_start b.args.most b.args.out.now (sound b) b.requires.1 last n clear c.before.first-gap.ensures
+    let e = k.line_end-end.ensures in
+    let last = k.least-last.ensures ∙ same_before e (end_range b.requires.0).0 in
+    let n = k.least-n.ensures ∙ same_least e in
+    let clear = c.clear.ensures in (
+      cycling_start b.args.most b.args.out.now (sound b) b.requires.1 last n clear c.first_gap-gap.ensures
           b.args.l.done,
-      c.enter.ensures,
+      c.enter-stepper.ensures,
     )
 
-advance_requires : tie.Need-advance-requires invariant_loop decreases_loop
-advance_requires c κs = let l = c.before.before in line_asks_lem (start l).args.l l.loop.cycles l.loop.invariant.0 l.loop.invariant.1
+advance-s-requires : tie.Need-advance-s-requires invariant-loop-gap decreases-loop-gap
+advance-s-requires c κs = let l = c.before.before in line_asks_lem (start l).args.l l.loop-gap.cycles l.loop-gap.invariant.0 l.loop-gap.invariant.1
 
-cycle_byte_requires : tie.Need-cycle-byte-requires invariant_loop decreases_loop
-cycle_byte_requires c κs =
+cycle_byte-requires : tie.Need-cycle_byte-requires invariant-loop-gap decreases-loop-gap
+cycle_byte-requires c κs =
     let l = c.before.before.before.before in
-    line_small (start l).args.l l.loop.cycles l.loop.invariant.0 l.loop.invariant.1 c.before.advance.ensures
+    line_small (start l).args.l l.loop-gap.cycles l.loop-gap.invariant.0 l.loop-gap.invariant.1 c.advance-s.ensures
 
-slice_write_out : tie.Need-slice-write-out invariant_loop decreases_loop
-slice_write_out c =
+bounds-out-tick : tie.Need-bounds-out-tick invariant-loop-gap decreases-loop-gap
+bounds-out-tick c =
     let l = c.before.before.before.before.before in
-    in_time l (omega (arith, c.before.before.before.if1.true, l.loop.invariant.0.left.low))
+    in_time l (omega (arith, c.loop-gap-test.true, l.loop-gap.invariant.0.left.low))
 
-add_cycles : tie.Need-overflow-add-cycles invariant_loop decreases_loop
-add_cycles c =
+overflow_add-cycles : tie.Need-overflow_add-cycles invariant-loop-gap decreases-loop-gap
+overflow_add-cycles c =
     let l = c.before.before.before.before.before.before in
-    let more = line_more (start l).args.l l.loop.cycles l.loop.invariant.0 in
+    let more = line_more (start l).args.l l.loop-gap.cycles l.loop-gap.invariant.0 in
     omega arith
 
-next_gap_requires : tie.Need-next-gap-requires invariant_loop decreases_loop
-next_gap_requires c κs =
+next_gap-gap-requires : tie.Need-next_gap-gap-requires invariant-loop-gap decreases-loop-gap
+next_gap-gap-requires c κs =
     let l = c.before.before.before.before.before.before in
-    let s = l.loop.invariant.0 in (
+    let s = l.loop-gap.invariant.0 in (
       feed_due s.work,
-      l.before.before.before.divide.ensures,
+      l.divide-parts.ensures,
       due_most s.work,
       gap_left s,
-      omega (arith, c.before.before.before.before.if1.true, s.left.low, s.few, s.work.capacity),
+      omega (arith, c.loop-gap-test.true, s.left.low, s.few, s.work.capacity),
     )
 
-loop_less : tie.Need-loop-smaller invariant_loop decreases_loop
+loop-gap-smaller : tie.Need-loop-gap-smaller invariant-loop-gap decreases-loop-gap
 unfolding next_gap
-loop_less c =
+loop-gap-smaller c =
     let l = c.before.before.before.before.before.before.before in
-    omega (arith, ap (λ (g : Gap). g.ticks) c.next-gap.ensures, c.before.before.before.before.before.if1.true)
+    omega (arith, ap (λ (g : Gap). g.ticks) c.next_gap-gap.ensures, c.loop-gap-test.true)
 
-loop_again : tie.Need-loop-preserved invariant_loop decreases_loop
-loop_again c =
+loop-gap-preserved : tie.Need-loop-gap-preserved invariant-loop-gap decreases-loop-gap
+loop-gap-preserved c =
     let l = c.before.before.before.before.before.before.before in
-    line_on_lem (start l).args.l l.loop.cycles l.loop.invariant.0 l.loop.invariant.1 c.before.before.before.before.advance.ensures
-    c.before.before.before.before.before.if1.true c.before.before.cycle-byte.ensures c.next-gap.ensures
+    line_on_lem (start l).args.l l.loop-gap.cycles l.loop-gap.invariant.0 l.loop-gap.invariant.1 c.advance-s.ensures
+    c.loop-gap-test.true c.cycle_byte.ensures c.next_gap-gap.ensures
 
-advance_requires_2 : tie.Need-advance-requires-2 invariant_loop decreases_loop
-advance_requires_2 c κs =
+advance-s-requires-then-last-n : tie.Need-advance-s-requires-then-last-n invariant-loop-gap decreases-loop-gap
+advance-s-requires-then-last-n c κs =
     let l = c.before.before.before in
-    line_asks_lem (start l).args.l l.loop.cycles l.loop.invariant.0 l.loop.invariant.1
+    line_asks_lem (start l).args.l l.loop-gap.cycles l.loop-gap.invariant.0 l.loop-gap.invariant.1
 
-cycle_byte_requires_2 : tie.Need-cycle-byte-requires-2 invariant_loop decreases_loop
-cycle_byte_requires_2 c κs =
+cycle_byte-requires-then-last-n : tie.Need-cycle_byte-requires-then-last-n invariant-loop-gap decreases-loop-gap
+cycle_byte-requires-then-last-n c κs =
     let l = c.before.before.before.before.before.before in
-    line_small (start l).args.l l.loop.cycles l.loop.invariant.0 l.loop.invariant.1 c.before.before.advance2.ensures
+    line_small (start l).args.l l.loop-gap.cycles l.loop-gap.invariant.0 l.loop-gap.invariant.1 c.advance-s-then-last-n.ensures
 
-slice_write_out_2 : tie.Need-slice-write-out-2 invariant_loop decreases_loop
-slice_write_out_2 c =
+bounds-out-tick-then-last-n : tie.Need-bounds-out-tick-then-last-n invariant-loop-gap decreases-loop-gap
+bounds-out-tick-then-last-n c =
     let l = c.before.before.before.before.before.before.before in
-    in_time l c.before.before.before.before.if2.true
+    in_time l c.if-last-n.true
 
-add_t34 : tie.Need-overflow-add-t34 invariant_loop decreases_loop
-add_t34 c =
+overflow_add-result : tie.Need-overflow_add-result invariant-loop-gap decreases-loop-gap
+overflow_add-result c =
     let l = c.before.before.before.before.before.before.before in
-    let more = line_more (start l).args.l l.loop.cycles l.loop.invariant.0 in
+    let more = line_more (start l).args.l l.loop-gap.cycles l.loop-gap.invariant.0 in
     omega arith
 
-sub_t35 : tie.Need-overflow-sub-t35 invariant_loop decreases_loop
-sub_t35 c =
+overflow_sub-result : tie.Need-overflow_sub-result invariant-loop-gap decreases-loop-gap
+overflow_sub-result c =
     let l = c.before.before.before.before.before.before.before.before in
-    omega (arith, l.loop.invariant.0.since)
+    omega (arith, l.loop-gap.invariant.0.since)
 
-same_length : tie.Need-same-length invariant_loop decreases_loop
-same_length c =
+shape_of-out-then-last-n : tie.Need-shape_of-out-then-last-n invariant-loop-gap decreases-loop-gap
+shape_of-out-then-last-n c =
     let l = c.before.before.before.before.before.before.before.before in
-    length-set l.loop.out (last_of l) c.before.cycle-byte2.result ∙ long l
+    length-set l.loop-gap.out (last_of l) c.cycle_byte-then-last-n.result ∙ long l
 
-returns : tie.Need-returns invariant_loop decreases_loop
-returns c =
+returns-then-last-n : tie.Need-returns-then-last-n invariant-loop-gap decreases-loop-gap
+returns-then-last-n c =
     let l = c.before.before.before.before.before.before.before.before in
     let t = c.before.before.before.before.before in
     answers (strip (start l)) (reached (start l))
-    (line_end (start l).args.l l.loop.cycles l.loop.invariant.0 l.loop.invariant.1
-    c.before.before.before.before.advance2.ensures
-    t.if2.true t.before.if1.false c.before.cycle-byte2.ensures (cleared l))
+    (line_end (start l).args.l l.loop-gap.cycles l.loop-gap.invariant.0 l.loop-gap.invariant.1
+    c.advance-s-then-last-n.ensures
+    t.if-last-n.true t.loop-gap-test.false c.cycle_byte-then-last-n.ensures (cleared l))
 
-sub_t24 : tie.Need-overflow-sub-t24 invariant_loop decreases_loop
-sub_t24 c = let l = c.before.before.before.before in omega (arith, l.loop.invariant.0.since)
+overflow_sub-result-2 : tie.Need-overflow_sub-result-2 invariant-loop-gap decreases-loop-gap
+overflow_sub-result-2 c = let l = c.before.before.before.before in omega (arith, l.loop-gap.invariant.0.since)
 
-point_requires : tie.Need-point-requires invariant_loop decreases_loop
-point_requires c κs = let l = c.before.before.before.before in line_drawn (start l).args.l l.loop.cycles l.loop.invariant.0
+point-requires : tie.Need-point-requires invariant-loop-gap decreases-loop-gap
+point-requires c κs = let l = c.before.before.before.before in line_drawn (start l).args.l l.loop-gap.cycles l.loop-gap.invariant.0
 
-remainder_at_requires : tie.Need-remainder-at-requires invariant_loop decreases_loop
-remainder_at_requires c κs =
+remainder_at-requires : tie.Need-remainder_at-requires invariant-loop-gap decreases-loop-gap
+remainder_at-requires c κs =
     let l = c.before.before.before.before.before in
-    out_asks l.loop.invariant.0 c.before.before.if2.false c.before.before.before.if1.false
+    out_asks l.loop-gap.invariant.0 c.if-last-n.false c.loop-gap-test.false
 
-same_length_2 : tie.Need-same-length-2 invariant_loop decreases_loop
-same_length_2 c = long c.before.before.before.before.before.before
+shape_of-out : tie.Need-shape_of-out invariant-loop-gap decreases-loop-gap
+shape_of-out c = long c.before.before.before.before.before.before
 
-returns_2 : tie.Need-returns-2 invariant_loop decreases_loop
-returns_2 c =
+returns : tie.Need-returns invariant-loop-gap decreases-loop-gap
+returns c =
     let l = c.before.before.before.before.before.before in
     let t = c.before.before.before in
-    let a = cycling_out l.loop.invariant.0 t.if2.false t.before.if1.false (cleared l) in
-    answers (strip (start l)) (reached (start l)) (rw (c.before.point.ensures, c.remainder-at.ensures) a)
+    let a = cycling_out l.loop-gap.invariant.0 t.if-last-n.false t.loop-gap-test.false (cleared l) in
+    answers (strip (start l)) (reached (start l)) (rw (c.point.ensures, c.remainder_at.ensures) a)
 
 pub run_line_spec : {M : Type 1} → statement M
-run_line_spec =
-    tie.close
-    (tie.spec
-    invariant_loop
-    decreases_loop
-    mul_due
-    mul_added
-    line_end_requires
-    least_requires
-    sub_least
-    least_requires_2
-    clear_requires
-    divide_requires
-    first_gap_requires
-    enter_requires
-    loop_holds
-    advance_requires
-    cycle_byte_requires
-    slice_write_out
-    add_cycles
-    next_gap_requires
-    loop_less
-    loop_again
-    advance_requires_2
-    cycle_byte_requires_2
-    slice_write_out_2
-    add_t34
-    sub_t35
-    same_length
-    returns
-    sub_t24
-    point_requires
-    remainder_at_requires
-    same_length_2
-    returns_2)
+run_line_spec = tie.close (tie.spec invariant-loop-gap decreases-loop-gap overflow_mul-due overflow_mul-added line_end-end-requires least-n-requires overflow_sub-end least-last-requires clear-requires divide-parts-requires first_gap-gap-requires enter-stepper-requires loop-gap-init advance-s-requires cycle_byte-requires bounds-out-tick overflow_add-cycles next_gap-gap-requires loop-gap-smaller loop-gap-preserved advance-s-requires-then-last-n cycle_byte-requires-then-last-n bounds-out-tick-then-last-n overflow_add-result overflow_sub-result shape_of-out-then-last-n returns-then-last-n overflow_sub-result-2 point-requires remainder_at-requires shape_of-out returns)

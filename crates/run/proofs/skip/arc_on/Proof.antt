@@ -11,47 +11,47 @@ use Rattle.run.specs.laws.Skip.{sum_fits, paid_fits, arc_on_ran}
 use Rattle.run.proofs.skip.arc_on.Statement.{statement}
 use Rattle.run.proofs.skip.arc_on.Tie as tie
 
-mul_sum : tie.Need-overflow-mul-sum
-mul_sum c = let i = c.before.requires.0 in omega (arith, i.capacity, (in_work_lem i).feed.most)
+overflow_mul-sum : tie.Need-overflow_mul-sum
+overflow_mul-sum c = let i = c.requires.0 in omega (arith, i.capacity, (in_work_lem i).feed.most)
 
-mul_sum_2 : tie.Need-overflow-mul-sum-2
-mul_sum_2 c = let s = c.before in omega (arith, sum_fits s.requires.0 s.args.ticks s.requires.2)
+overflow_mul-sum-2 : tie.Need-overflow_mul-sum-2
+overflow_mul-sum-2 c = let s = c.before in omega (arith, sum_fits s.requires.0 s.args.ticks s.requires.2)
 
-add_sum : tie.Need-overflow-add-sum
-add_sum c = let s = c.before in omega (arith, sum_fits s.requires.0 s.args.ticks s.requires.2)
+overflow_add-sum : tie.Need-overflow_add-sum
+overflow_add-sum c = let s = c.before in omega (arith, sum_fits s.requires.0 s.args.ticks s.requires.2)
 
-sub_least : tie.Need-overflow-sub-least
-sub_least c = let s = c.before in omega (arith, s.requires.1, (in_work_lem s.requires.0).some)
+overflow_sub-cycles : tie.Need-overflow_sub-cycles
+overflow_sub-cycles c = let s = c.before in omega (arith, s.requires.1, (in_work_lem s.requires.0).some)
 
-least_requires : tie.Need-least-requires
-least_requires c κs = search rules
+least-most-requires : tie.Need-least-most-requires
+least-most-requires c κs = search rules
 
 -- as many cycles as are asked for
-most : (c : tie.After-least) → (let s = c.before.before.args in c.least.result ≡ min s.ticks (arc_cycles s.a s.at - 1))
-most c = let s = c.before.before in c.least.ensures ∙ ap (λ (k : ℕ). min s.args.ticks (k - 1)) s.requires.1
+most : (c : tie.After-least-most) → (let s = c.args in c.least-most.result ≡ min s.ticks (arc_cycles s.a s.at - 1))
+most c = let s = c.before.before in c.least-most.ensures ∙ ap (λ (k : ℕ). min s.args.ticks (k - 1)) s.requires.1
 
-div_paid : tie.Need-nonzero-div-paid
-div_paid c = let f = (in_work_lem c.before.before.requires.0).feed in omega (arith, f.some, f.most)
+nonzero_div-sum : tie.Need-nonzero_div-sum
+nonzero_div-sum c = let f = (in_work_lem c.requires.0).feed in omega (arith, f.some, f.most)
 
-paid_requires : tie.Need-paid-requires
-paid_requires c κs = let s = c.before.before in ((run_ready s.requires.0).0, omega (arith, most c, (in_work_lem s.requires.0).some))
+paid-paid-requires : tie.Need-paid-paid-requires
+paid-paid-requires c κs = let s = c.before.before in ((run_ready s.requires.0).0, omega (arith, most c, (in_work_lem s.requires.0).some))
 
-paid : (c : tie.After-paid) → (let s = c.before.before.before.args in
+paid : (c : tie.After-paid-paid) → (let s = c.args in
     let sum = s.remainder + s.ticks * (1000 * s.a.feed) in
-    c.paid.result ≡ arc_paid_of s.a s.at (min s.ticks (arc_cycles s.a s.at - 1)) (sum / s.capacity))
+    c.paid-paid.result ≡ arc_paid_of s.a s.at (min s.ticks (arc_cycles s.a s.at - 1)) (sum / s.capacity))
 paid c =
-    let s = c.before.before.before.args in
+    let s = c.args in
     let sum = s.remainder + s.ticks * (1000 * s.a.feed) in
-    c.paid.ensures ∙ ap (λ (n : ℕ). arc_paid_of s.a s.at n (sum / s.capacity)) (most c.before)
+    c.paid-paid.ensures ∙ ap (λ (n : ℕ). arc_paid_of s.a s.at n (sum / s.capacity)) (most c.before)
 
-mul_t11 : tie.Need-overflow-mul-t11
-mul_t11 c =
+overflow_mul-result : tie.Need-overflow_mul-result
+overflow_mul-result c =
     let s = c.before.before.before.before.before in
     let fits = paid_fits s.args.a s.requires.0 s.args.ticks s.requires.2 (paid c.before.before) in
     omega (arith, fits, sum_fits s.requires.0 s.args.ticks s.requires.2)
 
-sub_t12 : tie.Need-overflow-sub-t12
-sub_t12 c =
+overflow_sub-result : tie.Need-overflow_sub-result
+overflow_sub-result c =
     let s = c.before.before.before.before.before in
     paid_fits s.args.a s.requires.0 s.args.ticks s.requires.2 (paid c.before.before)
 
@@ -61,16 +61,4 @@ returns c =
     arc_on_ran s.args.a s.requires.0 s.args.ticks s.requires.2 (paid c.before.before)
 
 pub arc_on_spec : {M : Type 1} → statement M
-arc_on_spec =
-    tie.close
-    (tie.spec
-    mul_sum
-    mul_sum_2
-    add_sum
-    sub_least
-    least_requires
-    div_paid
-    paid_requires
-    mul_t11
-    sub_t12
-    returns)
+arc_on_spec = tie.close (tie.spec overflow_mul-sum overflow_mul-sum-2 overflow_add-sum overflow_sub-cycles least-most-requires nonzero_div-sum paid-paid-requires overflow_mul-result overflow_sub-result returns)

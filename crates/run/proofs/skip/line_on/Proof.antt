@@ -8,34 +8,33 @@ use Rattle.run.specs.laws.Skip.{line_on_asks, line_on_drawn, line_on_ran}
 use Rattle.run.proofs.skip.line_on.Statement.{statement}
 use Rattle.run.proofs.skip.line_on.Tie as tie
 
-mul_add_feeds : tie.Need-overflow-mul-add-feeds
-mul_add_feeds c = omega (arith, c.requires.0.capacity)
+overflow_mul-capacity : tie.Need-overflow_mul-capacity
+overflow_mul-capacity c = omega (arith, c.requires.0.capacity)
 
-mul_add_feeds_2 : tie.Need-overflow-mul-add-feeds-2
-mul_add_feeds_2 c = let i = c.before.requires.0 in omega (arith, i.capacity, (in_work_lem i).feed.most)
+overflow_mul-l : tie.Need-overflow_mul-l
+overflow_mul-l c = let i = c.requires.0 in omega (arith, i.capacity, (in_work_lem i).feed.most)
 
-add_feeds_requires : tie.Need-add-feeds-requires
-add_feeds_requires c κs = let s = c.before in line_on_asks s.args.l s.requires.0 s.args.ticks s.requires.1
+add_feeds-gone-requires : tie.Need-add_feeds-gone-requires
+add_feeds-gone-requires c κs = let s = c.before in line_on_asks s.args.l s.requires.0 s.args.ticks s.requires.1
 
-add_line : tie.Need-overflow-add-line
-add_line c =
+overflow_add-line : tie.Need-overflow_add-line
+overflow_add-line c =
     let s = c.before.before.before.before in
-    let g = c.before.before.add-feeds in
+    let g = c.add_feeds-gone in
     let l = s.args.l in
     let w = drawn {l = line_on l g.result.cycles} (line_on_drawn l s.requires.0 s.args.ticks s.requires.1 g.ensures) in
     omega (arith, w.due, w.own, cycles_bound l.start l.end w.short_x w.short_y)
 
-point_requires : tie.Need-point-requires
-point_requires c κs =
+point-requires : tie.Need-point-requires
+point-requires c κs =
     let s = c.before.before.before.before in
-    line_on_drawn s.args.l s.requires.0 s.args.ticks s.requires.1 c.before.before.add-feeds.ensures
+    line_on_drawn s.args.l s.requires.0 s.args.ticks s.requires.1 c.add_feeds-gone.ensures
 
 returns : tie.Need-returns
 returns c =
     let s = c.before.before.before.before.before in
     rw c.point.ensures
-    (line_on_ran s.args.l s.requires.0 s.args.ticks s.requires.1 c.before.before.before.add-feeds.ensures)
+    (line_on_ran s.args.l s.requires.0 s.args.ticks s.requires.1 c.add_feeds-gone.ensures)
 
 pub line_on_spec : {M : Type 1} → statement M
-line_on_spec =
-    tie.close (tie.spec mul_add_feeds mul_add_feeds_2 add_feeds_requires add_line point_requires returns)
+line_on_spec = tie.close (tie.spec overflow_mul-capacity overflow_mul-l add_feeds-gone-requires overflow_add-line point-requires returns)

@@ -6,30 +6,30 @@ use Rattle.run.specs.laws.Skip.{end_asks, ends_skip, skip_early}
 use Rattle.run.proofs.skip.skip_left.Statement.{statement}
 use Rattle.run.proofs.skip.skip_left.Tie as tie
 
-mul_ending : tie.Need-overflow-mul-ending
-mul_ending c = let e = end_asks c.before.requires.0 c.before.requires.1 in omega (arith, e.2)
+overflow_mul-left : tie.Need-overflow_mul-left
+overflow_mul-left c = let e = end_asks c.requires.0 c.requires.1 in omega (arith, e.2)
 
-mul_ending_2 : tie.Need-overflow-mul-ending-2
-mul_ending_2 c = let s = c.before.before in let e = end_asks s.requires.0 s.requires.1 in omega (arith, e.2)
+overflow_mul-left-2 : tie.Need-overflow_mul-left-2
+overflow_mul-left-2 c = let s = c.before.before in let e = end_asks s.requires.0 s.requires.1 in omega (arith, e.2)
 
-ending_requires : tie.Need-ending-requires
-ending_requires c κs = let s = c.before.before in end_asks s.requires.0 s.requires.1
+ending-last-requires : tie.Need-ending-last-requires
+ending-last-requires c κs = let s = c.before.before in end_asks s.requires.0 s.requires.1
 
-returns : tie.Need-returns
-returns c =
+returns-then-last-ticks : tie.Need-returns-then-last-ticks
+returns-then-last-ticks c =
     let e = c.before.before.before in
     let s = c.before.before.before.before.before.before in
-    ends_skip s.requires.0 s.requires.1 e.ending.ensures s.args.ticks c.before.if1.true
+    ends_skip s.requires.0 s.requires.1 e.ending-last.ensures s.args.ticks c.if-last-ticks.true
 
-work_on_requires : tie.Need-work-on-requires
-work_on_requires c κs =
+work_on-requires : tie.Need-work_on-requires
+work_on-requires c κs =
     let e = c.before.before in
     let s = c.before.before.before.before.before in
-    let early = skip_early s.requires.0 s.requires.1 e.ending.ensures s.args.ticks c.if1.false in
+    let early = skip_early s.requires.0 s.requires.1 e.ending-last.ensures s.args.ticks c.if-last-ticks.false in
     (s.requires.0, ap (λ (l : Left). l.cycles) s.requires.1, early)
 
-returns_2 : tie.Need-returns-2
-returns_2 c = c.work-on.ensures
+returns : tie.Need-returns
+returns c = c.work_on.ensures
 
 pub skip_left_spec : {M : Type 1} → statement M
-skip_left_spec = tie.close (tie.spec mul_ending mul_ending_2 ending_requires returns work_on_requires returns_2)
+skip_left_spec = tie.close (tie.spec overflow_mul-left overflow_mul-left-2 ending-last-requires returns-then-last-ticks work_on-requires returns)

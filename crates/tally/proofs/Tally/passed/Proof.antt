@@ -5,11 +5,11 @@ use borrow.Author.Rules.{rules}
 use Rattle.tally.proofs.Tally.passed.Statement.{statement}
 use Rattle.tally.proofs.Tally.passed.Tie as tie
 
-add_t8 : tie.Need-overflow-add-t8
-add_t8 c = omega (arith, (counts _ c.before.before.requires).lines)
+overflow_add-tally : tie.Need-overflow_add-tally
+overflow_add-tally c = omega (arith, (counts _ c.requires).lines)
 
 returns : tie.Need-returns
 returns c = search rules
 
 pub passed_spec : {M : Type 1} → statement M
-passed_spec = tie.close (tie.spec add_t8 returns)
+passed_spec = tie.close (tie.spec overflow_add-tally returns)

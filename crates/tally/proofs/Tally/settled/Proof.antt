@@ -4,27 +4,27 @@ use Rattle.bench.specs.Bench.{moved_of}
 use Rattle.tally.proofs.Tally.settled.Statement.{statement}
 use Rattle.tally.proofs.Tally.settled.Tie as tie
 
-enum_told : tie.Need-enum-told
-enum_told c = search rules
+enum_told-1 : tie.Need-enum_told-1
+enum_told-1 c = search rules
 
-moved_requires : tie.Need-moved-requires
-moved_requires c κs = search rules
+moved-idle-requires : tie.Need-moved-idle-requires
+moved-idle-requires c κs = search rules
 
-enum_told_2 : tie.Need-enum-told-2
-enum_told_2 c = search rules
+enum_told-in-Line : tie.Need-enum_told-in-Line
+enum_told-in-Line c = search rules
 
-enum_told_3 : tie.Need-enum-told-3
-enum_told_3 c = search rules
+enum_told-in-Arc : tie.Need-enum_told-in-Arc
+enum_told-in-Arc c = search rules
 
-returns : tie.Need-returns
+returns-in-Nothing : tie.Need-returns-in-Nothing
 unfolding moved_of
-returns c = rw (c.moved.ensures, ← c.before.enum_told.given.1)
+returns-in-Nothing c = rw (c.moved-idle.ensures, ← c.in-Nothing.is)
 
-returns_2 : tie.Need-returns-2
-returns_2 c = search rules
+returns-in-Line : tie.Need-returns-in-Line
+returns-in-Line c = search rules
 
-returns_3 : tie.Need-returns-3
-returns_3 c = search rules
+returns-in-Arc : tie.Need-returns-in-Arc
+returns-in-Arc c = search rules
 
 pub settled_spec : {M : Type 1} → statement M
-settled_spec = tie.close (tie.spec enum_told moved_requires enum_told_2 enum_told_3 returns returns_2 returns_3)
+settled_spec = tie.close (tie.spec enum_told-1 moved-idle-requires enum_told-in-Line enum_told-in-Arc returns-in-Nothing returns-in-Line returns-in-Arc)

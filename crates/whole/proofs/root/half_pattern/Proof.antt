@@ -9,28 +9,26 @@ use Rattle.whole.specs.laws.Float.{itself_no_nan, pattern_no_nan}
 use Rattle.whole.proofs.root.half_pattern.Statement.{statement}
 use Rattle.whole.proofs.root.half_pattern.Tie as tie
 
-float_to_bits_pattern : tie.Need-float-to-bits-pattern
-float_to_bits_pattern c = itself_no_nan _ c.if1.true
+float_to_bits-pattern : tie.Need-float_to_bits-pattern
+float_to_bits-pattern c = itself_no_nan _ c.if-x.true
 
-add_pattern : tie.Need-overflow-add-pattern
-add_pattern c =
-    let x = c.before.args.x in
-    let held : T (fits binary64 x) = subst T (sym c.before.well-formed.0.1) tt in
+overflow_add-pattern : tie.Need-overflow_add-pattern
+overflow_add-pattern c =
+    let x = c.args.x in
+    let held : T (fits binary64 x) = subst T (sym c.before.well_formed.0.1) tt in
     omega (arith, to_bits-lt binary64 x held)
 
-float_from_bits_result : tie.Need-float-from-bits-result
-float_from_bits_result c = pattern_no_nan _ c.if2.true
+float_from_bits-result : tie.Need-float_from_bits-result
+float_from_bits-result c = pattern_no_nan _ c.if-pattern-lt9218868437227405312.true
 
-returns : tie.Need-returns
-returns c = search rules
+returns-then-pattern-lt9218868437227405312 : tie.Need-returns-then-pattern-lt9218868437227405312
+returns-then-pattern-lt9218868437227405312 c = search rules
 
-returns_2 : tie.Need-returns-2
-returns_2 c = search rules
+returns-else-pattern-lt9218868437227405312 : tie.Need-returns-else-pattern-lt9218868437227405312
+returns-else-pattern-lt9218868437227405312 c = search rules
 
-returns_3 : tie.Need-returns-3
-returns_3 c = search rules
+returns-else-x : tie.Need-returns-else-x
+returns-else-x c = search rules
 
 pub half_pattern_spec : {M : Type 1} → statement M
-half_pattern_spec =
-    tie.close
-    (tie.spec float_to_bits_pattern add_pattern float_from_bits_result returns returns_2 returns_3)
+half_pattern_spec = tie.close (tie.spec float_to_bits-pattern overflow_add-pattern float_from_bits-result returns-then-pattern-lt9218868437227405312 returns-else-pattern-lt9218868437227405312 returns-else-x)

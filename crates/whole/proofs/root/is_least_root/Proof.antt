@@ -12,29 +12,29 @@ use Rattle.whole.specs.laws.Squares.{square_le}
 use Rattle.whole.proofs.root.is_least_root.Statement.{statement}
 use Rattle.whole.proofs.root.is_least_root.Tie as tie
 
-returns : tie.Need-returns
-returns c = let s = c.before.args.s in root_test_zero s ∙ ap (λ (q : ℕ). eqb q (least_root s)) (sym c.if1.true)
+returns-then-q-eq0 : tie.Need-returns-then-q-eq0
+returns-then-q-eq0 c = let s = c.args.s in root_test_zero s ∙ ap (λ (q : ℕ). eqb q (least_root s)) (sym c.if-q-eq0.true)
 
-returns_2 : tie.Need-returns-2
-returns_2 c =
+returns-then-q-gt-MOST_ROOT : tie.Need-returns-then-q-gt-MOST_ROOT
+returns-then-q-gt-MOST_ROOT c =
     let s = c.before.before in
     let bound : least_root s.args.s ≤ 4194304 = (least_root_lem s.args.s).least 4194304 (omega (arith, s.requires)) in
     sym (ne_eqb s.args.q (least_root s.args.s) (λ e. omega arith))
 
-sub_less : tie.Need-overflow-sub-less
-sub_less c = search rules
+overflow_sub-less : tie.Need-overflow_sub-less
+overflow_sub-less c = search rules
 
-mul_if3 : tie.Need-overflow-mul-if3
-mul_if3 c = omega (arith, square_le {m = c.before.before.args.q - 1} {n = 4194304} (omega arith))
+overflow_mul-less : tie.Need-overflow_mul-less
+overflow_mul-less c = omega (arith, square_le {m = c.args.q - 1} {n = 4194304} (omega arith))
 
-returns_3 : tie.Need-returns-3
-returns_3 c = sym (root_test_low _ _ (pos_of_ne-zero c.before.before.if1.false) (omega (arith, c.if3.true)))
+returns-then-s-less : tie.Need-returns-then-s-less
+returns-then-s-less c = sym (root_test_low _ _ (pos_of_ne-zero c.if-q-eq0.false) (omega (arith, c.if-s-less.true)))
 
-mul_result : tie.Need-overflow-mul-result
-mul_result c = omega (arith, square_le {m = c.before.before.before.args.q} {n = 4194304} (omega arith))
+overflow_mul-result : tie.Need-overflow_mul-result
+overflow_mul-result c = omega (arith, square_le {m = c.args.q} {n = 4194304} (omega arith))
 
-returns_4 : tie.Need-returns-4
-returns_4 c = root_test _ _ (pos_of_ne-zero c.before.before.if1.false) (omega (arith, c.if3.false))
+returns : tie.Need-returns
+returns c = root_test _ _ (pos_of_ne-zero c.if-q-eq0.false) (omega (arith, c.if-s-less.false))
 
 pub is_least_root_spec : {M : Type 1} → statement M
-is_least_root_spec = tie.close (tie.spec returns returns_2 sub_less mul_if3 returns_3 mul_result returns_4)
+is_least_root_spec = tie.close (tie.spec returns-then-q-eq0 returns-then-q-gt-MOST_ROOT overflow_sub-less overflow_mul-less returns-then-s-less overflow_mul-result returns)

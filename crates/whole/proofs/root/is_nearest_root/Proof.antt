@@ -12,32 +12,32 @@ use Rattle.whole.specs.laws.Squares.{square_le}
 use Rattle.whole.proofs.root.is_nearest_root.Statement.{statement}
 use Rattle.whole.proofs.root.is_nearest_root.Tie as tie
 
-returns : tie.Need-returns
-returns c = let n = c.before.args.n in nearest_test_zero n ∙ ap (λ (r : ℕ). eqb r (nearest_root n)) (sym c.if1.true)
+returns-then-r-eq0 : tie.Need-returns-then-r-eq0
+returns-then-r-eq0 c = let n = c.args.n in nearest_test_zero n ∙ ap (λ (r : ℕ). eqb r (nearest_root n)) (sym c.if-r-eq0.true)
 
-returns_2 : tie.Need-returns-2
-returns_2 c =
+returns-then-r-gt-MOST_ROOT : tie.Need-returns-then-r-gt-MOST_ROOT
+returns-then-r-gt-MOST_ROOT c =
     let s = c.before.before in
     let bound : nearest_root s.args.n ≤ 4194304 = nearest_least s.args.n 4194304 (omega (arith, s.requires)) in
     sym (ne_eqb s.args.r (nearest_root s.args.n) (λ e. omega arith))
 
-mul_square : tie.Need-overflow-mul-square
-mul_square c = omega (arith, square_le {m = c.before.before.args.r} {n = 4194304} (omega arith))
+overflow_mul-square : tie.Need-overflow_mul-square
+overflow_mul-square c = omega (arith, square_le {m = c.args.r} {n = 4194304} (omega arith))
 
 -- r is at most its square
-sub_if3 : tie.Need-overflow-sub-if3
-sub_if3 c =
-    let r = c.before.before.args.r in
-    omega (arith, mul-le-mul {n₁ = 1} {m₁ = r} {n₂ = r} {m₂ = r} (pos_of_ne-zero c.before.if1.false) (omega arith))
+overflow_sub-square : tie.Need-overflow_sub-square
+overflow_sub-square c =
+    let r = c.args.r in
+    omega (arith, mul-le-mul {n₁ = 1} {m₁ = r} {n₂ = r} {m₂ = r} (pos_of_ne-zero c.if-r-eq0.false) (omega arith))
 
-returns_3 : tie.Need-returns-3
-returns_3 c = sym (nearest_test_low _ _ (pos_of_ne-zero c.before.before.if1.false) (omega (arith, c.if3.true)))
+returns-then-n-square : tie.Need-returns-then-n-square
+returns-then-n-square c = sym (nearest_test_low _ _ (pos_of_ne-zero c.if-r-eq0.false) (omega (arith, c.if-n-square.true)))
 
-add_result : tie.Need-overflow-add-result
-add_result c = search rules
+overflow_add-result : tie.Need-overflow_add-result
+overflow_add-result c = search rules
 
-returns_4 : tie.Need-returns-4
-returns_4 c = nearest_test _ _ (pos_of_ne-zero c.before.before.if1.false) (omega (arith, c.if3.false))
+returns : tie.Need-returns
+returns c = nearest_test _ _ (pos_of_ne-zero c.if-r-eq0.false) (omega (arith, c.if-n-square.false))
 
 pub is_nearest_root_spec : {M : Type 1} → statement M
-is_nearest_root_spec = tie.close (tie.spec returns returns_2 mul_square sub_if3 returns_3 add_result returns_4)
+is_nearest_root_spec = tie.close (tie.spec returns-then-r-eq0 returns-then-r-gt-MOST_ROOT overflow_mul-square overflow_sub-square returns-then-n-square overflow_add-result returns)

@@ -16,71 +16,53 @@ square_small n = square_le {n = 4294967295} (omega arith)
 gap_small : (n s : ℕ) → n % 4294967296 * (n % 4294967296) - s + 1 ≤ 4294967295 * 4294967295 + 1
 gap_small n s = omega (arith, square_small n)
 
+returns-then-s-eq0 : tie.Need-returns-then-s-eq0
+returns-then-s-eq0 c = rw c.if-s-eq0.true (least_root_is (record { above = omega arith; least = λ k h. omega arith }))
+
+root_within-requires : tie.Need-root_within-requires
+root_within-requires c κs = search rules
+
+returns-then-s-le65536 : tie.Need-returns-then-s-le65536
+returns-then-s-le65536 c = search rules
+
+near_root-parts-requires : tie.Need-near_root-parts-requires
+near_root-parts-requires c κs = search rules
+
+float_to_bits-g : tie.Need-float_to_bits-g
+float_to_bits-g c = itself_no_nan _ c.if-parts.true
+
+overflow_mul-square : tie.Need-overflow_mul-square
+overflow_mul-square c = Fits-le (square_small _) (Fits-lit tt)
+
+overflow_sub-s : tie.Need-overflow_sub-s
+overflow_sub-s c = search rules
+
+overflow_mul-g : tie.Need-overflow_mul-g
+overflow_mul-g c = search rules
+
+overflow_add-g : tie.Need-overflow_add-g
+overflow_add-g c = search rules
+
+overflow_add-result : tie.Need-overflow_add-result
+overflow_add-result c = search rules
+
+returns-then-s-square : tie.Need-returns-then-s-square
+returns-then-s-square c = least_root_up _ _ c.if-square-s.true c.if-s-square.true
+
+overflow_add-square : tie.Need-overflow_add-square
+overflow_add-square c = Fits-le (gap_small _ _) (Fits-lit tt)
+
+overflow_mul-g-else-square-s : tie.Need-overflow_mul-g-else-square-s
+overflow_mul-g-else-square-s c = search rules
+
+returns-then-square-s-2 : tie.Need-returns-then-square-s-2
+returns-then-square-s-2 c = least_root_down _ _ c.if-square-s.false c.if-square-s-2.true
+
+root_within-requires-2 : tie.Need-root_within-requires-2
+root_within-requires-2 c κs = search rules
+
 returns : tie.Need-returns
-returns c = rw c.if1.true (least_root_is (record { above = omega arith; least = λ k h. omega arith }))
-
-root_within_requires : tie.Need-root-within-requires
-root_within_requires c κs = search rules
-
-returns_2 : tie.Need-returns-2
-returns_2 c = search rules
-
-near_root_requires : tie.Need-near-root-requires
-near_root_requires c κs = search rules
-
-float_to_bits_g : tie.Need-float-to-bits-g
-float_to_bits_g c = itself_no_nan _ c.if4.true
-
-mul_square : tie.Need-overflow-mul-square
-mul_square c = Fits-le (square_small _) (Fits-lit tt)
-
-sub_if6 : tie.Need-overflow-sub-if6
-sub_if6 c = search rules
-
-mul_if6 : tie.Need-overflow-mul-if6
-mul_if6 c = search rules
-
-add_if6 : tie.Need-overflow-add-if6
-add_if6 c = search rules
-
-add_result : tie.Need-overflow-add-result
-add_result c = search rules
-
-returns_3 : tie.Need-returns-3
-returns_3 c = least_root_up _ _ c.before.if5.true c.if6.true
-
-add_if7 : tie.Need-overflow-add-if7
-add_if7 c = Fits-le (gap_small _ _) (Fits-lit tt)
-
-mul_if7 : tie.Need-overflow-mul-if7
-mul_if7 c = search rules
-
-returns_4 : tie.Need-returns-4
-returns_4 c = least_root_down _ _ c.before.if5.false c.if7.true
-
-root_within_requires_2 : tie.Need-root-within-requires-2
-root_within_requires_2 c κs = search rules
-
-returns_5 : tie.Need-returns-5
-returns_5 c = search rules
+returns c = search rules
 
 pub least_root_spec : {M : Type 1} → statement M
-least_root_spec =
-    tie.close
-    (tie.spec
-    returns
-    root_within_requires
-    returns_2
-    near_root_requires
-    float_to_bits_g
-    mul_square
-    sub_if6
-    mul_if6
-    add_if6
-    add_result
-    returns_3
-    add_if7
-    mul_if7
-    returns_4
-    root_within_requires_2
-    returns_5)
+least_root_spec = tie.close (tie.spec returns-then-s-eq0 root_within-requires returns-then-s-le65536 near_root-parts-requires float_to_bits-g overflow_mul-square overflow_sub-s overflow_mul-g overflow_add-g overflow_add-result returns-then-s-square overflow_add-square overflow_mul-g-else-square-s returns-then-square-s-2 root_within-requires-2 returns)

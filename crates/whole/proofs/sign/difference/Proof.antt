@@ -7,35 +7,35 @@ use Rattle.whole.specs.laws.Sign.{difference_down, difference_up}
 use Rattle.whole.proofs.sign.difference.Statement.{statement}
 use Rattle.whole.proofs.sign.difference.Tie as tie
 
-offset_requires : tie.Need-offset-requires
-offset_requires c κs = search rules
+offset-f-requires : tie.Need-offset-f-requires
+offset-f-requires c κs = search rules
 
-offset_requires_2 : tie.Need-offset-requires-2
-offset_requires_2 c κs = search rules
+offset-t-requires : tie.Need-offset-t-requires
+offset-t-requires c κs = search rules
 
-sub_t7 : tie.Need-overflow-sub-t7
-sub_t7 c = search rules
+overflow_sub-result : tie.Need-overflow_sub-result
+overflow_sub-result c = search rules
 
 -- the two offsets
-from_is : (c : tie.After-offset2) → c.before.offset.result ≡ offset_of c.before.before.args.from
-from_is c = let f = c.before.before.ranges.from in simp to_z-of_z at c.before.offset.ensures
+from_is : (c : tie.After-offset-t) → c.offset-f.result ≡ offset_of c.args.from
+from_is c = let f = c.ranges.from in simp to_z-of_z at c.offset-f.ensures
 
-to_is : (c : tie.After-offset2) → c.offset2.result ≡ offset_of c.before.before.args.to
-to_is c = let f = c.before.before.ranges.to in simp to_z-of_z at c.offset2.ensures
+to_is : (c : tie.After-offset-t) → c.offset-t.result ≡ offset_of c.args.to
+to_is c = let f = c.ranges.to in simp to_z-of_z at c.offset-t.ensures
 
-returns : tie.Need-returns
-returns c =
+returns-then-t-f : tie.Need-returns-then-t-f
+returns-then-t-f c =
     let s = c.before.before.before in
     rw (from_is c.before, to_is c.before)
     (difference_down s.args.from s.args.to s.ranges.from s.ranges.to
-    (rw (from_is c.before, to_is c.before) at c.if1.true))
+    (rw (from_is c.before, to_is c.before) at c.if-t-f.true))
 
-returns_2 : tie.Need-returns-2
-returns_2 c =
+returns-else-t-f : tie.Need-returns-else-t-f
+returns-else-t-f c =
     let s = c.before.before.before in
     rw (from_is c.before, to_is c.before)
     (difference_up s.args.from s.args.to s.ranges.from s.ranges.to
-    (rw (from_is c.before, to_is c.before) at c.if1.false))
+    (rw (from_is c.before, to_is c.before) at c.if-t-f.false))
 
 pub difference_spec : {M : Type 1} → statement M
-difference_spec = tie.close (tie.spec offset_requires offset_requires_2 sub_t7 returns returns_2)
+difference_spec = tie.close (tie.spec offset-f-requires offset-t-requires overflow_sub-result returns-then-t-f returns-else-t-f)

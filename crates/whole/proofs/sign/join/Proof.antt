@@ -26,44 +26,42 @@ module _ (m : ℕ) (above : 0 < m) (below : m ≤ 2 ^ 63) where
   negative_is : negsuc 0 -ℤ to_z w64 (m - 1) ≡ neg_ℤ (pos m)
   negative_is = rw cast_is (ring (var (negsuc 0) ⊖ num (m - 1)) (neg (num m)) (omega arith))
 
-some : (c : tie.Else2) → 0 < c.before.before.args.p.magnitude
-some c = pos_of_ne-zero c.if2.false
+some : (c : tie.Else-m-eq0) → 0 < c.args.p.magnitude
+some c = pos_of_ne-zero c.if-m-eq0.false
 
-small : (c : tie.Else2) → c.before.before.args.p.magnitude ≤ 2 ^ 63
+small : (c : tie.Else-m-eq0) → c.args.p.magnitude ≤ 2 ^ 63
 small c = let s = c.before.before in signed_fits s.args.p.negative s.args.p.magnitude s.requires
 
-sub_result : tie.Need-overflow-sub-result
-sub_result c = search rules
+overflow_sub-result : tie.Need-overflow_sub-result
+overflow_sub-result c = search rules
 
-cast_result : tie.Need-overflow-cast-result
-cast_result c = omega (arith, small c)
+overflow_cast-result : tie.Need-overflow_cast-result
+overflow_cast-result c = omega (arith, small c)
 
-sub_result_2 : tie.Need-overflow-sub-result-2
-sub_result_2 c =
+overflow_sub-result-else-m-eq0 : tie.Need-overflow_sub-result-else-m-eq0
+overflow_sub-result-else-m-eq0 c =
     let s = c.before.before in
     let m = s.args.p.magnitude in
-    rw (negative_is m (some c) (small c)) (flagged true m c.before.if1.true s.requires)
+    rw (negative_is m (some c) (small c)) (flagged true m c.if-p.true s.requires)
 
-cast_result_2 : tie.Need-overflow-cast-result-2
-cast_result_2 c = flagged false _ c.if1.false c.before.requires
+overflow_cast-result-else-p : tie.Need-overflow_cast-result-else-p
+overflow_cast-result-else-p c = flagged false _ c.if-p.false c.requires
 
-returns : tie.Need-returns
-returns c = let s = c.before.before in rw (c.before.if1.true, c.if2.true)
+returns-then-m-eq0 : tie.Need-returns-then-m-eq0
+returns-then-m-eq0 c = let s = c.before.before in rw (c.if-p.true, c.if-m-eq0.true)
 
-returns_2 : tie.Need-returns-2
-returns_2 c =
+returns-else-m-eq0 : tie.Need-returns-else-m-eq0
+returns-else-m-eq0 c =
     let s = c.before.before in
-    let f = sub_result_2 c in
+    let f = overflow_sub-result-else-m-eq0 c in
     to_z-of_z f ∙ negative_is s.args.p.magnitude (some c) (small c)
-    ∙ ap (λ (b : Bool). signed b s.args.p.magnitude) (sym c.before.if1.true)
+    ∙ ap (λ (b : Bool). signed b s.args.p.magnitude) (sym c.if-p.true)
 
-returns_3 : tie.Need-returns-3
-returns_3 c =
-    let p = c.before.args.p in
-    let f = flagged false p.magnitude c.if1.false c.before.requires in
-    to_z_pos w64 f.sfits ∙ ap (λ (b : Bool). signed b p.magnitude) (sym c.if1.false)
+returns-else-p : tie.Need-returns-else-p
+returns-else-p c =
+    let p = c.args.p in
+    let f = flagged false p.magnitude c.if-p.false c.requires in
+    to_z_pos w64 f.sfits ∙ ap (λ (b : Bool). signed b p.magnitude) (sym c.if-p.false)
 
 pub join_spec : {M : Type 1} → statement M
-join_spec =
-    tie.close
-    (tie.spec sub_result cast_result sub_result_2 cast_result_2 returns returns_2 returns_3)
+join_spec = tie.close (tie.spec overflow_sub-result overflow_cast-result overflow_sub-result-else-m-eq0 overflow_cast-result-else-p returns-then-m-eq0 returns-else-m-eq0 returns-else-p)

@@ -14,50 +14,48 @@ use Rattle.whole.proofs.sign.offset.Statement.{statement}
 use Rattle.whole.proofs.sign.offset.Tie as tie
 
 -- where the test holds, x + 2^63 is an i64 that is not negative
-below_zero : (c : tie.Then1) → c.before.args.x ≺ pos 0
-below_zero c = test_lt c.before.args.x (pos 0) c.before.ranges.x (sfits_lit tt) c.if1.true
+below_zero : (c : tie.Then-x-lt0) → c.args.x ≺ pos 0
+below_zero c = test_lt c.args.x (pos 0) c.ranges.x (sfits_lit tt) c.if-x-lt0.true
 
-moved : (c : tie.Then1) → SFits w64 (c.before.args.x +ℤ pos (2 ^ 63))
+moved : (c : tie.Then-x-lt0) → SFits w64 (c.args.x +ℤ pos (2 ^ 63))
 moved c =
     let h = below_zero c in
-    fits (added (parts c.before.args.x) (natural (2 ^ 63))) (omega arith)
-    (omega (arith, range c.before.args.x c.before.ranges.x))
+    fits (added (parts c.args.x) (natural (2 ^ 63))) (omega arith)
+    (omega (arith, range c.args.x c.ranges.x))
 
-moved_up : (c : tie.Then1) → pos 0 ≼ c.before.args.x +ℤ pos (2 ^ 63)
+moved_up : (c : tie.Then-x-lt0) → pos 0 ≼ c.args.x +ℤ pos (2 ^ 63)
 moved_up c =
-    omega (arith, added (parts c.before.args.x) (natural (2 ^ 63)), range c.before.args.x c.before.ranges.x)
+    omega (arith, added (parts c.args.x) (natural (2 ^ 63)), range c.args.x c.ranges.x)
 
-not_below : (c : tie.Else1) → pos 0 ≼ c.before.args.x
-not_below c = test_not_lt c.before.args.x (pos 0) c.before.ranges.x (sfits_lit tt) c.if1.false
+not_below : (c : tie.Else-x-lt0) → pos 0 ≼ c.args.x
+not_below c = test_not_lt c.args.x (pos 0) c.ranges.x (sfits_lit tt) c.if-x-lt0.false
 
 -- and its magnitude is its positive part
-size_is : (c : tie.Else1) → nat_abs c.before.args.x + down c.before.args.x ≡ up c.before.args.x
-size_is c = let h = not_below c in size_up (parts c.before.args.x) (omega arith)
+size_is : (c : tie.Else-x-lt0) → nat_abs c.args.x + down c.args.x ≡ up c.args.x
+size_is c = let h = not_below c in size_up (parts c.args.x) (omega arith)
 
-sub_result : tie.Need-overflow-sub-result
-sub_result c = let f = c.before.ranges.x in simp to_z-of_z (moved c)
+overflow_sub-result : tie.Need-overflow_sub-result
+overflow_sub-result c = let f = c.ranges.x in simp to_z-of_z (moved c)
 
-cast_result : tie.Need-overflow-cast-result
-cast_result c = let f = c.before.ranges.x in let g = moved c in simp to_z-of_z (to_unsigned _ (moved_up c) g)
+overflow_cast-result : tie.Need-overflow_cast-result
+overflow_cast-result c = let f = c.ranges.x in let g = moved c in simp to_z-of_z (to_unsigned _ (moved_up c) g)
 
-cast_result_2 : tie.Need-overflow-cast-result-2
-cast_result_2 c = let f = c.before.ranges.x in simp to_z-of_z (to_unsigned _ (not_below c) f)
+overflow_cast-result-else-x-lt0 : tie.Need-overflow_cast-result-else-x-lt0
+overflow_cast-result-else-x-lt0 c = let f = c.ranges.x in simp to_z-of_z (to_unsigned _ (not_below c) f)
 
-add_result : tie.Need-overflow-add-result
-add_result c =
-    let f = c.before.ranges.x in
-    simp to_z-of_z (omega (arith, size_is c, range c.before.args.x f))
+overflow_add-result : tie.Need-overflow_add-result
+overflow_add-result c =
+    let f = c.ranges.x in
+    simp to_z-of_z (omega (arith, size_is c, range c.args.x f))
 
-returns : tie.Need-returns
+returns-then-x-lt0 : tie.Need-returns-then-x-lt0
 unfolding offset_of
-returns c = let f = c.before.ranges.x in let g = moved c in simp to_z-of_z
+returns-then-x-lt0 c = let f = c.ranges.x in let g = moved c in simp to_z-of_z
 
-returns_2 : tie.Need-returns-2
-returns_2 c =
-    let f = c.before.ranges.x in
-    simp to_z-of_z (omega (arith, size_is c, offset_sum c.before.args.x f))
+returns-else-x-lt0 : tie.Need-returns-else-x-lt0
+returns-else-x-lt0 c =
+    let f = c.ranges.x in
+    simp to_z-of_z (omega (arith, size_is c, offset_sum c.args.x f))
 
 pub offset_spec : {M : Type 1} → statement M
-offset_spec =
-    tie.close
-    (tie.spec sub_result cast_result cast_result_2 add_result returns returns_2)
+offset_spec = tie.close (tie.spec overflow_sub-result overflow_cast-result overflow_cast-result-else-x-lt0 overflow_add-result returns-then-x-lt0 returns-else-x-lt0)

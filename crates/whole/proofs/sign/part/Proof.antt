@@ -9,41 +9,41 @@ use Rattle.whole.specs.laws.Sign.{short, short_up, short_fits, part_below, part_
 use Rattle.whole.proofs.sign.part.Statement.{statement}
 use Rattle.whole.proofs.sign.part.Tie as tie
 
-not_below : (c : tie.Then1) → pos 0 ≼ c.before.args.x
-not_below c = test_le (pos 0) c.before.args.x (sfits_lit tt) c.before.ranges.x c.if1.true
+not_below : (c : tie.Then-x-ge0) → pos 0 ≼ c.args.x
+not_below c = test_le (pos 0) c.args.x (sfits_lit tt) c.ranges.x c.if-x-ge0.true
 
-below_zero : (c : tie.Else1) → c.before.args.x ≺ pos 0
-below_zero c = test_not_le (pos 0) c.before.args.x (sfits_lit tt) c.before.ranges.x c.if1.false
+below_zero : (c : tie.Else-x-ge0) → c.args.x ≺ pos 0
+below_zero c = test_not_le (pos 0) c.args.x (sfits_lit tt) c.ranges.x c.if-x-ge0.false
 
-one_short : (c : tie.Else1) → SFits w64 (negsuc 0 -ℤ c.before.args.x)
-one_short c = short_fits c.before.args.x (below_zero c) c.before.ranges.x
+one_short : (c : tie.Else-x-ge0) → SFits w64 (negsuc 0 -ℤ c.args.x)
+one_short c = short_fits c.args.x (below_zero c) c.ranges.x
 
-cast_t3 : tie.Need-overflow-cast-t3
-cast_t3 c = let f = c.before.ranges.x in simp to_z-of_z (to_unsigned _ (not_below c) f)
+overflow_cast-result : tie.Need-overflow_cast-result
+overflow_cast-result c = let f = c.ranges.x in simp to_z-of_z (to_unsigned _ (not_below c) f)
+
+returns-then-x-ge0 : tie.Need-returns-then-x-ge0
+returns-then-x-ge0 c = let f = c.ranges.x in simp to_z-of_z (part_above c.args.x (not_below c))
+
+overflow_sub-result : tie.Need-overflow_sub-result
+overflow_sub-result c = let f = c.ranges.x in simp to_z-of_z (one_short c)
+
+overflow_cast-result-2 : tie.Need-overflow_cast-result-2
+overflow_cast-result-2 c =
+    let f = c.ranges.x in
+    let g = one_short c in
+    simp to_z-of_z (to_unsigned _ (short_up c.args.x (below_zero c)) g)
+
+overflow_add-result : tie.Need-overflow_add-result
+overflow_add-result c =
+    let f = c.ranges.x in
+    let g = one_short c in
+    simp to_z-of_z (omega (arith, short c.args.x (below_zero c), range c.args.x f))
 
 returns : tie.Need-returns
-returns c = let f = c.before.ranges.x in simp to_z-of_z (part_above c.before.args.x (not_below c))
-
-sub_t4 : tie.Need-overflow-sub-t4
-sub_t4 c = let f = c.before.ranges.x in simp to_z-of_z (one_short c)
-
-cast_t5 : tie.Need-overflow-cast-t5
-cast_t5 c =
-    let f = c.before.ranges.x in
+returns c =
+    let f = c.ranges.x in
     let g = one_short c in
-    simp to_z-of_z (to_unsigned _ (short_up c.before.args.x (below_zero c)) g)
-
-add_t6 : tie.Need-overflow-add-t6
-add_t6 c =
-    let f = c.before.ranges.x in
-    let g = one_short c in
-    simp to_z-of_z (omega (arith, short c.before.args.x (below_zero c), range c.before.args.x f))
-
-returns_2 : tie.Need-returns-2
-returns_2 c =
-    let f = c.before.ranges.x in
-    let g = one_short c in
-    simp to_z-of_z (part_below c.before.args.x (below_zero c))
+    simp to_z-of_z (part_below c.args.x (below_zero c))
 
 pub part_spec : {M : Type 1} → statement M
-part_spec = tie.close (tie.spec cast_t3 returns sub_t4 cast_t5 add_t6 returns_2)
+part_spec = tie.close (tie.spec overflow_cast-result returns-then-x-ge0 overflow_sub-result overflow_cast-result-2 overflow_add-result returns)

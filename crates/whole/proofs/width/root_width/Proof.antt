@@ -28,40 +28,38 @@ module _ (w : ℕ) (h : w ≤ 64) where
 
 -- the width of a word
 word : (c : tie.After-width) → c.width.result ≤ 64
-word c = rw c.width.ensures (width_least c.before.args.n 64 c.before.ranges.n.fits)
+word c = rw c.width.ensures (width_least c.args.n 64 c.ranges.n.fits)
 
-half_is : (c : tie.After-width) → (c.width.result + 1) / 2 ≡ (width_of c.before.args.n + 1) / 2
+half_is : (c : tie.After-width) → (c.width.result + 1) / 2 ≡ (width_of c.args.n + 1) / 2
 half_is c = ap (λ (t : ℕ). (t + 1) / 2) c.width.ensures
 
-width_requires : tie.Need-width-requires
-width_requires c κs = search rules
+width-requires : tie.Need-width-requires
+width-requires c κs = search rules
 
-add_half : tie.Need-overflow-add-half
-add_half c = omega (arith, word c)
+overflow_add-half : tie.Need-overflow_add-half
+overflow_add-half c = omega (arith, word c)
 
-shl_top : tie.Need-overflow-shl-top
-shl_top c = omega (arith, word c)
+overflow_shl-top : tie.Need-overflow_shl-top
+overflow_shl-top c = omega (arith, word c)
 
-sub_if1 : tie.Need-overflow-sub-if1
-sub_if1 c = rw (top_is c.width.result (word c)) (pow_pos _)
+overflow_sub-top : tie.Need-overflow_sub-top
+overflow_sub-top c = rw (top_is c.width.result (word c)) (pow_pos _)
 
-mul_if1 : tie.Need-overflow-mul-if1
-mul_if1 c = rw (top_is c.width.result (word c)) (product_fits c.width.result (word c))
+overflow_mul-top : tie.Need-overflow_mul-top
+overflow_mul-top c = rw (top_is c.width.result (word c)) (product_fits c.width.result (word c))
 
-add_result : tie.Need-overflow-add-result
-add_result c = search rules
+overflow_add-result : tie.Need-overflow_add-result
+overflow_add-result c = search rules
 
-returns : tie.Need-returns
-returns c =
+returns-then-n-top : tie.Need-returns-then-n-top
+returns-then-n-top c =
     let w = c.before in
-    root_width_half w.before.args.n _ (half_is w) (rw (top_is w.width.result (word w)) at c.if1.true)
+    root_width_half w.args.n _ (half_is w) (rw (top_is w.width.result (word w)) at c.if-n-top.true)
 
-returns_2 : tie.Need-returns-2
-returns_2 c =
+returns-else-n-top : tie.Need-returns-else-n-top
+returns-else-n-top c =
     let w = c.before in
-    root_width_more w.before.args.n _ (half_is w) (rw (top_is w.width.result (word w)) at c.if1.false)
+    root_width_more w.args.n _ (half_is w) (rw (top_is w.width.result (word w)) at c.if-n-top.false)
 
 pub root_width_spec : {M : Type 1} → statement M
-root_width_spec =
-    tie.close
-    (tie.spec width_requires add_half shl_top sub_if1 mul_if1 add_result returns returns_2)
+root_width_spec = tie.close (tie.spec width-requires overflow_add-half overflow_shl-top overflow_sub-top overflow_mul-top overflow_add-result returns-then-n-top returns-else-n-top)

@@ -5,14 +5,14 @@ use Rattle.whole.specs.laws.Width.{width_by_zeros}
 use Rattle.whole.proofs.width.width.Statement.{statement}
 use Rattle.whole.proofs.width.width.Tie as tie
 
-cast_result : tie.Need-overflow-cast-result
-cast_result c = omega (arith, leading_le 64 c.args.n)
+overflow_cast-result : tie.Need-overflow_cast-result
+overflow_cast-result c = omega (arith, leading_le 64 c.args.n)
 
-sub_result : tie.Need-overflow-sub-result
-sub_result c = omega (arith, leading_le 64 c.args.n)
+overflow_sub-result : tie.Need-overflow_sub-result
+overflow_sub-result c = omega (arith, leading_le 64 c.args.n)
 
 returns : tie.Need-returns
 returns c = width_by_zeros 64 c.args.n c.ranges.n.fits
 
 pub width_spec : {M : Type 1} → statement M
-width_spec = tie.close (tie.spec cast_result sub_result returns)
+width_spec = tie.close (tie.spec overflow_cast-result overflow_sub-result returns)

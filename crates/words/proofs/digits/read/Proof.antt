@@ -2,95 +2,77 @@
 use Prim.Native.Nat.{◌-◌}
 use mathlib.Core.Path.{sym, ◌∙◌}
 use native.Mathlib.Omega.{arith}
-use borrow.Author.Tests.{not-true, not-false}
 use Rattle.words.specs.laws.Digits.{digit_byte}
 use Rattle.words.specs.laws.Run.{Counted, counted_start, counted_next, counted_stop, counted_full, sized_below}
 use borrow.Author.Rules.{rules}
 use Rattle.words.proofs.digits.read.Statement.{statement}
 use Rattle.words.proofs.digits.read.Tie as tie
 
-abbrev invariant_loop : tie.invariant_loop
-invariant_loop s from most value d₀ d = Counted s from most value d
+abbrev invariant-loop-d : tie.invariant-loop-d
+invariant-loop-d s from most value d₀ d = Counted s from most value d
 
-abbrev decreases_loop : tie.decreases_loop
-decreases_loop s from most value d₀ d = most - d.count
+abbrev decreases-loop-d : tie.decreases-loop-d
+decreases-loop-d s from most value d₀ d = most - d.count
 
-loop_holds : tie.Need-loop-init invariant_loop decreases_loop
-loop_holds c = let z = c.before.args in counted_start z.s.now z.from z.most z.value (search rules)
+loop-d-init : tie.Need-loop-d-init invariant-loop-d decreases-loop-d
+loop-d-init c = let z = c.args in counted_start z.s.now z.from z.most z.value (search rules)
 
-add_byte_at : tie.Need-overflow-add-byte-at invariant_loop decreases_loop
-add_byte_at c = search rules
+overflow_add-from : tie.Need-overflow_add-from invariant-loop-d decreases-loop-d
+overflow_add-from c = search rules
 
-byte_at_requires : tie.Need-byte-at-requires invariant_loop decreases_loop
-byte_at_requires c κs = search rules
+byte_at-b-requires : tie.Need-byte_at-b-requires invariant-loop-d decreases-loop-d
+byte_at-b-requires c κs = search rules
 
-is_digit_requires : tie.Need-is-digit-requires invariant_loop decreases_loop
-is_digit_requires c κs = search rules
+is_digit-requires : tie.Need-is_digit-requires invariant-loop-d decreases-loop-d
+is_digit-requires c κs = search rules
 
-returns : tie.Need-returns invariant_loop decreases_loop
-returns c =
+returns-then-not-is_digit : tie.Need-returns-then-not-is_digit invariant-loop-d decreases-loop-d
+returns-then-not-is_digit c =
     let b = c.before.before in
-    let v = b.before.before.before.before.loop in
-    (counted_stop v.invariant _ b.byte_at.ensures (sym c.before.is_digit.ensures ∙ not-true _ c.if2.true), v.invariant.sized)
+    let v = b.loop-d in
+    (counted_stop v.invariant _ b.byte_at-b.ensures (sym c.is_digit.ensures ∙ c.if-not-is_digit.true), v.invariant.sized)
 
-mul_t10 : tie.Need-overflow-mul-t10 invariant_loop decreases_loop
-mul_t10 c =
+overflow_mul-d : tie.Need-overflow_mul-d invariant-loop-d decreases-loop-d
+overflow_mul-d c =
     let v = c.before.before.before.before.before.before.before in
-    let p = v.before.before.requires in
-    omega (arith, sized_below v.loop.invariant.sized p.1.0 p.1.1)
+    let p = v.requires in
+    omega (arith, sized_below v.loop-d.invariant.sized p.1.0 p.1.1)
 
-sub_t11 : tie.Need-overflow-sub-t11 invariant_loop decreases_loop
-sub_t11 c =
+overflow_sub-d : tie.Need-overflow_sub-d invariant-loop-d decreases-loop-d
+overflow_sub-d c =
     let y = c.before.before in
-    let b = digit_byte y.before.byte_at.result (sym y.is_digit.ensures ∙ not-false _ c.before.if2.false) in
+    let b = digit_byte y.byte_at-b.result (sym y.is_digit.ensures ∙ c.if-not-is_digit.false) in
     b.0
 
-cast_t12 : tie.Need-overflow-cast-t12 invariant_loop decreases_loop
-cast_t12 c =
+overflow_cast-d : tie.Need-overflow_cast-d invariant-loop-d decreases-loop-d
+overflow_cast-d c =
     let y = c.before.before in
-    let b = digit_byte y.before.byte_at.result (sym y.is_digit.ensures ∙ not-false _ c.before.if2.false) in
+    let b = digit_byte y.byte_at-b.result (sym y.is_digit.ensures ∙ c.if-not-is_digit.false) in
     omega arith
 
-add_t13 : tie.Need-overflow-add-t13 invariant_loop decreases_loop
-add_t13 c =
+overflow_add-d : tie.Need-overflow_add-d invariant-loop-d decreases-loop-d
+overflow_add-d c =
     let y = c.before.before in
-    let b = digit_byte y.before.byte_at.result (sym y.is_digit.ensures ∙ not-false _ c.before.if2.false) in
+    let b = digit_byte y.byte_at-b.result (sym y.is_digit.ensures ∙ c.if-not-is_digit.false) in
     let v = y.before.before.before.before.before in
-    let p = v.before.before.requires in
-    omega (arith, sized_below v.loop.invariant.sized p.1.0 p.1.1)
+    let p = v.requires in
+    omega (arith, sized_below v.loop-d.invariant.sized p.1.0 p.1.1)
 
-add_t8 : tie.Need-overflow-add-t8 invariant_loop decreases_loop
-add_t8 c = search rules
+overflow_add-d-in-loop-d : tie.Need-overflow_add-d-in-loop-d invariant-loop-d decreases-loop-d
+overflow_add-d-in-loop-d c = search rules
 
-loop_less : tie.Need-loop-smaller invariant_loop decreases_loop
-loop_less c = search rules
+loop-d-smaller : tie.Need-loop-d-smaller invariant-loop-d decreases-loop-d
+loop-d-smaller c = search rules
 
-loop_again : tie.Need-loop-preserved invariant_loop decreases_loop
-loop_again c =
+loop-d-preserved : tie.Need-loop-d-preserved invariant-loop-d decreases-loop-d
+loop-d-preserved c =
     let d = c.before.before in
     let b = d.before.before in
-    let v = b.before.before.before.before.loop in
-    counted_next v.invariant _ b.byte_at.ensures (sym d.before.is_digit.ensures ∙ not-false _ d.if2.false) (search rules)
+    let v = b.loop-d in
+    counted_next v.invariant _ b.byte_at-b.ensures (sym d.is_digit.ensures ∙ d.if-not-is_digit.false) (search rules)
 
-returns_2 : tie.Need-returns-2 invariant_loop decreases_loop
-returns_2 c = let v = c.before.before.loop in (counted_full v.invariant c.if1.false, v.invariant.sized)
+returns : tie.Need-returns invariant-loop-d decreases-loop-d
+returns c = let v = c.loop-d in (counted_full v.invariant c.loop-d-test.false, v.invariant.sized)
 
 pub read_spec : {M : Type 1} → statement M
-read_spec =
-    tie.close
-    (tie.spec
-    invariant_loop
-    decreases_loop
-    loop_holds
-    add_byte_at
-    byte_at_requires
-    is_digit_requires
-    returns
-    mul_t10
-    sub_t11
-    cast_t12
-    add_t13
-    add_t8
-    loop_less
-    loop_again
-    returns_2)
+read_spec = tie.close (tie.spec invariant-loop-d decreases-loop-d loop-d-init overflow_add-from byte_at-b-requires is_digit-requires returns-then-not-is_digit overflow_mul-d overflow_sub-d overflow_cast-d overflow_add-d overflow_add-d-in-loop-d loop-d-smaller loop-d-preserved returns)

@@ -5,14 +5,14 @@ use borrow.Author.Rules.{rules}
 use Rattle.words.proofs.line.formed.Statement.{statement}
 use Rattle.words.proofs.line.formed.Tie as tie
 
-once_requires : tie.Need-once-requires
-once_requires c κs = search rules
+once-requires : tie.Need-once-requires
+once-requires c κs = search rules
 
-words_requires : tie.Need-words-requires
-words_requires c κs = search rules
+words-requires : tie.Need-words-requires
+words-requires c κs = search rules
 
 returns : tie.Need-returns
-returns c = rw (c.words.ensures, c.before.once.ensures ∙ once_found c.before.before.before.requires)
+returns c = rw (c.words.ensures, c.once.ensures ∙ once_found c.requires)
 
 pub formed_spec : {M : Type 1} → statement M
-formed_spec = tie.close (tie.spec once_requires words_requires returns)
+formed_spec = tie.close (tie.spec once-requires words-requires returns)

@@ -3,11 +3,11 @@ use borrow.Author.Rules.{rules}
 use Rattle.words.proofs.line.not_words.Statement.{statement}
 use Rattle.words.proofs.line.not_words.Tie as tie
 
-none_requires : tie.Need-none-requires
-none_requires c κs = search rules
+none-requires : tie.Need-none-requires
+none-requires c κs = search rules
 
 returns : tie.Need-returns
 returns c = rw c.none.ensures
 
 pub not_words_spec : {M : Type 1} → statement M
-not_words_spec = tie.close (tie.spec none_requires returns)
+not_words_spec = tie.close (tie.spec none-requires returns)

@@ -3,14 +3,14 @@ use borrow.Author.Rules.{rules}
 use Rattle.words.proofs.line.refused.Statement.{statement}
 use Rattle.words.proofs.line.refused.Tie as tie
 
-not_words_requires : tie.Need-not-words-requires
-not_words_requires c κs = search rules
+not_words-requires : tie.Need-not_words-requires
+not_words-requires c κs = search rules
 
-end_of_line_requires : tie.Need-end-of-line-requires
-end_of_line_requires c κs = search rules
+end_of_line-requires : tie.Need-end_of_line-requires
+end_of_line-requires c κs = search rules
 
 returns : tie.Need-returns
 returns c = search rules
 
 pub refused_spec : {M : Type 1} → statement M
-refused_spec = tie.close (tie.spec not_words_requires end_of_line_requires returns)
+refused_spec = tie.close (tie.spec not_words-requires end_of_line-requires returns)

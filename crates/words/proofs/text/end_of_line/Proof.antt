@@ -9,44 +9,44 @@ use borrow.Author.Rules.{rules}
 use Rattle.words.proofs.text.end_of_line.Statement.{statement}
 use Rattle.words.proofs.text.end_of_line.Tie as tie
 
-abbrev invariant_loop : tie.invariant_loop
-invariant_loop text from end₀ end = end + length (first_line (drop end text)) ≡ from + length (first_line (drop from text))
+abbrev invariant-loop-end : tie.invariant-loop-end
+invariant-loop-end text from end₀ end = end + length (first_line (drop end text)) ≡ from + length (first_line (drop from text))
 
-abbrev decreases_loop : tie.decreases_loop
-decreases_loop text from end₀ end = length text - end
+abbrev decreases-loop-end : tie.decreases-loop-end
+decreases-loop-end text from end₀ end = length text - end
 
-loop_holds : tie.Need-loop-init invariant_loop decreases_loop
-loop_holds c = refl
+loop-end-init : tie.Need-loop-end-init invariant-loop-end decreases-loop-end
+loop-end-init c = refl
 
 -- a byte of the line is in the text
 on :
-    (c : tie.Then1 invariant_loop decreases_loop)
-    → (let text = c.before.before.before.before.args.text.now in
-    let end = c.before.before.loop.end in
+    (c : tie.In-loop-end invariant-loop-end decreases-loop-end)
+    → (let text = c.args.text.now in
+    let end = c.loop-end.end in
     (end < length text) × (get_or text end 0 ≡ 10 → ⊥))
 on c =
-    let here = sym c.before.in_line.ensures ∙ c.if1.true in
-    in_text c.before.before.before.before.args.text.now c.before.before.loop.end here
+    let here = sym c.in_line.ensures ∙ c.loop-end-test.true in
+    in_text c.args.text.now c.loop-end.end here
 
-in_line_requires : tie.Need-in-line-requires invariant_loop decreases_loop
-in_line_requires c κs = search rules
+in_line-requires : tie.Need-in_line-requires invariant-loop-end decreases-loop-end
+in_line-requires c κs = search rules
 
-add_end : tie.Need-overflow-add-end invariant_loop decreases_loop
-add_end c = let h = (on c).0 in search rules
+overflow_add-end : tie.Need-overflow_add-end invariant-loop-end decreases-loop-end
+overflow_add-end c = let h = (on c).0 in search rules
 
-loop_less : tie.Need-loop-smaller invariant_loop decreases_loop
-loop_less c = omega (arith, (on c).0)
+loop-end-smaller : tie.Need-loop-end-smaller invariant-loop-end decreases-loop-end
+loop-end-smaller c = omega (arith, (on c).0)
 
-loop_again : tie.Need-loop-preserved invariant_loop decreases_loop
-loop_again c =
-    let v = c.before.before.loop in
-    omega (arith, v.invariant, end_later c.before.before.before.before.args.text.now v.end (on c).0 (on c).1)
+loop-end-preserved : tie.Need-loop-end-preserved invariant-loop-end decreases-loop-end
+loop-end-preserved c =
+    let v = c.loop-end in
+    omega (arith, v.invariant, end_later c.args.text.now v.end (on c).0 (on c).1)
 
-returns : tie.Need-returns invariant_loop decreases_loop
+returns : tie.Need-returns invariant-loop-end decreases-loop-end
 returns c =
-    let v = c.before.before.loop in
-    let none = sym c.before.in_line.ensures ∙ c.if1.false in
-    omega (arith, v.invariant, at_end_lem c.before.before.before.before.args.text.now v.end none)
+    let v = c.loop-end in
+    let none = sym c.in_line.ensures ∙ c.loop-end-test.false in
+    omega (arith, v.invariant, at_end_lem c.args.text.now v.end none)
 
 pub end_of_line_spec : {M : Type 1} → statement M
-end_of_line_spec = tie.close (tie.spec invariant_loop decreases_loop loop_holds in_line_requires add_end loop_less loop_again returns)
+end_of_line_spec = tie.close (tie.spec invariant-loop-end decreases-loop-end loop-end-init in_line-requires overflow_add-end loop-end-smaller loop-end-preserved returns)

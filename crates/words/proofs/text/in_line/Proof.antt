@@ -5,14 +5,14 @@ use borrow.Author.Rules.{rules}
 use Rattle.words.proofs.text.in_line.Statement.{statement}
 use Rattle.words.proofs.text.in_line.Tie as tie
 
+returns-then-text-at : tie.Need-returns-then-text-at
+returns-then-text-at c = let a = c.args in rw (end_after_lem a.text.now a.at (omega arith))
+
+bounds-text-at : tie.Need-bounds-text-at
+bounds-text-at c = search rules
+
 returns : tie.Need-returns
-returns c = let a = c.before.args in rw (end_after_lem a.text.now a.at (omega arith))
-
-shared_slice_read_result : tie.Need-shared-slice-read-result
-shared_slice_read_result c = search rules
-
-returns_2 : tie.Need-returns-2
-returns_2 c = let a = c.before.before.args in byte_of_line a.text.now a.at (omega arith)
+returns c = let a = c.args in byte_of_line a.text.now a.at (omega arith)
 
 pub in_line_spec : {M : Type 1} → statement M
-in_line_spec = tie.close (tie.spec returns shared_slice_read_result returns_2)
+in_line_spec = tie.close (tie.spec returns-then-text-at bounds-text-at returns)

@@ -4,39 +4,29 @@ use mathlib.Core.Path.{◌∙◌}
 use Rattle.work.proofs.rest.cycles_left.Statement.{statement}
 use Rattle.work.proofs.rest.cycles_left.Tie as tie
 
-enum_told : tie.Need-enum-told
-enum_told c = search rules
+enum_told-1 : tie.Need-enum_told-1
+enum_told-1 c = search rules
 
-enum_known_work : tie.Need-enum-known-work
-enum_known_work c = search rules
+enum_known-work : tie.Need-enum_known-work
+enum_known-work c = search rules
 
-sub_result : tie.Need-overflow-sub-result
-sub_result c = let p = rw c.before.before.work.given.1 at c.before.before.before.before.requires in p.0.0
+overflow_sub-result : tie.Need-overflow_sub-result
+overflow_sub-result c = let p = rw c.in-Line.is at c.requires in p.0.0
 
-enum_known_work_2 : tie.Need-enum-known-work-2
-enum_known_work_2 c = search rules
+enum_known-work-in-Arc-1 : tie.Need-enum_known-work-in-Arc-1
+enum_known-work-in-Arc-1 c = search rules
 
-cycles_requires : tie.Need-cycles-requires
-cycles_requires c κs = rw c.before.work2.given.1 at c.before.before.before.requires
+cycles-requires : tie.Need-cycles-requires
+cycles-requires c κs = rw c.in-Arc.is at c.requires
 
-returns : tie.Need-returns
-returns c = search rules
+returns-in-Nothing : tie.Need-returns-in-Nothing
+returns-in-Nothing c = search rules
 
-returns_2 : tie.Need-returns-2
-returns_2 c = rw c.before.before.work.given.1
+returns-in-Line : tie.Need-returns-in-Line
+returns-in-Line c = rw c.in-Line.is
 
-returns_3 : tie.Need-returns-3
-returns_3 c = c.cycles.ensures ∙ rw c.before.before.work2.given.1
+returns-in-Arc : tie.Need-returns-in-Arc
+returns-in-Arc c = c.cycles.ensures ∙ rw c.in-Arc.is
 
 pub cycles_left_spec : {M : Type 1} → statement M
-cycles_left_spec =
-    tie.close
-    (tie.spec
-    enum_told
-    enum_known_work
-    sub_result
-    enum_known_work_2
-    cycles_requires
-    returns
-    returns_2
-    returns_3)
+cycles_left_spec = tie.close (tie.spec enum_told-1 enum_known-work overflow_sub-result enum_known-work-in-Arc-1 cycles-requires returns-in-Nothing returns-in-Line returns-in-Arc)

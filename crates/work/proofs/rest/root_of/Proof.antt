@@ -5,39 +5,29 @@ use native.Mathlib.Omega.{arith}
 use Rattle.work.proofs.rest.root_of.Statement.{statement}
 use Rattle.work.proofs.rest.root_of.Tie as tie
 
-enum_told : tie.Need-enum-told
-enum_told c = search rules
+enum_told-1 : tie.Need-enum_told-1
+enum_told-1 c = search rules
 
-enum_known_work : tie.Need-enum-known-work
-enum_known_work c = search rules
+enum_known-work : tie.Need-enum_known-work
+enum_known-work c = search rules
 
-enum_known_work_2 : tie.Need-enum-known-work-2
-enum_known_work_2 c = search rules
+enum_known-work-in-Arc-1 : tie.Need-enum_known-work-in-Arc-1
+enum_known-work-in-Arc-1 c = search rules
 
-mul_nearest_root : tie.Need-overflow-mul-nearest-root
-mul_nearest_root c = omega (arith, rw c.before.before.work2.given.1 at c.before.before.before.before.requires)
+overflow_mul-a : tie.Need-overflow_mul-a
+overflow_mul-a c = omega (arith, rw c.in-Arc.is at c.requires)
 
-nearest_root_requires : tie.Need-nearest-root-requires
-nearest_root_requires c κs = search rules
+nearest_root-requires : tie.Need-nearest_root-requires
+nearest_root-requires c κs = search rules
 
-returns : tie.Need-returns
-returns c = search rules
+returns-in-Nothing : tie.Need-returns-in-Nothing
+returns-in-Nothing c = search rules
 
-returns_2 : tie.Need-returns-2
-returns_2 c = search rules
+returns-in-Line : tie.Need-returns-in-Line
+returns-in-Line c = search rules
 
-returns_3 : tie.Need-returns-3
-returns_3 c = c.nearest_root.ensures ∙ rw c.before.before.before.work2.given.1
+returns-in-Arc : tie.Need-returns-in-Arc
+returns-in-Arc c = c.nearest_root.ensures ∙ rw c.in-Arc.is
 
 pub root_of_spec : {M : Type 1} → statement M
-root_of_spec =
-    tie.close
-    (tie.spec
-    enum_told
-    enum_known_work
-    enum_known_work_2
-    mul_nearest_root
-    nearest_root_requires
-    returns
-    returns_2
-    returns_3)
+root_of_spec = tie.close (tie.spec enum_told-1 enum_known-work enum_known-work-in-Arc-1 overflow_mul-a nearest_root-requires returns-in-Nothing returns-in-Line returns-in-Arc)

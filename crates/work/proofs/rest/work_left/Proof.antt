@@ -4,45 +4,34 @@ use native.Mathlib.Omega.{arith}
 use Rattle.work.proofs.rest.work_left.Statement.{statement}
 use Rattle.work.proofs.rest.work_left.Tie as tie
 
-enum_told : tie.Need-enum-told
-enum_told c = search rules
+enum_told-1 : tie.Need-enum_told-1
+enum_told-1 c = search rules
 
-enum_known_work : tie.Need-enum-known-work
-enum_known_work c = search rules
+enum_known-work : tie.Need-enum_known-work
+enum_known-work c = search rules
 
-sub_cycles : tie.Need-overflow-sub-cycles
-sub_cycles c = let p = rw c.before.before.before.work.given.1 at c.before.before.before.before.before.requires in p.0
+overflow_sub-cycles : tie.Need-overflow_sub-cycles
+overflow_sub-cycles c = let p = rw c.in-Line.is at c.requires in p.0
 
-mul_t10 : tie.Need-overflow-mul-t10
-mul_t10 c =
-    let p = rw c.before.before.before.work.given.1 at c.before.before.before.before.before.requires in
+overflow_mul-result : tie.Need-overflow_mul-result
+overflow_mul-result c =
+    let p = rw c.in-Line.is at c.requires in
     omega (arith, p.1)
 
-enum_known_work_2 : tie.Need-enum-known-work-2
-enum_known_work_2 c = search rules
+enum_known-work-in-Arc-1 : tie.Need-enum_known-work-in-Arc-1
+enum_known-work-in-Arc-1 c = search rules
 
-span_requires : tie.Need-span-requires
-span_requires c κs = rw c.before.before.work2.given.1 at c.before.before.before.before.requires
+span-span-requires : tie.Need-span-span-requires
+span-span-requires c κs = rw c.in-Arc.is at c.requires
 
-returns : tie.Need-returns
-returns c = rw c.enum_told.given.1
+returns-in-Nothing : tie.Need-returns-in-Nothing
+returns-in-Nothing c = rw c.in-Nothing.is
 
-returns_2 : tie.Need-returns-2
-returns_2 c = rw c.before.before.before.work.given.1
+returns-in-Line : tie.Need-returns-in-Line
+returns-in-Line c = rw c.in-Line.is
 
-returns_3 : tie.Need-returns-3
-returns_3 c = rw (c.before.before.before.work2.given.1, c.span.ensures)
+returns-in-Arc : tie.Need-returns-in-Arc
+returns-in-Arc c = rw (c.in-Arc.is, c.span-span.ensures)
 
 pub work_left_spec : {M : Type 1} → statement M
-work_left_spec =
-    tie.close
-    (tie.spec
-    enum_told
-    enum_known_work
-    sub_cycles
-    mul_t10
-    enum_known_work_2
-    span_requires
-    returns
-    returns_2
-    returns_3)
+work_left_spec = tie.close (tie.spec enum_told-1 enum_known-work overflow_sub-cycles overflow_mul-result enum_known-work-in-Arc-1 span-span-requires returns-in-Nothing returns-in-Line returns-in-Arc)

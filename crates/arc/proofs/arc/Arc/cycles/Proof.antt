@@ -7,23 +7,23 @@ use Rattle.arc.specs.computed.Arc.{arc_cycles}
 use Rattle.arc.proofs.arc.Arc.cycles.Statement.{statement}
 use Rattle.arc.proofs.arc.Arc.cycles.Tie as tie
 
-seen_requires : tie.Need-seen-requires
-seen_requires c κs = search rules
+seen-requires : tie.Need-seen-requires
+seen-requires c κs = search rules
 
-seen_requires_2 : tie.Need-seen-requires-2
-seen_requires_2 c κs = search rules
+seen-requires-2 : tie.Need-seen-requires-2
+seen-requires-2 c κs = search rules
 
-cycles_requires : tie.Need-cycles-requires
-cycles_requires c κs =
+cycles-requires : tie.Need-cycles-requires
+cycles-requires c κs =
     let s = c.before.before.before.before in
-    (rw c.before.seen.ensures s.requires.0.on, rw c.seen2.ensures s.requires.0.end_on, s.requires.1)
+    (rw c.seen.ensures s.requires.0.on, rw c.seen-2.ensures s.requires.0.end_on, s.requires.1)
 
 returns : tie.Need-returns
 unfolding arc_cycles
 returns c =
-    let a = c.before.before.before.before.before.args.self in
+    let a = c.args.self in
     c.cycles.ensures
-    ∙ ap₂ (λ (p e : Offset). circle_cycles a.square a.turn p e) c.before.before.seen.ensures c.before.seen2.ensures
+    ∙ ap₂ (λ (p e : Offset). circle_cycles a.square a.turn p e) c.seen.ensures c.seen-2.ensures
 
 pub cycles_spec : {M : Type 1} → statement M
-cycles_spec = tie.close (tie.spec seen_requires seen_requires_2 cycles_requires returns)
+cycles_spec = tie.close (tie.spec seen-requires seen-requires-2 cycles-requires returns)

@@ -6,16 +6,16 @@ use Rattle.circle.specs.Circle.{on_circle}
 use Rattle.arc.proofs.arc.Arc.ends_on_circle.Statement.{statement}
 use Rattle.arc.proofs.arc.Arc.ends_on_circle.Tie as tie
 
-seen_requires : tie.Need-seen-requires
-seen_requires c κs = search rules
+seen-requires : tie.Need-seen-requires
+seen-requires c κs = search rules
 
-on_circle_requires : tie.Need-on-circle-requires
-on_circle_requires c κs = search rules
+on_circle-requires : tie.Need-on_circle-requires
+on_circle-requires c κs = search rules
 
 returns : tie.Need-returns
 returns c =
     let s = c.before.before.before.before in
-    c.on-circle.ensures ∙ ap (λ (o : Offset). on_circle s.args.self.square o) c.before.seen.ensures
+    c.on_circle.ensures ∙ ap (λ (o : Offset). on_circle s.args.self.square o) c.seen.ensures
 
 pub ends_on_circle_spec : {M : Type 1} → statement M
-ends_on_circle_spec = tie.close (tie.spec seen_requires on_circle_requires returns)
+ends_on_circle_spec = tie.close (tie.spec seen-requires on_circle-requires returns)

@@ -12,24 +12,24 @@ use Rattle.arc.specs.laws.Step.{circles, after_reach, cycles_turn}
 use Rattle.arc.proofs.arc.Arc.paid.Statement.{statement}
 use Rattle.arc.proofs.arc.Arc.paid.Tie as tie
 
-found : (c : tie.After-paid) → (let s = c.before.before.before.args in
-    c.paid.result ≡ paid_of s.self.square s.self.turn (seen_from s.self.centre s.at) s.most s.sum)
+found : (c : tie.After-paid-r) → (let s = c.args in
+    c.paid-r.result ≡ paid_of s.self.square s.self.turn (seen_from s.self.centre s.at) s.most s.sum)
 found c =
-    let s = c.before.before.before.args in
-    c.paid.ensures ∙ ap (λ (o : Offset). paid_of s.self.square s.self.turn o s.most s.sum) c.before.seen.ensures
+    let s = c.args in
+    c.paid-r.ensures ∙ ap (λ (o : Offset). paid_of s.self.square s.self.turn o s.most s.sum) c.seen.ensures
 
-seen_requires : tie.Need-seen-requires
-seen_requires c κs = search rules
+seen-requires : tie.Need-seen-requires
+seen-requires c κs = search rules
 
-paid_requires : tie.Need-paid-requires
-paid_requires c κs =
+paid-r-requires : tie.Need-paid-r-requires
+paid-r-requires c κs =
     let s = c.before.before in
     let p = s.requires.0 in
     (rw c.seen.ensures p.on, omega (arith, s.requires.1, cycles_turn s.args.self s.args.at (circles p)))
 
-back_requires : tie.Need-back-requires
+back-requires : tie.Need-back-requires
 unfolding paid_of
-back_requires c κs =
+back-requires c κs =
     let f = c.before in
     let s = f.before.before.before in
     (s.requires.0.centre, rw (found f) (after_reach s.args.self s.args.at (circles s.requires.0) _))
@@ -38,10 +38,10 @@ returns : tie.Need-returns
 unfolding paid_of arc_paid_of arc_after
 returns c =
     let f = c.before.before in
-    let a = f.before.before.before.args.self in
+    let a = f.args.self in
     let e = found f in
     let there = c.back.ensures ∙ ap (λ (r : Paid). back_from a.centre r.at) e in
     λ i. record { cycles = (e i).cycles; charges = (e i).charges; at = there i }
 
 pub paid_spec : {M : Type 1} → statement M
-paid_spec = tie.close (tie.spec seen_requires paid_requires back_requires returns)
+paid_spec = tie.close (tie.spec seen-requires paid-r-requires back-requires returns)

@@ -7,23 +7,23 @@ use Rattle.arc.specs.computed.Arc.{arc_cycles}
 use Rattle.arc.proofs.arc.Arc.span.Statement.{statement}
 use Rattle.arc.proofs.arc.Arc.span.Tie as tie
 
-seen_requires : tie.Need-seen-requires
-seen_requires c κs = search rules
+seen-requires : tie.Need-seen-requires
+seen-requires c κs = search rules
 
-seen_requires_2 : tie.Need-seen-requires-2
-seen_requires_2 c κs = search rules
+seen-requires-2 : tie.Need-seen-requires-2
+seen-requires-2 c κs = search rules
 
-span_requires : tie.Need-span-requires
-span_requires c κs =
+span-requires : tie.Need-span-requires
+span-requires c κs =
     let s = c.before.before.before.before in
-    (rw c.before.seen.ensures s.requires.on, rw c.seen2.ensures s.requires.end_on)
+    (rw c.seen.ensures s.requires.on, rw c.seen-2.ensures s.requires.end_on)
 
 returns : tie.Need-returns
 unfolding span_of arc_cycles
 returns c =
-    let a = c.before.before.before.before.before.args.self in
+    let a = c.args.self in
     c.span.ensures
-    ∙ ap₂ (λ (p e : Offset). span_of a.square a.turn p e) c.before.before.seen.ensures c.before.seen2.ensures
+    ∙ ap₂ (λ (p e : Offset). span_of a.square a.turn p e) c.seen.ensures c.seen-2.ensures
 
 pub span_spec : {M : Type 1} → statement M
-span_spec = tie.close (tie.spec seen_requires seen_requires_2 span_requires returns)
+span_spec = tie.close (tie.spec seen-requires seen-requires-2 span-requires returns)

@@ -6,27 +6,26 @@ use Rattle.arc.specs.laws.Arc.{stays_visits}
 use Rattle.arc.proofs.arc.Arc.stays.Statement.{statement}
 use Rattle.arc.proofs.arc.Arc.stays.Tie as tie
 
-room_requires : tie.Need-room-requires
-room_requires c κs = search rules
+room-requires : tie.Need-room-requires
+room-requires c κs = search rules
 
-seen_requires : tie.Need-seen-requires
-seen_requires c κs = search rules
+seen-requires : tie.Need-seen-requires
+seen-requires c κs = search rules
 
-seen_requires_2 : tie.Need-seen-requires-2
-seen_requires_2 c κs = search rules
+seen-requires-2 : tie.Need-seen-requires-2
+seen-requires-2 c κs = search rules
 
-stays_inside_requires : tie.Need-stays-inside-requires
-stays_inside_requires c κs =
+stays_inside-requires : tie.Need-stays_inside-requires
+stays_inside-requires c κs =
     let s = c.before.before.before.before.before in
-    (rw c.before.seen.ensures s.requires.0.on, rw c.seen2.ensures s.requires.0.end_on)
+    (rw c.seen.ensures s.requires.0.on, rw c.seen-2.ensures s.requires.0.end_on)
 
 returns : tie.Need-returns
 returns c =
     let s = c.before.before.before.before.before.before in
     c.stays_inside.ensures
-    ∙ rw (c.before.before.before.room.ensures, c.before.before.seen.ensures, c.before.seen2.ensures)
+    ∙ rw (c.room.ensures, c.seen.ensures, c.seen-2.ensures)
     (stays_visits s.args.self s.args.at s.requires.0 s.args.travel (inside s.requires.2))
 
 pub stays_spec : {M : Type 1} → statement M
-stays_spec =
-    tie.close (tie.spec room_requires seen_requires seen_requires_2 stays_inside_requires returns)
+stays_spec = tie.close (tie.spec room-requires seen-requires seen-requires-2 stays_inside-requires returns)

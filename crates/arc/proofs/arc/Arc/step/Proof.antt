@@ -9,19 +9,19 @@ use Rattle.arc.specs.laws.Step.{circles, step_reach}
 use Rattle.arc.proofs.arc.Arc.step.Statement.{statement}
 use Rattle.arc.proofs.arc.Arc.step.Tie as tie
 
-seen_requires : tie.Need-seen-requires
-seen_requires c κs = search rules
+seen-requires : tie.Need-seen-requires
+seen-requires c κs = search rules
 
-step_requires : tie.Need-step-requires
-step_requires c κs = let s = c.before.before in rw c.seen.ensures s.requires.on
+step-requires : tie.Need-step-requires
+step-requires c κs = let s = c.before.before in rw c.seen.ensures s.requires.on
 
-back_requires : tie.Need-back-requires
-back_requires c κs =
+back-next-requires : tie.Need-back-next-requires
+back-next-requires c κs =
     let s = c.before.before.before in
-    (s.requires.centre, rw (c.step.ensures, c.before.seen.ensures) (step_reach s.args.self s.args.at (circles s.requires)))
+    (s.requires.centre, rw (c.step.ensures, c.seen.ensures) (step_reach s.args.self s.args.at (circles s.requires)))
 
-changes_requires : tie.Need-changes-requires
-changes_requires c κs = search rules
+changes-requires : tie.Need-changes-requires
+changes-requires c κs = search rules
 
 returns : tie.Need-returns
 unfolding arc_stepped arc_after after_of
@@ -30,10 +30,10 @@ returns c =
     let s = k.before.before.before.before in
     let a = s.args.self in
     let next =
-    k.back.ensures
-    ∙ ap (back_from a.centre) (k.before.step.ensures ∙ ap (step_of a.square a.turn) k.before.before.seen.ensures) in
+    k.back-next.ensures
+    ∙ ap (back_from a.centre) (k.step.ensures ∙ ap (step_of a.square a.turn) k.seen.ensures) in
     let pulses = c.changes.ensures ∙ ap (pulses_between s.args.at) next in
     λ i. record { at = next i; pulses = pulses i }
 
 pub step_spec : {M : Type 1} → statement M
-step_spec = tie.close (tie.spec seen_requires step_requires back_requires changes_requires returns)
+step_spec = tie.close (tie.spec seen-requires step-requires back-next-requires changes-requires returns)

@@ -3,27 +3,26 @@ use borrow.Author.Rules.{rules}
 use Rattle.arc.proofs.stepper.Tracer.code.Statement.{statement}
 use Rattle.arc.proofs.stepper.Tracer.code.Tie as tie
 
-enum_told : tie.Need-enum-told
-enum_told c = search rules
+enum_told-1 : tie.Need-enum_told-1
+enum_told-1 c = search rules
 
-enum_told_2 : tie.Need-enum-told-2
-enum_told_2 c = search rules
+enum_told-in-Slant : tie.Need-enum_told-in-Slant
+enum_told-in-Slant c = search rules
 
-add_result : tie.Need-overflow-add-result
-add_result c = search rules
+overflow_add-result : tie.Need-overflow_add-result
+overflow_add-result c = search rules
 
-enum_told_3 : tie.Need-enum-told-3
-enum_told_3 c = search rules
+enum_told-in-Fall : tie.Need-enum_told-in-Fall
+enum_told-in-Fall c = search rules
 
-returns : tie.Need-returns
-returns c = search rules
+returns-in-Rise : tie.Need-returns-in-Rise
+returns-in-Rise c = search rules
 
-returns_2 : tie.Need-returns-2
-returns_2 c = simp c.before.enum-told2.given.1
+returns-in-Slant : tie.Need-returns-in-Slant
+returns-in-Slant c = simp c.in-Slant.is
 
-returns_3 : tie.Need-returns-3
-returns_3 c = search rules
+returns-in-Fall : tie.Need-returns-in-Fall
+returns-in-Fall c = search rules
 
 pub code_spec : {M : Type 1} → statement M
-code_spec =
-    tie.close (tie.spec enum_told enum_told_2 add_result enum_told_3 returns returns_2 returns_3)
+code_spec = tie.close (tie.spec enum_told-1 enum_told-in-Slant overflow_add-result enum_told-in-Fall returns-in-Rise returns-in-Slant returns-in-Fall)

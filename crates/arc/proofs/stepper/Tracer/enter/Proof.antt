@@ -4,22 +4,22 @@ use Rattle.arc.proofs.stepper.Tracer.enter.Statement.{statement}
 use Rattle.arc.proofs.stepper.Tracer.enter.Tie as tie
 use mathlib.Core.Path.{◌≡◌, ap, ◌∙◌}
 use Rattle.circle.specs.computed.Stepper.{enter_of}
-use Rattle.circle.specs.laws.Stepper.{enter_entered}
+use Rattle.circle.proofs.laws.Stepper.{enter_entered}
 use Rattle.arc.specs.Centre.{seen_from}
 use Rattle.arc.specs.computed.Stepper.{tracer_of, arc_tracer}
 
-entered : (c : tie.After-enter) → (let s = c.before.before.before.args in
+entered : (c : tie.After-enter) → (let s = c.args in
     c.enter.result ≡ enter_of s.a.square s.a.turn (seen_from s.a.centre s.at))
-entered c = let a = c.before.before.before.args.a in c.enter.ensures ∙ ap (enter_of a.square a.turn) c.before.seen.ensures
+entered c = let a = c.args.a in c.enter.ensures ∙ ap (enter_of a.square a.turn) c.seen.ensures
 
-seen_requires : tie.Need-seen-requires
-seen_requires c κs = search rules
+seen-requires : tie.Need-seen-requires
+seen-requires c κs = search rules
 
-enter_requires : tie.Need-enter-requires
-enter_requires c κs = let s = c.before.before in rw c.seen.ensures s.requires.on
+enter-requires : tie.Need-enter-requires
+enter-requires c κs = let s = c.before.before in rw c.seen.ensures s.requires.on
 
-trace_requires : tie.Need-trace-requires
-trace_requires c κs =
+trace-requires : tie.Need-trace-requires
+trace-requires c κs =
     let s = c.before.before.before in
     rw (entered c) (enter_entered s.args.a.square s.args.a.turn (seen_from s.args.a.centre s.args.at) s.requires.on)
 
@@ -28,4 +28,4 @@ unfolding arc_tracer
 returns c = c.trace.ensures ∙ ap tracer_of (entered c.before)
 
 pub enter_spec : {M : Type 1} → statement M
-enter_spec = tie.close (tie.spec seen_requires enter_requires trace_requires returns)
+enter_spec = tie.close (tie.spec seen-requires enter-requires trace-requires returns)

@@ -7,15 +7,15 @@ use Rattle.arc.specs.Centre.{back_from}
 use Rattle.arc.specs.computed.Stepper.{tracer_at}
 use Rattle.arc.specs.laws.Stepper.{leave_reach}
 
-leave_requires : tie.Need-leave-requires
-leave_requires c κs = search rules
+leave-requires : tie.Need-leave-requires
+leave-requires c κs = search rules
 
-back_requires : tie.Need-back-requires
-back_requires c κs = let s = c.before.before in (s.requires.0, rw c.leave.ensures (leave_reach s.requires.1.entered))
+back-requires : tie.Need-back-requires
+back-requires c κs = let s = c.before.before in (s.requires.0, rw c.leave.ensures (leave_reach s.requires.1.entered))
 
 returns : tie.Need-returns
 unfolding tracer_at
-returns c = c.back.ensures ∙ ap (back_from c.before.before.before.args.centre) c.before.leave.ensures
+returns c = c.back.ensures ∙ ap (back_from c.args.centre) c.leave.ensures
 
 pub leave_spec : {M : Type 1} → statement M
-leave_spec = tie.close (tie.spec leave_requires back_requires returns)
+leave_spec = tie.close (tie.spec leave-requires back-requires returns)

@@ -10,37 +10,37 @@ use Rattle.charges.proofs.jump.Start.after.Statement.{statement}
 use Rattle.charges.proofs.jump.Start.after.Tie as tie
 
 -- the place is that of the walk
-there : (c : tie.After-place-at) → (let s = c.before.before.before.args in
-    c.place_at.result ≡ seen_place s.self.turn (point_on s.self s.cycles))
-there c = let s = c.before.before.before in c.place_at.ensures ∙ place_after_lem s.requires.0 s.args.cycles
+there : (c : tie.After-place_at-place) → (let s = c.args in
+    c.place_at-place.result ≡ seen_place s.self.turn (point_on s.self s.cycles))
+there c = let s = c.before.before.before in c.place_at-place.ensures ∙ place_after_lem s.requires.0 s.args.cycles
 
-round_is : (c : tie.After-quadrant-charges) → (let s = c.before.before.before.before.before.args.self in
-    4 * c.quadrant-charges.result ≡ round_charges_of s.quarter s.radius)
-round_is c = ap (λ (r : ℕ). 4 * r) c.quadrant-charges.ensures
+round_is : (c : tie.After-quadrant_charges-round) → (let s = c.args.self in
+    4 * c.quadrant_charges-round.result ≡ round_charges_of s.quarter s.radius)
+round_is c = ap (λ (r : ℕ). 4 * r) c.quadrant_charges-round.ensures
 
-add_place_at : tie.Need-overflow-add-place-at
-add_place_at c = let s = c.before.before in omega (arith, start_bounds s.requires.0)
+overflow_add-from : tie.Need-overflow_add-from
+overflow_add-from c = let s = c.before.before in omega (arith, start_bounds s.requires.0)
 
-place_at_requires : tie.Need-place-at-requires
-place_at_requires c κs = let h = c.before.before.requires.0 in ((start_on h).some, (start_on h).bound, quarter_is h)
+place_at-place-requires : tie.Need-place_at-place-requires
+place_at-place-requires c κs = let h = c.requires.0 in ((start_on h).some, (start_on h).bound, quarter_is h)
 
-span_to_requires : tie.Need-span-to-requires
-span_to_requires c κs =
+span_to-to-requires : tie.Need-span_to-to-requires
+span_to-to-requires c κs =
     let s = c.before.before.before in
     rw (quarter_is s.requires.0, radius_is s.requires.0, there c) (tolled_after s.requires.0 s.args.cycles)
 
-quadrant_charges_requires : tie.Need-quadrant-charges-requires
-quadrant_charges_requires c κs = let b = start_bounds c.before.before.before.before.requires.0 in (b.quarter, b.radius)
+quadrant_charges-round-requires : tie.Need-quadrant_charges-round-requires
+quadrant_charges-round-requires c κs = let b = start_bounds c.requires.0 in (b.quarter, b.radius)
 
-mul_round : tie.Need-overflow-mul-round
-mul_round c = omega (arith, round_is c, (start_bounds c.before.before.before.before.before.requires.0).round)
+overflow_mul-round : tie.Need-overflow_mul-round
+overflow_mul-round c = omega (arith, round_is c, (start_bounds c.requires.0).round)
 
-way_on_requires : tie.Need-way-on-requires
-way_on_requires c κs =
+way_on-charges-requires : tie.Need-way_on-charges-requires
+way_on-charges-requires c κs =
     let w = c.before in
     let s = w.before.before.before.before in
     let b = start_bounds s.requires.0 in
-    rw (round_is c, w.span_to.ensures, there w.before) (omega (arith, toll_after s.requires.0 s.args.cycles))
+    rw (round_is c, w.span_to-to.ensures, there w.before) (omega (arith, toll_after s.requires.0 s.args.cycles))
 
 returns : tie.Need-returns
 returns c =
@@ -48,9 +48,8 @@ returns c =
     let w = r.before in
     let q = w.before in
     let s = q.before.before.before in
-    reached_is s.requires.0 s.args.cycles c.way_on.result q.place_at.result s.requires.1 s.requires.2 q.place_at.ensures
-    (c.way_on.ensures ∙ rw (round_is r, w.span_to.ensures))
+    reached_is s.requires.0 s.args.cycles c.way_on-charges.result q.place_at-place.result s.requires.1 s.requires.2 q.place_at-place.ensures
+    (c.way_on-charges.ensures ∙ rw (round_is r, w.span_to-to.ensures))
 
 pub after_spec : {M : Type 1} → statement M
-after_spec =
-    tie.close (tie.spec add_place_at place_at_requires span_to_requires quadrant_charges_requires mul_round way_on_requires returns)
+after_spec = tie.close (tie.spec overflow_add-from place_at-place-requires span_to-to-requires quadrant_charges-round-requires overflow_mul-round way_on-charges-requires returns)

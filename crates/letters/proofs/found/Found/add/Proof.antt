@@ -6,28 +6,28 @@ use borrow.Author.Rules.{rules}
 use Rattle.letters.proofs.found.Found.add.Statement.{statement}
 use Rattle.letters.proofs.found.Found.add.Tie as tie
 
-bit_requires : tie.Need-bit-requires
-bit_requires c κs = search rules
+bit-one-requires : tie.Need-bit-one-requires
+bit-one-requires c κs = search rules
 
-has_requires : tie.Need-has-requires
-has_requires c κs = search rules
+has-requires : tie.Need-has-requires
+has-requires c κs = search rules
 
-sub_t8 : tie.Need-overflow-sub-t8
-sub_t8 c = let b = c.before.before.before in omega (arith, bit_below b.before.args.l, b.bit.ensures)
+overflow_sub-result : tie.Need-overflow_sub-result
+overflow_sub-result c = let b = c.before.before.before in omega (arith, bit_below b.args.l, b.bit-one.ensures)
+
+returns-then-has : tie.Need-returns-then-has
+returns-then-has c =
+    let t = c.before.before in
+    rw (sym t.has.ensures ∙ t.if-has.true, t.bit-one.ensures)
+
+bit_if-minus-requires : tie.Need-bit_if-minus-requires
+bit_if-minus-requires c κs = search rules
 
 returns : tie.Need-returns
 returns c =
-    let t = c.before.before in
-    rw (sym t.before.has.ensures ∙ t.if1.true, t.before.before.bit.ensures)
-
-bit_if_requires : tie.Need-bit-if-requires
-bit_if_requires c κs = search rules
-
-returns_2 : tie.Need-returns-2
-returns_2 c =
     let b = c.before.before in
     let e = b.before in
-    rw (b.bit-if.ensures, sym e.before.has.ensures ∙ e.if1.false, e.before.before.bit.ensures)
+    rw (b.bit_if-minus.ensures, sym e.has.ensures ∙ e.if-has.false, e.bit-one.ensures)
 
 pub add_spec : {M : Type 1} → statement M
-add_spec = tie.close (tie.spec bit_requires has_requires sub_t8 returns bit_if_requires returns_2)
+add_spec = tie.close (tie.spec bit-one-requires has-requires overflow_sub-result returns-then-has bit_if-minus-requires returns)

@@ -4,14 +4,14 @@ use borrow.Author.Rules.{rules}
 use Rattle.letters.proofs.found.Found.magnitude.Statement.{statement}
 use Rattle.letters.proofs.found.Found.magnitude.Tie as tie
 
-has_requires : tie.Need-has-requires
-has_requires c κs = search rules
+has-requires : tie.Need-has-requires
+has-requires c κs = search rules
 
-returns : tie.Need-returns
-returns c = rw (sym c.before.has.ensures ∙ c.if1.true)
+returns-then-has : tie.Need-returns-then-has
+returns-then-has c = rw (sym c.has.ensures ∙ c.if-has.true)
 
-returns_2 : tie.Need-returns-2
-returns_2 c = rw (sym c.before.has.ensures ∙ c.if1.false)
+returns-else-has : tie.Need-returns-else-has
+returns-else-has c = rw (sym c.has.ensures ∙ c.if-has.false)
 
 pub magnitude_spec : {M : Type 1} → statement M
-magnitude_spec = tie.close (tie.spec has_requires returns returns_2)
+magnitude_spec = tie.close (tie.spec has-requires returns-then-has returns-else-has)

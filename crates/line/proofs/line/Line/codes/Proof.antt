@@ -13,38 +13,38 @@ use Rattle.line.proofs.line.Line.codes.Statement.{statement}
 use Rattle.line.proofs.line.Line.codes.Tie as tie
 
 -- the line and its point, as the code has them
-abbrev line_in : tie.After-between2 → Line
-line_in c = c.before.before.before.before.args.self
+abbrev line_in : tie.After-between-gone → Line
+line_in c = c.args.self
 
-abbrev at_in : tie.After-between2 → Point
-at_in c = c.before.before.before.before.args.at
+abbrev at_in : tie.After-between-gone → Point
+at_in c = c.args.at
 
-in_work_lem : (c : tie.After-between2) → LineAt (line_in c) (at_in c)
-in_work_lem c = line_at_lem c.before.before.before.before.requires
+in_work_lem : (c : tie.After-between-gone) → LineAt (line_in c) (at_in c)
+in_work_lem c = line_at_lem c.requires
 
-between_requires : tie.Need-between-requires
-between_requires c κs = search rules
+between-way-requires : tie.Need-between-way-requires
+between-way-requires c κs = search rules
 
-between_requires_2 : tie.Need-between-requires-2
-between_requires_2 c κs = search rules
+between-gone-requires : tie.Need-between-gone-requires
+between-gone-requires c κs = search rules
 
-axis_code_requires : tie.Need-axis-code-requires
-axis_code_requires c κs =
+axis_code-requires : tie.Need-axis_code-requires
+axis_code-requires c κs =
     let b = c.before.before.before.before in
     let l = line_in b in
-    let way = length_x l.start l.end b.before.between.ensures in (
+    let way = length_x l.start l.end b.between-way.ensures in (
       rw way (axis_x l (in_work_lem b).drawing),
-      length_x l.start (at_in b) b.between2.ensures ∙ gone_x l (at_in b) (in_work_lem b)
+      length_x l.start (at_in b) b.between-gone.ensures ∙ gone_x l (at_in b) (in_work_lem b)
           ∙ ap (λ (a : ℕ). axis_steps l.cycles a l.done) (sym way),
     )
 
-axis_code_requires_2 : tie.Need-axis-code-requires-2
-axis_code_requires_2 c κs =
+axis_code-requires-2 : tie.Need-axis_code-requires-2
+axis_code-requires-2 c κs =
     let b = c.before.before.before.before.before in
     let l = line_in b in
-    let way = length_y l.start l.end b.before.between.ensures in (
+    let way = length_y l.start l.end b.between-way.ensures in (
       rw way (axis_y l (in_work_lem b).drawing),
-      length_y l.start (at_in b) b.between2.ensures ∙ gone_y l (at_in b) (in_work_lem b)
+      length_y l.start (at_in b) b.between-gone.ensures ∙ gone_y l (at_in b) (in_work_lem b)
           ∙ ap (λ (a : ℕ). axis_steps l.cycles a l.done) (sym way),
     )
 
@@ -55,13 +55,11 @@ returns c =
     let l = line_in b in
     let d = (in_work_lem b).drawing in
     let some = some_cycle l d in
-    let x_is = c.before.axis-code.ensures in
-    let y_is = c.axis-code2.ensures in
+    let x_is = c.axis_code.ensures in
+    let y_is = c.axis_code-2.ensures in
     (λ i. record { x = x_is i; y = y_is i })
-    ∙ codes_are l.start l.end some l.done b.before.between.ensures d.own
+    ∙ codes_are l.start l.end some l.done b.between-way.ensures d.own
     ∙ sym (pulses_next l.start l.end some l.done)
 
 pub codes_spec : {M : Type 1} → statement M
-codes_spec =
-    tie.close
-    (tie.spec between_requires between_requires_2 axis_code_requires axis_code_requires_2 returns)
+codes_spec = tie.close (tie.spec between-way-requires between-gone-requires axis_code-requires axis_code-requires-2 returns)

@@ -16,13 +16,13 @@ use Rattle.line.specs.laws.Work.{Drawn, drawn, axis_x, axis_y, some_cycle}
 use Rattle.line.proofs.line.Line.point.Statement.{statement}
 use Rattle.line.proofs.line.Line.point.Tie as tie
 
-abbrev line_in : tie.After-between → Line
-line_in c = c.before.before.before.args.self
+abbrev line_in : tie.After-between-way → Line
+line_in c = c.args.self
 
-drawing : (c : tie.After-between) → Drawn (line_in c)
-drawing c = drawn c.before.before.before.requires
+drawing : (c : tie.After-between-way) → Drawn (line_in c)
+drawing c = drawn c.requires
 
-fits : (c : tie.After-between) → FitsPoint (line_point (line_in c).start (line_in c).end (line_in c).done)
+fits : (c : tie.After-between-way) → FitsPoint (line_point (line_in c).start (line_in c).end (line_in c).done)
 fits c =
     let s = c.before.before.before in
     let l = s.args.self in
@@ -32,10 +32,10 @@ fits c =
     point_fits l.start l.end (some_cycle l d) l.done (omega (arith, d.own, d.due)) start end
 
 -- each axis, over the definition
-abbrev between : tie.After-axis-moved → tie.After-between
+abbrev between : tie.After-axis_moved → tie.After-between-way
 between c = c.before.before.before
 
-x_is : (c : tie.After-axis-moved) → (line_in (between c)).start.x +ℤ c.axis_moved.result ≡ (line_point (line_in
+x_is : (c : tie.After-axis_moved) → (line_in (between c)).start.x +ℤ c.axis_moved.result ≡ (line_point (line_in
     (between c)).start (line_in (between c)).end (line_in (between c)).done).x
 unfolding line_point
 x_is c =
@@ -43,46 +43,46 @@ x_is c =
     let l = line_in b in
     ap (λ (m : ℤ). l.start.x +ℤ m)
     (c.axis_moved.ensures ∙ ap₂ (λ (q : ℕ) (a : ℤ). axis_moved q a l.done) (drawing b).own (joined_x l.start l.end
-    b.between.ensures))
+    b.between-way.ensures))
 
-abbrev between_2 : tie.After-axis-moved2 → tie.After-between
+abbrev between_2 : tie.After-axis_moved-2 → tie.After-between-way
 between_2 c = between c.before.before.before
 
-y_is : (c : tie.After-axis-moved2) → (line_in (between_2 c)).start.y +ℤ c.axis-moved2.result ≡ (line_point (line_in
+y_is : (c : tie.After-axis_moved-2) → (line_in (between_2 c)).start.y +ℤ c.axis_moved-2.result ≡ (line_point (line_in
     (between_2 c)).start (line_in (between_2 c)).end (line_in (between_2 c)).done).y
 unfolding line_point
 y_is c =
     let b = between_2 c in
     let l = line_in b in
     ap (λ (m : ℤ). l.start.y +ℤ m)
-    (c.axis-moved2.ensures ∙ ap₂ (λ (q : ℕ) (a : ℤ). axis_moved q a l.done) (drawing b).own (joined_y l.start l.end
-    b.between.ensures))
+    (c.axis_moved-2.ensures ∙ ap₂ (λ (q : ℕ) (a : ℤ). axis_moved q a l.done) (drawing b).own (joined_y l.start l.end
+    b.between-way.ensures))
 
-between_requires : tie.Need-between-requires
-between_requires c κs = search rules
+between-way-requires : tie.Need-between-way-requires
+between-way-requires c κs = search rules
 
-axis_moved_requires : tie.Need-axis-moved-requires
-axis_moved_requires c κs = let b = c.before.before in let l = line_in b in
-    rw (length_x l.start l.end b.between.ensures) (axis_x l (drawing b))
+axis_moved-requires : tie.Need-axis_moved-requires
+axis_moved-requires c κs = let b = c.before.before in let l = line_in b in
+    rw (length_x l.start l.end b.between-way.ensures) (axis_x l (drawing b))
 
-add_t8 : tie.Need-overflow-add-t8
-add_t8 c =
+overflow_add-result : tie.Need-overflow_add-result
+overflow_add-result c =
     let m = c.before.before in
     let l = line_in (between m) in
     let start : SFits w64 l.start.x = search rules in
     let way : SFits w64 m.axis_moved.result = search rules in
     simp to_z-of_z (rw (x_is m) (fits (between m)).x)
 
-axis_moved_requires_2 : tie.Need-axis-moved-requires-2
-axis_moved_requires_2 c κs = let b = between c.before.before in let l = line_in b in
-    rw (length_y l.start l.end b.between.ensures) (axis_y l (drawing b))
+axis_moved-requires-2 : tie.Need-axis_moved-requires-2
+axis_moved-requires-2 c κs = let b = between c.before.before in let l = line_in b in
+    rw (length_y l.start l.end b.between-way.ensures) (axis_y l (drawing b))
 
-add_t10 : tie.Need-overflow-add-t10
-add_t10 c =
+overflow_add-result-2 : tie.Need-overflow_add-result-2
+overflow_add-result-2 c =
     let m = c.before.before in
     let l = line_in (between_2 m) in
     let start : SFits w64 l.start.y = search rules in
-    let way : SFits w64 m.axis-moved2.result = search rules in
+    let way : SFits w64 m.axis_moved-2.result = search rules in
     simp to_z-of_z (rw (y_is m) (fits (between_2 m)).y)
 
 returns : tie.Need-returns
@@ -93,14 +93,12 @@ returns c =
     let start_x : SFits w64 l.start.x = search rules in
     let start_y : SFits w64 l.start.y = search rules in
     let way_x : SFits w64 n.axis_moved.result = search rules in
-    let way_y : SFits w64 m.axis-moved2.result = search rules in
+    let way_y : SFits w64 m.axis_moved-2.result = search rules in
     let x = x_is n in
     let y = y_is m in
     let sum_x : SFits w64 (l.start.x +ℤ n.axis_moved.result) = rw x (fits (between n)).x in
-    let sum_y : SFits w64 (l.start.y +ℤ m.axis-moved2.result) = rw y (fits (between n)).y in
+    let sum_y : SFits w64 (l.start.y +ℤ m.axis_moved-2.result) = rw y (fits (between n)).y in
     simp to_z-of_z (λ i. record { x = x i; y = y i })
 
 pub point_spec : {M : Type 1} → statement M
-point_spec =
-    tie.close
-    (tie.spec between_requires axis_moved_requires add_t8 axis_moved_requires_2 add_t10 returns)
+point_spec = tie.close (tie.spec between-way-requires axis_moved-requires overflow_add-result axis_moved-requires-2 overflow_add-result-2 returns)

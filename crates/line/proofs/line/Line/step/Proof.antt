@@ -29,20 +29,20 @@ stepped l at pulses = λ i. record {
   pulses = pulses i;
 }
 
-codes_requires : tie.Need-codes-requires
-codes_requires c κs = search rules
+codes-pulses-requires : tie.Need-codes-pulses-requires
+codes-pulses-requires c κs = search rules
 
-add_line : tie.Need-overflow-add-line
-add_line c = let s = c.before.before in let d = (line_at_lem s.requires).drawing in omega (arith, d.due, (axis_x s.args.self d).wide)
+overflow_add-line : tie.Need-overflow_add-line
+overflow_add-line c = let s = c.before.before in let d = (line_at_lem s.requires).drawing in omega (arith, d.due, (axis_x s.args.self d).wide)
 
-pulsed_requires : tie.Need-pulsed-requires
-pulsed_requires c κs =
+pulsed-requires : tie.Need-pulsed-requires
+pulsed-requires c κs =
     let s = c.before.before in
     let l = s.args.self in
     let start : FitsPoint l.start = record { x = search rules; y = search rules } in
     let end : FitsPoint l.end = record { x = search rules; y = search rules } in
     let f = stepped_fits l s.args.at (line_at_lem s.requires) start end in
-    rw c.before.codes.ensures (f.x, f.y)
+    rw c.codes-pulses.ensures (f.x, f.y)
 
 returns : tie.Need-returns
 returns c =
@@ -50,9 +50,9 @@ returns c =
     let s = k.before in
     let l = s.args.self in
     let next = stepped_at l s.args.at (line_at_lem s.requires) in
-    let at = c.pulsed.ensures ∙ ap (shifted_of s.args.at) k.codes.ensures ∙ next in
-    let pulses = k.codes.ensures in
+    let at = c.pulsed.ensures ∙ ap (shifted_of s.args.at) k.codes-pulses.ensures ∙ next in
+    let pulses = k.codes-pulses.ensures in
     stepped l at pulses
 
 pub step_spec : {M : Type 1} → statement M
-step_spec = tie.close (tie.spec codes_requires add_line pulsed_requires returns)
+step_spec = tie.close (tie.spec codes-pulses-requires overflow_add-line pulsed-requires returns)

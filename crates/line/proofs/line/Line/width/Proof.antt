@@ -10,30 +10,30 @@ use Rattle.line.proofs.line.Line.width.Statement.{statement}
 use Rattle.line.proofs.line.Line.width.Tie as tie
 
 -- the longer of what the code compares
-width_is : (c : tie.After-between) → width_of (max c.between.result.x.magnitude
-    c.between.result.y.magnitude)
-    ≡ line_width c.before.before.before.args.self.start c.before.before.before.args.self.end
+width_is : (c : tie.After-between-way) → width_of (max c.between-way.result.x.magnitude
+    c.between-way.result.y.magnitude)
+    ≡ line_width c.args.self.start c.args.self.end
 unfolding line_width
 width_is c =
-    let l = c.before.before.before.args.self in
-    rw (length_x l.start l.end c.between.ensures, length_y l.start l.end c.between.ensures)
+    let l = c.args.self in
+    rw (length_x l.start l.end c.between-way.ensures, length_y l.start l.end c.between-way.ensures)
 
-between_requires : tie.Need-between-requires
-between_requires c κs = search rules
+between-way-requires : tie.Need-between-way-requires
+between-way-requires c κs = search rules
 
-width_requires : tie.Need-width-requires
-width_requires c κs = search rules
+width-requires : tie.Need-width-requires
+width-requires c κs = search rules
 
-width_requires_2 : tie.Need-width-requires-2
-width_requires_2 c κs = search rules
+width-requires-else-x-y : tie.Need-width-requires-else-x-y
+width-requires-else-x-y c κs = search rules
 
-returns : tie.Need-returns
-returns c = c.width.ensures ∙ ap width_of (sym (max-eq_right c.before.if1.true))
+returns-then-x-y : tie.Need-returns-then-x-y
+returns-then-x-y c = c.width.ensures ∙ ap width_of (sym (max-eq_right c.if-x-y.true))
     ∙ width_is c.before.before.before.before.before.before
 
-returns_2 : tie.Need-returns-2
-returns_2 c = c.width2.ensures ∙ ap width_of (sym (max-eq_left (le_of_lt c.before.if1.false)))
+returns-else-x-y : tie.Need-returns-else-x-y
+returns-else-x-y c = c.width-else-x-y.ensures ∙ ap width_of (sym (max-eq_left (le_of_lt c.if-x-y.false)))
     ∙ width_is c.before.before.before.before.before.before
 
 pub width_spec : {M : Type 1} → statement M
-width_spec = tie.close (tie.spec between_requires width_requires width_requires_2 returns returns_2)
+width_spec = tie.close (tie.spec between-way-requires width-requires width-requires-else-x-y returns-then-x-y returns-else-x-y)

@@ -4,17 +4,17 @@ use Rattle.line.proofs.stepper.Track.advance.Statement.{statement}
 use Rattle.line.proofs.stepper.Track.advance.Tie as tie
 use borrow.Author.Tests.{le-leb, lt-leb}
 
-add_t7 : tie.Need-overflow-add-t7
-add_t7 c = search rules
+overflow_add-result : tie.Need-overflow_add-result
+overflow_add-result c = search rules
 
-sub_t8 : tie.Need-overflow-sub-t8
-sub_t8 c = search rules
+overflow_sub-result-else-self : tie.Need-overflow_sub-result-else-self
+overflow_sub-result-else-self c = search rules
 
-returns : tie.Need-returns
-returns c = simp (le-leb _ _ c.before.if1.true)
+returns-then-self : tie.Need-returns-then-self
+returns-then-self c = simp (le-leb _ _ c.if-self.true)
 
-returns_2 : tie.Need-returns-2
-returns_2 c = simp (lt-leb _ _ c.before.before.if1.false)
+returns-else-self : tie.Need-returns-else-self
+returns-else-self c = simp (lt-leb _ _ c.if-self.false)
 
 pub advance_spec : {M : Type 1} → statement M
-advance_spec = tie.close (tie.spec add_t7 sub_t8 returns returns_2)
+advance_spec = tie.close (tie.spec overflow_add-result overflow_sub-result-else-self returns-then-self returns-else-self)

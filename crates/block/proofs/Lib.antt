@@ -1,0 +1,2 @@
+-- The laws: what is proved of the definitions in specs/.
+pub mod laws

@@ -1,0 +1,12 @@
+pub mod Ways
+pub mod Octant
+pub mod Step
+pub mod Circle
+pub mod Next
+pub mod Rank
+pub mod Walk
+pub mod Count
+pub mod Distance
+pub mod Code
+pub mod Stepper
+pub mod Charge

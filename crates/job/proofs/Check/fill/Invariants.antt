@@ -1,0 +1,11 @@
+-- Invariant of `fill`: what the buffer has got and what is still to come are what was to come at first. Each step leaves fewer.
+use lib.ListN.{length}
+use Rattle.job.specs.computed.Check.{steps_left}
+use Rattle.job.specs.laws.Fill.{Filling}
+use Rattle.job.proofs.Check.fill.Given as goal
+
+abbrev pub invariant-loop-check : goal.invariant-loop-check
+invariant-loop-check l = Filling l.initial.check l.text l.initial.out l.out l.check l.len
+
+abbrev pub decreases-loop-check : goal.decreases-loop-check
+decreases-loop-check l = steps_left l.check.stage l.check.at (length l.text)

@@ -1,0 +1,2 @@
+-- What the exported calls promise is what the libraries' calls promise.
+pub mod Promised
