@@ -101,12 +101,12 @@ class Tree:
 
     def at(self, module, name):
         """The definition of a name in a module; ("declared", crate, path) where the code declares it; None where the library does."""
-        found = re.match(r"Rattle·(\w+?)(?:·\w+)?\.specs\.(.*)$", module)
-        if not found:
+        found = re.match(r"Rattle\.(\w+)\.specs\.(.*)$", module)
+        if not found or not pathlib.Path("crates", found[1]).exists():
             return None
         crate, path = found[1], found[2]
         if path.startswith("declared."):
-            return ("declared", crate, path.removeprefix("declared.").removesuffix(".the-variants"))
+            return ("declared", crate, path.removeprefix("declared.").removesuffix(".TheVariants"))
         file = self.files[f"crates/{crate}/specs/{path.replace('.', '/')}.antt"]
         return file.definitions.get(name) or next(d for d in file.definitions.values() if name in d.constructors())
 

@@ -25,16 +25,19 @@ ln -s "$(command -v python3)" "$work/path/python3"
 ok "plot without cargo: the exit status is not 3" built 3 plot "$good" "$work/file"
 rm "$work/bare/target/bin"/*
 
-# An rt that proves two crates, the second when it is told to, and then has a program.
-program "$work/path/rt" <<'END_OF_RT'
+# An rt is there, and a tools/program that proves two crates, the second when it is told to, and then has a program.
+program "$work/path/rt" <<<'#!/usr/bin/env bash'
+program "$work/bare/tools/program" <<'END_OF_PROGRAM'
 #!/usr/bin/env bash
 echo "rt: letters proved (unchanged since it was last proved)"
+echo "rt: chose --jobs 2 for plane" >&2
 echo "fn whole::least_root: proved"
 echo "rt: whole proved (1 s)"
 for _ in {1..200}; do [[ ! -e go ]] || break; sleep 0.05; done
-echo "rt: $2 proved (1 s)" >&2
-[[ ! -e broken ]] && cp "$PROGRAMS/$2" "target/bin/$2"
-END_OF_RT
+echo "rt: $1 proved (1 s)" >&2
+echo "rt: running out/$1; to give it other input, run that file yourself" >&2
+[[ ! -e broken ]] && cp "$PROGRAMS/$1" "target/bin/$1"
+END_OF_PROGRAM
 ln -s "$(command -v sleep)" "$(command -v cp)" "$work/path"
 export PROGRAMS=$PWD/target/bin
 
@@ -52,7 +55,7 @@ says_as_it_comes() {
     status=$?
     [[ $tries -lt 200 && $status -eq 0 ]]
 }
-announced() { [[ $(cut -d ' ' -f -3 "$work/err") == $'verdaizka: building jobcheck;\nrt: whole proved\nrt: jobcheck proved' ]]; }
+announced() { [[ $(cut -d ' ' -f -3 "$work/err") == $'verdaizka: building jobcheck;\nrt: proving plane\nrt: whole proved\nrt: jobcheck proved' ]]; }
 ok "the lines of a build are held back" says_as_it_comes
 ok "a build is not announced in one line, and one for each crate" announced
 ok "a build writes to standard output" cmp -s "$work/out" examples/sole.listing
