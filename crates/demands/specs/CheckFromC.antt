@@ -34,7 +34,8 @@ StartedWords s n ws ps =
     (r : Answered) × Makes s r × (n ≡ answer_number r.answer) × (c : Check) × Starts r.machine.bench c × Tells c ws ps
 
 -- a fill of the words, lent the text, may answer n
-abbrev pub FillsFromC : Lfts 5 → (ws ws' ps ps' : MutBor (List ℤ)) (text : Bor (List ℕ)) (out out' : MutBor (List ℕ)) (len len' : MutBor ℕ) (n : ℤ) → Type 0
+abbrev pub FillsFromC : Lfts 5
+    → (ws ws' ps ps' : MutBor (List ℤ)) (text : Bor (List ℕ)) (out out' : MutBor (List ℕ)) (len len' : MutBor ℕ) (n : ℤ) → Type 0
 FillsFromC κs ws ws' ps ps' text out out' len len' n =
     TellsFill ws.now ps.now text.now out.now n len'.now ws'.now ps'.now out'.now
 

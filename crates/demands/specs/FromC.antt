@@ -52,7 +52,8 @@ MakesFromC κs words words' p w xlo xhi ylo yhi n = tells n words'.now ≡ made_
 abbrev pub CallsFromC : Lfts 1 → WordCall → (words words' : MutBor (List ℤ)) (n : ℤ) → Type 0
 CallsFromC κs k words words' n = tells n words'.now ≡ told_of words.now k
 
-abbrev pub RunsFromC : Lfts 3 → (words words' : MutBor (List ℤ)) (budget : ℕ) (out out' : MutBor (List ℕ)) (ticks ticks' : MutBor ℕ) (n : ℤ) → Type 0
+abbrev pub RunsFromC : Lfts 3
+    → (words words' : MutBor (List ℤ)) (budget : ℕ) (out out' : MutBor (List ℕ)) (ticks ticks' : MutBor ℕ) (n : ℤ) → Type 0
 RunsFromC κs words words' budget out out' ticks ticks' n =
     tells_run n ticks'.now words'.now out'.now ≡ told_run_of words.now budget out.now
 
@@ -181,11 +182,13 @@ pub record EveryCallFromC : Type 0 where
   pub start : (κs : Lfts 2) (words words' progress progress' : MutBor (List ℤ)) (p w xlo xhi ylo yhi n : ℤ)
       → StartsFromC κs words words' progress progress' p w xlo xhi ylo yhi n
       → StartedWords (settings_of p w xlo xhi ylo yhi) n words'.now progress'.now
-  pub fill : (κs : Lfts 5) (ws ws' ps ps' : MutBor (List ℤ)) (text : Bor (List ℕ)) (out out' : MutBor (List ℕ)) (len len' : MutBor ℕ) (n : ℤ)
+  pub fill : (κs : Lfts 5) (ws ws' ps ps' : MutBor (List ℤ)) (text : Bor (List ℕ)) (out out' : MutBor (List ℕ))
+      (len len' : MutBor ℕ) (n : ℤ)
       → FillsFromC κs ws ws' ps ps' text out out' len len' n → (k : Bench) → IsCheck ws.now ps.now k
       → OwnFill (check_in k ps.now) text out out' n len'.now ws'.now ps'.now
   -- all other words get 9, and nothing is written
-  pub no_check : (κs : Lfts 5) (ws ws' ps ps' : MutBor (List ℤ)) (text : Bor (List ℕ)) (out out' : MutBor (List ℕ)) (len len' : MutBor ℕ) (n : ℤ)
+  pub no_check : (κs : Lfts 5) (ws ws' ps ps' : MutBor (List ℤ)) (text : Bor (List ℕ)) (out out' : MutBor (List ℕ))
+      (len len' : MutBor ℕ) (n : ℤ)
       → FillsFromC κs ws ws' ps ps' text out out' len len' n → ((k : Bench) → ¬ (IsCheck ws.now ps.now k))
       → Refuses ws.now ps.now out.now n len'.now ws'.now ps'.now out'.now
   -- "The check program", from C: whoever fills the words of a start gets the listing, to the byte, and the answer 1 at its end

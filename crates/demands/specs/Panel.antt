@@ -44,7 +44,8 @@ abbrev pub StartsPanel : Bench → PanelCheck → Type 0
 StartsPanel m c = c ≡ start_of m
 
 -- read, lent a scratch buffer, a piece and a buffer for rows, may return f and leave the buffers as free and rows'
-abbrev pub ReadsPanel : Lfts 3 → PanelCheck → (scratch free : MutBor (List ℕ)) (piece : Bor (List ℕ)) (last : Bool) (rows rows' : MutBor (List ℕ)) → PieceRead
+abbrev pub ReadsPanel : Lfts 3 → PanelCheck
+    → (scratch free : MutBor (List ℕ)) (piece : Bor (List ℕ)) (last : Bool) (rows rows' : MutBor (List ℕ)) → PieceRead
     → Type 0
 ReadsPanel κs c scratch free piece last rows rows' f =
     ReadsPiece c scratch.now piece.now last rows.now f free.now rows'.now
@@ -82,7 +83,8 @@ LongEnough scratch rows = (81 ≤ length scratch) × (160 ≤ length rows)
 pub data RowsRead (text : List ℕ) (c : PanelCheck) : (left scratch bytes : List ℕ) (d : PanelCheck) → Type 0 where
   none : (scratch : List ℕ) → RowsRead text c text scratch [] c
   read : {left before bytes : List ℕ} {d : PanelCheck} → RowsRead text c left before bytes d
-      → (κs : Lfts 3) (scratch free : MutBor (List ℕ)) (piece : Bor (List ℕ)) (last : Bool) (rows rows' : MutBor (List ℕ)) (f : PieceRead) (rest : List ℕ)
+      → (κs : Lfts 3) (scratch free : MutBor (List ℕ)) (piece : Bor (List ℕ)) (last : Bool) (rows rows' : MutBor (List ℕ))
+      (f : PieceRead) (rest : List ℕ)
       → take d.held scratch.now ≡ take d.held before → piece.now ++ rest ≡ left → (last ≡ true → rest ≡ [])
       → ReadsPanel κs d scratch free piece last rows rows' f
       → RowsRead text c (drop f.took piece.now ++ rest) free.now (bytes ++ take f.wrote rows'.now) f.check
@@ -90,7 +92,8 @@ pub data RowsRead (text : List ℕ) (c : PanelCheck) : (left scratch bytes : Lis
 -- so many calls on a check, none of them after its end, each with buffers that are long enough and with a byte or the end of the text
 pub data CallsOn : PanelCheck → (calls : ℕ) → Type 0 where
   none : {c : PanelCheck} → CallsOn c 0
-  read : {c : PanelCheck} {n : ℕ} (κs : Lfts 3) (scratch free : MutBor (List ℕ)) (piece : Bor (List ℕ)) (last : Bool) (rows rows' : MutBor (List ℕ))
+  read : {c : PanelCheck} {n : ℕ} (κs : Lfts 3) (scratch free : MutBor (List ℕ)) (piece : Bor (List ℕ)) (last : Bool)
+      (rows rows' : MutBor (List ℕ))
       (f : PieceRead)
       → TellsPanelOver c false → LongEnough scratch.now rows.now → (length piece.now ≡ 0 → last ≡ true)
       → ReadsPanel κs c scratch free piece last rows rows' f → CallsOn f.check n → CallsOn c (suc n)
@@ -104,10 +107,12 @@ pub record EveryPanel : Type 0 where
   pub same : (s : Settings) (text : List ℕ) → length text ≤ 65536
       → job_listing (capacity_of s) (panel_job s text) ≡ job_listing (capacity_of s) (job_at feed_unit s text)
   -- any call answers, on any check whatever
-  pub read : (κs : Lfts 3) (c : PanelCheck) (scratch free : MutBor (List ℕ)) (piece : Bor (List ℕ)) (last : Bool) (rows rows' : MutBor (List ℕ)) (f : PieceRead)
+  pub read : (κs : Lfts 3) (c : PanelCheck) (scratch free : MutBor (List ℕ)) (piece : Bor (List ℕ)) (last : Bool)
+      (rows rows' : MutBor (List ℕ)) (f : PieceRead)
       → ReadsPanel κs c scratch free piece last rows rows' f → LongEnough scratch.now rows.now
       → Reading piece.now rows.now rows'.now f
-  pub short : (κs : Lfts 3) (c : PanelCheck) (scratch free : MutBor (List ℕ)) (piece : Bor (List ℕ)) (last : Bool) (rows rows' : MutBor (List ℕ)) (f : PieceRead)
+  pub short : (κs : Lfts 3) (c : PanelCheck) (scratch free : MutBor (List ℕ)) (piece : Bor (List ℕ)) (last : Bool)
+      (rows rows' : MutBor (List ℕ)) (f : PieceRead)
       → ReadsPanel κs c scratch free piece last rows rows' f → (length scratch.now < 81) ⊎ (length rows.now < 160)
       → Unread c scratch.now free.now rows.now rows'.now f
   -- whoever hands a text to a check that began at a fresh machine, however it is cut, gets the panel's listing, to the byte

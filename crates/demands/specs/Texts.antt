@@ -87,7 +87,8 @@ TellsOver c r = r ≡ is_over c
 -- fills of one text, one after the other, into buffers of any length and contents, lead from the check c to d and hand these bytes out
 pub data RowsOut (text : List ℕ) (c : Check) : List ℕ → Check → Type 0 where
   none : RowsOut text c [] c
-  fill : {bytes : List ℕ} {d : Check} → RowsOut text c bytes d → (κs : Lfts 2) (lent : Bor (List ℕ)) (out out' : MutBor (List ℕ)) (f : Filled)
+  fill : {bytes : List ℕ} {d : Check} → RowsOut text c bytes d
+      → (κs : Lfts 2) (lent : Bor (List ℕ)) (out out' : MutBor (List ℕ)) (f : Filled)
       → lent.now ≡ text → FillsCheck κs d lent out out' f → RowsOut text c (bytes ++ take f.len out'.now) f.check
 
 pub record EveryText : Type 0 where

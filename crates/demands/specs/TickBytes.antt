@@ -53,7 +53,8 @@ FillsStream κs t text out out' f = Fills t text.now out.now f out'.now
 -- fills of one text, one after the other, into buffers of any length and contents, lead from the stream t to u and hand these bytes out
 pub data BytesOut (text : List ℕ) (t : Stream) : List ℕ → Stream → Type 0 where
   none : BytesOut text t [] t
-  fill : {bytes : List ℕ} {u : Stream} → BytesOut text t bytes u → (κs : Lfts 2) (lent : Bor (List ℕ)) (out out' : MutBor (List ℕ)) (f : Filled)
+  fill : {bytes : List ℕ} {u : Stream} → BytesOut text t bytes u
+      → (κs : Lfts 2) (lent : Bor (List ℕ)) (out out' : MutBor (List ℕ)) (f : Filled)
       → lent.now ≡ text → FillsStream κs u lent out out' f → BytesOut text t (bytes ++ take f.len out'.now) f.stream
 
 pub record EveryTickByte : Type 0 where

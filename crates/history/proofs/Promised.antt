@@ -1,5 +1,5 @@
--- What specs/CallContracts.antt says of each call is what the checker hands to a caller of it, `Learnt`: the two are one type, by computing.
--- A clause in src/ that says anything else makes its line fail here.
+-- What specs/CallContracts.antt says of each call is what the checker hands to a caller of it, `Learnt`: the two are one type, by
+-- computing. A clause in src/ that says anything else makes its line fail here.
 use Rattle.std.specs.Prelude.{◌≡◌, refl, Bool, List, ℕ}
 use Rattle.std.specs.Borrow.{Bor, MutBor}
 use contract.Lifetimes.{Lfts}

@@ -1,5 +1,5 @@
--- What each call of the archive promises is what the library's call of its name promises, of which the claims of crate demands speak: as the
--- checker hands them to a caller, `Learnt`, the two are one, by computing.
+-- What each call of the archive promises is what the library's call of its name promises, of which the claims of crate demands speak: as
+-- the checker hands them to a caller, `Learnt`, the two are one, by computing.
 use Rattle.std.specs.Prelude.{◌≡◌, refl}
 use Rattle.cmachine.proofs.vz_make.Reads as vz_make_own
 use Rattle.cmachine.proofs.vz_load_line.Reads as vz_load_line_own

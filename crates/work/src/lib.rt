@@ -9,7 +9,8 @@ ghost use Rattle.line.specs.computed.Line.{line_at};
 ghost use Rattle.arc.specs.computed.Arc.{StandsOnArc};
 ghost use Rattle.divider.specs.Divider.{fed_of};
 ghost use Rattle.work.specs.Work.{is_nothing, feed_of, added_of};
-ghost use Rattle.work.specs.computed.Work.{line_sound, arc_sound, work_sound, line_cycle, arc_cycle, cycle_of, charge_of, due_of, advance_of};
+ghost use Rattle.work.specs.computed.Work.{line_sound, arc_sound, work_sound, line_cycle, arc_cycle, cycle_of, charge_of, due_of};
+ghost use Rattle.work.specs.computed.Work.{advance_of};
 ghost use Rattle.work.specs.Work.{begun_of};
 ghost use Rattle.work.specs.computed.Asked.{Cycling, Ready, Loadable};
 

@@ -37,4 +37,5 @@ returns c =
     rw (c.moved.ensures, k.skip_work-r.ensures, q.capacity-q0.ensures) (sym (ticking_works s.args.ticks s.args.m (working e)))
 
 pub after_ticks_spec : {M : Type 1} → statement M
-after_ticks_spec = tie.close (tie.spec works-requires returns-then-not-works capacity-q0-requires skip_work-r-requires moved-requires returns)
+after_ticks_spec = tie.close (tie.spec works-requires returns-then-not-works capacity-q0-requires skip_work-r-requires moved-requires
+    returns)

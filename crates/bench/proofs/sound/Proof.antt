@@ -59,4 +59,5 @@ returns c =
     })) (λ t. (sound t).work)
 
 pub sound_spec : {M : Type 1} → statement M
-sound_spec = tie.close (tie.spec settings_no-requires returns-then-settings_no-ne0 inside-requires returns-then-not-inside capacity-q0-requires overflow_mul-q0 returns-then-q0-remainder work_sound-requires returns)
+sound_spec = tie.close (tie.spec settings_no-requires returns-then-settings_no-ne0 inside-requires returns-then-not-inside
+    capacity-q0-requires overflow_mul-q0 returns-then-q0-remainder work_sound-requires returns)

@@ -59,7 +59,8 @@ module _ (P : Block → (start : Point) (remainder : ℕ) → Type 0) where
         by InWork.nothing (b ∷ l) below e = (first_holds k.at k.remainder b l s.inside below e, h)
         by (InWork.working j) l below e = h
 
-    unbegun_holds : (f : Fate) (start : Point) (l : List Block) (older : List Account) → Bounded t start → chain_accepted q0 t start l ≡ true
+    unbegun_holds : (f : Fate) (start : Point) (l : List Block) (older : List Account) → Bounded t start
+        → chain_accepted q0 t start l ≡ true
         → Every Holds older → Every Holds (unbegun f start l older)
     unbegun_holds f start [] older here e h = h
     unbegun_holds f start (b ∷ l) older here e h =

@@ -28,7 +28,8 @@ newest_order n f (a ∷ older) = ap (λ (k : Block). in_order older ++ (k ∷ []
     by Fate.was_stopped = refl
     by Fate.stopped_waiting = refl
 
-unbegun_order : (f : Fate) (start : Point) (l : List Block) (older : List Account) → in_order (unbegun f start l older) ≡ in_order older ++ l
+unbegun_order : (f : Fate) (start : Point) (l : List Block) (older : List Account)
+    → in_order (unbegun f start l older) ≡ in_order older ++ l
 unfolding in_order
 unbegun_order f start [] older = sym (append-nil (in_order older))
 unbegun_order f start (k ∷ l) older = unbegun_order f k.end l _ ∙ append_assoc (in_order older) (k ∷ []) l

@@ -12,7 +12,8 @@ use Rattle.block.specs.declared.Block.{Block}
 use Rattle.block.specs.Questions.{load_no}
 use Rattle.book.specs.Bench.{InWork, Bench, bench_tick, bench_run}
 use Rattle.book.specs.Book.{Book, Call, Reply, fresh_book, start_of, fewer_wait, settled, loaded, load_entry, entry, replies, closing}
-use Rattle.book.specs.Sums.{tick_bytes, pulses_in, pulses_sent, since_stop, charges_told, charges_since, ticks_work, added_in, working_ticks}
+use Rattle.book.specs.Sums.{tick_bytes, pulses_in, pulses_sent, since_stop, charges_told, charges_since, ticks_work, added_in}
+use Rattle.book.specs.Sums.{working_ticks}
 use Rattle.book.specs.Sums.{feeds_since}
 use Rattle.book.proofs.laws.Byte.{onward, Silent, none_silent}
 use Rattle.book.proofs.laws.Settings.{SettingsRight}

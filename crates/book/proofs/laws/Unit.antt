@@ -208,7 +208,8 @@ module _ (u : ℕ) (some : 1 ≤ u) (q0 : ℕ) where
 
   -- ---- run
 
-  in_front_lem : (ended : Bool) (t : Ticked) (s : TicksDone) → in_front ended (finer_ticked u t) (finer_done u s) ≡ finer_done u (in_front ended t s)
+  in_front_lem : (ended : Bool) (t : Ticked) (s : TicksDone)
+      → in_front ended (finer_ticked u t) (finer_done u s) ≡ finer_done u (in_front ended t s)
   in_front_lem true t s = refl
   in_front_lem false t s = refl
 
@@ -233,7 +234,8 @@ module _ (u : ℕ) (some : 1 ≤ u) (q0 : ℕ) where
       by true = refl
       by false = ap (ran_over budget) (done_finer (min budget buffer) b)
 
-  run_finer : (b : Bench) (budget buffer : ℕ) → bench_run (u * q0) (finer_bench u b) budget buffer ≡ finer_ran u (bench_run q0 b budget buffer)
+  run_finer : (b : Bench) (budget buffer : ℕ)
+      → bench_run (u * q0) (finer_bench u b) budget buffer ≡ finer_ran u (bench_run q0 b budget buffer)
   unfolding bench_run
   run_finer b budget buffer = run_with_lem b b.work budget buffer
 

@@ -72,4 +72,5 @@ returns c =
     all_laid s.words.now s.front.now v.1 all v.3
 
 pub lay_spec : {M : Type 1} → statement M
-lay_spec = tie.close (tie.spec invariant-loop-i decreases-loop-i seen-requires seen-requires-2 loop-i-init offset_bounds-front-i bounds-front-i offset_bounds-words-i bounds-words-i overflow_add-i loop-i-smaller loop-i-preserved returns)
+lay_spec = tie.close (tie.spec invariant-loop-i decreases-loop-i seen-requires seen-requires-2 loop-i-init offset_bounds-front-i
+    bounds-front-i offset_bounds-words-i bounds-words-i overflow_add-i loop-i-smaller loop-i-preserved returns)

@@ -23,7 +23,11 @@ start_in-start-requires c κs = sixteen_most _ (sym c.is_sound.ensures ∙ c.if-
 
 load_sound-answer-requires : tie.Need-load_sound-answer-requires
 load_sound-answer-requires c κs =
-    record { sound = (sym c.is_sound.ensures ∙ c.if-not-is_sound.false); bench_is = c.bench_in-k.ensures; start_is = c.start_in-start.ensures }
+    record {
+      sound = (sym c.is_sound.ensures ∙ c.if-not-is_sound.false);
+      bench_is = c.bench_in-k.ensures;
+      start_is = c.start_in-start.ensures;
+    }
 
 answer_number-requires : tie.Need-answer_number-requires
 answer_number-requires c κs = search rules
@@ -36,4 +40,5 @@ returns c =
     (load_told _ (sym c.is_sound.ensures ∙ c.if-not-is_sound.false) c.args.b c.load_sound-answer.ensures.0 c.load_sound-answer.ensures.1))
 
 pub load_spec : {M : Type 1} → statement M
-load_spec = tie.close (tie.spec is_sound-requires returns-then-not-is_sound bench_in-k-requires start_in-start-requires load_sound-answer-requires answer_number-requires returns)
+load_spec = tie.close (tie.spec is_sound-requires returns-then-not-is_sound bench_in-k-requires start_in-start-requires
+    load_sound-answer-requires answer_number-requires returns)

@@ -52,4 +52,5 @@ returns c =
     (make_told g.words.now c.seen-arg-2-1.given (settings_of g.p g.w g.xlo g.xhi g.ylo g.yhi) made))
 
 pub make_spec : {M : Type 1} → statement M
-make_spec = tie.close (tie.spec seen-requires settings-requires make-a-requires encode-front-requires lay-requires bounds-words-19 bounds-words-20 bounds-words-21 answer_number-requires returns)
+make_spec = tie.close (tie.spec seen-requires settings-requires make-a-requires encode-front-requires lay-requires bounds-words-19
+    bounds-words-20 bounds-words-21 answer_number-requires returns)

@@ -57,4 +57,5 @@ returns c =
     (run_told _ (sym c.is_sound.ensures ∙ c.if-not-is_sound.false) s.budget s.out.now ran bytes))
 
 pub run_spec : {M : Type 1} → statement M
-run_spec = tie.close (tie.spec is_sound-requires returns-then-not-is_sound bench_in-k-requires run_sound-r-requires left_in-requires overflow_sub-left store_ticks-requires report_number-requires shape_of-out returns)
+run_spec = tie.close (tie.spec is_sound-requires returns-then-not-is_sound bench_in-k-requires run_sound-r-requires left_in-requires
+    overflow_sub-left store_ticks-requires report_number-requires shape_of-out returns)

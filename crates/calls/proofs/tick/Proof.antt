@@ -38,11 +38,13 @@ left_in-requires c κs = search rules
 
 left_after-left-requires : tie.Need-left_after-left-requires
 left_after-left-requires c κs =
-    tick_enough _ (sym c.is_sound.ensures ∙ c.if-not-is_sound.false) (c.tick_sound-t.ensures ∙ ap tick_of c.bench_in-k.ensures) c.left_in.ensures
+    tick_enough _ (sym c.is_sound.ensures ∙ c.if-not-is_sound.false) (c.tick_sound-t.ensures ∙ ap tick_of c.bench_in-k.ensures)
+    c.left_in.ensures
 
 store_ticks-requires : tie.Need-store_ticks-requires
 store_ticks-requires c κs =
-    tick_stores _ (sym c.is_sound.ensures ∙ c.if-not-is_sound.false) (c.tick_sound-t.ensures ∙ ap tick_of c.bench_in-k.ensures) c.left_in.ensures
+    tick_stores _ (sym c.is_sound.ensures ∙ c.if-not-is_sound.false) (c.tick_sound-t.ensures ∙ ap tick_of c.bench_in-k.ensures)
+    c.left_in.ensures
     c.left_after-left.ensures
 
 tick_number-requires : tie.Need-tick_number-requires
@@ -56,4 +58,6 @@ returns c =
     (tick_told _ (sym c.is_sound.ensures ∙ c.if-not-is_sound.false) (c.tick_sound-t.ensures ∙ ap tick_of c.bench_in-k.ensures)))
 
 pub tick_spec : {M : Type 1} → statement M
-tick_spec = tie.close (tie.spec is_sound-requires returns-then-not-is_sound bench_in-k-requires returns-then-k is_nothing-requires returns-then-is_nothing tick_sound-t-requires left_in-requires left_after-left-requires store_ticks-requires tick_number-requires returns)
+tick_spec = tie.close (tie.spec is_sound-requires returns-then-not-is_sound bench_in-k-requires returns-then-k is_nothing-requires
+    returns-then-is_nothing tick_sound-t-requires left_in-requires left_after-left-requires store_ticks-requires tick_number-requires
+    returns)

@@ -64,6 +64,7 @@ pub make_told : (ws : List ℤ) → length ws ≡ 134 → (s : Settings) {a : An
 unfolding made_of make_of bench_make
 make_told ws long s {a} is = ap (tells (answer_number a.answer)) (figures_laid ws long a.bench) ∙ rw is (by (settings_no s))
   where
-    by : (n : ℕ) → tells (answer_number (bench_with s n).answer) (over (fresh_words (bench_with s n).bench) ws) ≡ told_answer ws (make_with s n)
+    by : (n : ℕ) → tells (answer_number (bench_with s n).answer) (over (fresh_words (bench_with s n).bench) ws)
+        ≡ told_answer ws (make_with s n)
     by zero = ap (λ (l : List ℤ). tells (pos 0) (over l ws)) (fresh_laid s)
     by (suc n) = ap (λ (l : List ℤ). tells (refusal_of (suc n)) (over l ws)) (fresh_laid standard_settings)

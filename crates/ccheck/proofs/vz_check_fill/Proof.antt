@@ -58,4 +58,6 @@ returns c =
     })
 
 pub vz_check_fill_spec : {M : Type 1} → statement M
-vz_check_fill_spec = tie.close (tie.spec is_sound-requires returns-then-not-is_sound bench_read-m-requires decode_progress-p-requires returns-then-not-p fill-f-requires encode-after-requires encode_progress-come-requires is_over-requires mark_word-requires shape_of-out returns)
+vz_check_fill_spec = tie.close (tie.spec is_sound-requires returns-then-not-is_sound bench_read-m-requires decode_progress-p-requires
+    returns-then-not-p fill-f-requires encode-after-requires encode_progress-come-requires is_over-requires mark_word-requires shape_of-out
+    returns)

@@ -41,4 +41,5 @@ returns c =
     )
 
 pub vz_check_start_spec : {M : Type 1} → statement M
-vz_check_start_spec = tie.close (tie.spec settings-requires make-a-requires encode-after-requires start-requires encode_progress-begun-requires answer_number-requires returns)
+vz_check_start_spec = tie.close (tie.spec settings-requires make-a-requires encode-after-requires start-requires
+    encode_progress-begun-requires answer_number-requires returns)

@@ -104,7 +104,8 @@ step_tolls {n} t p c =
 -- after c steps that came over the X axis v times: rank and toll have both grown by what was done, less v rounds
 pub record Along (n : ℕ) (t : Turn) (p : Offset) (c v : ℕ) : Type 0 where
   pub rank : rank_of (quarter_of n) (seen_place t (after_of n t p c)) + v * (4 * quarter_of n) ≡ rank_of (quarter_of n) (seen_place t p) + c
-  pub toll : toll_of (quarter_of n) (nearest_root n) (seen_place t (after_of n t p c)) + v * round_charges_of (quarter_of n) (nearest_root n)
+  pub toll : toll_of (quarter_of n) (nearest_root n) (seen_place t (after_of n t p c))
+      + v * round_charges_of (quarter_of n) (nearest_root n)
       ≡ toll_of (quarter_of n) (nearest_root n) (seen_place t p) + charges_in n t p c
 
 pub along : {n : ℕ} (t : Turn) (p : Offset) (c : ℕ) → Circle n p → (v : ℕ) × Along n t p c v

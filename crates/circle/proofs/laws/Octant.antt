@@ -1,7 +1,8 @@
 -- The circle points of one octant, 0 ≤ y ≤ x, over the naturals. Products of orders (`apart`, `apart_le`) are all that `omega` has to
 -- be told.
 use Rattle.std.specs.Prelude.{◌≡◌, ◌⊎◌, ℕ, zero, suc, ◌+◌, ◌*◌, ◌≤◌, ◌<◌}
-use Rattle.std.proofs.Common.{sym, inl, inr, le_antisymm, le_refl, le_of_lt, mul-le-mul, mul-le-mul_left, mul-le-mul_right, mul-lt-mul_of_pos_right, lt_of_not-le, arith}
+use Rattle.std.proofs.Common.{sym, inl, inr, le_antisymm, le_refl, le_of_lt, mul-le-mul, mul-le-mul_left, mul-le-mul_right}
+use Rattle.std.proofs.Common.{mul-lt-mul_of_pos_right, lt_of_not-le, arith}
 use Rattle.std.proofs.Math.Nat.{le_of_mul-le-mul_left}
 use Rattle.std.proofs.Math.Decide.{dec_le}
 use Rattle.whole.specs.Root.{nearest_root}

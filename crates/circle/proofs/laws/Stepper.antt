@@ -1,6 +1,8 @@
 -- The stepper computes the step: its carried excess decides each test as the products do.
-use Rattle.std.specs.Prelude.{◌≡◌, refl, Bool, true, false, cond, ℕ, zero, suc, ◌+◌, ◌-◌, ◌*◌, ◌≤◌, ◌<◌, max, leb, ltb, eqb, ℤ, neg_ℤ, nat_abs, ◌-ℤ◌}
-use Rattle.std.proofs.Common.{sym, ap, subst, ◌∙◌, inl, inr, arith, ltb-true, ltb-false, leb-true, leb-false, lt-ltb, le-ltb, le-leb, eqb-true}
+use Rattle.std.specs.Prelude.{◌≡◌, refl, Bool, true, false, cond, ℕ, zero, suc, ◌+◌, ◌-◌, ◌*◌, ◌≤◌, ◌<◌, max, leb, ltb, eqb, ℤ, neg_ℤ}
+use Rattle.std.specs.Prelude.{nat_abs, ◌-ℤ◌}
+use Rattle.std.proofs.Common.{sym, ap, subst, ◌∙◌, inl, inr, arith, ltb-true, ltb-false, leb-true, leb-false, lt-ltb, le-ltb, le-leb}
+use Rattle.std.proofs.Common.{eqb-true}
 use Rattle.std.proofs.lemmas.Bool.{lt-leb}
 use Rattle.whole.specs.laws.Difference.{ring, var, num, neg, ◌⊖◌}
 use Rattle.circle.specs.declared.plane.Offset.{Offset}
@@ -140,7 +142,8 @@ module _ (n : ℕ) (t : Turn) (k : ℕ) where
   advance_by_lem e h (rises {a} {b}) = settle n t k a (b + 1) (e + 2 * b + 1) (omega arith)
   advance_by_lem e h (slants {a} {b}) =
       let less : suc a - 1 ≡ a = omega arith in rw less (settle n t k a (b + 1) (e + 2 * b + 2 - 2 * suc a) (omega arith))
-  advance_by_lem e h (falls {a} {b}) = let less : suc a - 1 ≡ a = omega arith in rw less (settle n t k a b (e + 1 - 2 * suc a) (omega arith))
+  advance_by_lem e h (falls {a} {b}) = let less : suc a - 1 ≡ a = omega arith in
+      rw less (settle n t k a b (e + 1 - 2 * suc a) (omega arith))
 
 -- the carried excess is exact
 exact : {n : ℕ} (q : Place) → n ≤ largest_n → 1 ≤ n → On n q

@@ -37,4 +37,5 @@ returns c =
     rw e (sym (reaches_positive s.n s.e (rw e at c.if-side.false)))
 
 pub reaches_axis_spec : {M : Type 1} → statement M
-reaches_axis_spec = tie.close (tie.spec part-side-requires returns-then-side returns-then-m-ge2000000 overflow_mul-result overflow_add-result returns)
+reaches_axis_spec = tie.close (tie.spec part-side-requires returns-then-side returns-then-m-ge2000000 overflow_mul-result
+    overflow_add-result returns)

@@ -29,7 +29,8 @@ use Rattle.circle.specs.Circle.{quarter_of}
 use Rattle.circle.proofs.laws.Octant.{Axis, nearest_axis, axis_within, within_axis}
 use Rattle.circle.proofs.laws.Circle.{circle_some, under_radius}
 use Rattle.circle.proofs.laws.Next.{On, seen_form, step_circle}
-use Rattle.circle.proofs.laws.Walk.{quarter_axis, seen_step, seen_injective, after_front, walk_to, walk_of, Ahead, at_end_lem, goes_on, ahead}
+use Rattle.circle.proofs.laws.Walk.{quarter_axis, seen_step, seen_injective, after_front, walk_to, walk_of, Ahead, at_end_lem, goes_on}
+use Rattle.circle.proofs.laws.Walk.{ahead}
 use Rattle.circle.proofs.laws.Walk.{cycles_range, ends, ends_cycles}
 use Rattle.clearance.specs.declared.Room.{Room}
 use Rattle.clearance.specs.computed.Inside.{Inside}
@@ -80,7 +81,8 @@ turned_inside : (k : ℕ) (room : Room) (p : Offset) → Inside room (turned k p
 unfolding facing
 turned_inside zero room p = (λ h. h, λ h. h)
 turned_inside (suc k) room p = (
-  λ h. subst (λ (r : Room). Inside r p) (facing_rotated k room) ((turned_inside k (rotated room) p).0 ((turn_inside room (turned k p)).0 h)),
+  λ h. subst (λ (r : Room). Inside r p) (facing_rotated k room)
+      ((turned_inside k (rotated room) p).0 ((turn_inside room (turned k p)).0 h)),
   λ h.
       (turn_inside room (turned k p)).1
       ((turned_inside k (rotated room) p).1 (subst (λ (r : Room). Inside r p) (sym (facing_rotated k room)) h)),
@@ -263,7 +265,8 @@ module _ {N : ℕ} (t : Turn) (room : Room) (e : Offset) (on : Circle N e) where
     -- from the step on the way stays inside
     pub stays_step : stays_inside room N t p e ≡ true → step_of N t p ≢ e → stays_inside room N t (step_of N t p) e ≡ true
     stays_step h f =
-        let g = next_safe_way t room e on p c h (λ k. f (seen_injective t (step_of N t p) e (step_circle t p c) on (seen_step t p c ∙ k))) in
+        let g =
+        next_safe_way t room e on p c h (λ k. f (seen_injective t (step_of N t p) e (step_circle t p c) on (seen_step t p c ∙ k))) in
         safe_of t room e on (step_of N t p) (step_circle t p c) (subst SafeFrom (sym (seen_step t p c)) g)
 
     -- and the other way round
@@ -286,7 +289,8 @@ module _ {N : ℕ} (t : Turn) (room : Room) (e : Offset) (on : Circle N e) where
       subst (Inside room) (sym (after_front N t p (suc c)))
       (by (ahead t e on p o) (λ f. visits c (step_of N t p) (step_circle t p o) (stays_step p o h f)))
     where
-      by : Ahead N t p e → (step_of N t p ≢ e → c < circle_cycles N t (step_of N t p) e → Inside room (after_of N t (step_of N t p) (suc c)))
+      by : Ahead N t p e → (step_of N t p ≢ e → c < circle_cycles N t (step_of N t p) e
+          → Inside room (after_of N t (step_of N t p) (suc c)))
           → Inside room (after_of N t (step_of N t p) (suc c))
       by (at_end_lem f g) k = absurd (omega arith)
       by (goes_on f g) k = k f (omega arith)

@@ -56,4 +56,6 @@ returns c =
     c.encode_panel-come.ensures
 
 pub vz_panel_read_spec : {M : Type 1} → statement M
-vz_panel_read_spec = tie.close (tie.spec is_sound-requires returns-then-not-is_sound bench_read-m-requires decode_panel-p-requires returns-then-not-p is_last-requires read-f-requires encode-after-requires encode_panel-come-requires told_number-requires shape_of-scratch shape_of-rows returns)
+vz_panel_read_spec = tie.close (tie.spec is_sound-requires returns-then-not-is_sound bench_read-m-requires decode_panel-p-requires
+    returns-then-not-p is_last-requires read-f-requires encode-after-requires encode_panel-come-requires told_number-requires
+    shape_of-scratch shape_of-rows returns)

@@ -106,7 +106,8 @@ pub made_bench : (s : Settings) → ((make_of s).answer ≡ (machine_make s).ans
 unfolding make_of machine_make machine_of
 made_bench s = by (settings_no s)
   where
-    by : (n : ℕ) → ((make_with s n).answer ≡ (machine_make_with s n).answer) × ((make_with s n).bench ≡ (machine_make_with s n).machine.bench)
+    by : (n : ℕ) → ((make_with s n).answer ≡ (machine_make_with s n).answer)
+        × ((make_with s n).bench ≡ (machine_make_with s n).machine.bench)
     by zero = (refl, refl)
     by (suc n) = (refl, refl)
 
@@ -122,7 +123,8 @@ started s n ws ps made progress =
       record { words = ap (λ (t : Told). t.words) made; progress = progress },
     )
 
-pub from_words : (s : Settings) → AllYes (settings_questions s) → {n : ℤ} (ws ps : List ℤ) → tells n ws ≡ bench_made s → ps ≡ start_progress s
+pub from_words : (s : Settings) → AllYes (settings_questions s) → {n : ℤ} (ws ps : List ℤ) → tells n ws ≡ bench_made s
+    → ps ≡ start_progress s
     → (text bytes : List ℕ) (last : ℤ) (ws' ps' : List ℤ) → RowsOutToC text ws ps bytes last ws' ps'
     → FrontOf (listing_of s text) bytes (last ≡ pos 1)
 from_words s pass ws ps made progress text bytes last ws' ps' rows =

@@ -435,7 +435,8 @@ module _ (before known : List ℤ) (line : Bor (List ℕ)) (n : ℤ) (after know
       by : (sound : Bool) → sound_words before ≡ sound → (ok : Bool) → (decode_known known).ok ≡ ok → (after ≡ before) × (known' ≡ known)
       by true t true u =
           let same = line_own t u in
-          let r = refused_line_lem (decode_known known).reader (machine_in before) line q (sym (ap (λ (l : ToldLine). l.answer) same) ∙ e) in (
+          let r =
+          refused_line_lem (decode_known known).reader (machine_in before) line q (sym (ap (λ (l : ToldLine). l.answer) same) ∙ e) in (
             ap (λ (l : ToldLine). l.words) same ∙ ap (λ (x : Machine). over (encode_of x) before) r.1 ∙ own_words before t,
             ap (λ (l : ToldLine). l.known) same ∙ ap encode_known r.0 ∙ sym (known_words known u),
           )

@@ -31,4 +31,5 @@ unfolding last_tick end_tick
 returns-else-ticks-cycles c = search rules
 
 pub last_tick_spec : {M : Type 1} → statement M
-last_tick_spec = tie.close (tie.spec returns-then-due-remainder overflow_sub-ticks overflow_sub-ticks-2 overflow_add-ticks nonzero_div-ticks returns-then-ticks-cycles returns-else-ticks-cycles)
+last_tick_spec = tie.close (tie.spec returns-then-due-remainder overflow_sub-ticks overflow_sub-ticks-2 overflow_add-ticks nonzero_div-ticks
+    returns-then-ticks-cycles returns-else-ticks-cycles)

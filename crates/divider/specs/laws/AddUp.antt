@@ -26,7 +26,8 @@ module _ (due a r0 : ℕ) (some : 1 ≤ a) where
       reaches_unique here ends
 
   -- the ticks to the end, from there on
-  pub rest : (n D r next left : ℕ) → D + r ≡ r0 + n * a → r < next → next ≤ left → D + left ≡ due → n + end_tick left a r ≡ end_tick due a r0
+  pub rest : (n D r next left : ℕ) → D + r ≡ r0 + n * a → r < next → next ≤ left → D + left ≡ due
+      → n + end_tick left a r ≡ end_tick due a r0
   rest n D r next left e below more all =
       let t = end_tick_lem left a r some in
       let there : Reaches due a r0 (n + end_tick left a r) = record {

@@ -1,6 +1,7 @@
 -- The tick on which a block of cycles of different dues ends: for any remainder, from gap to gap, and in a history.
 use Rattle.std.specs.Prelude.{◌≡◌, ℕ, zero, suc, ◌+◌, ◌-◌, ◌*◌, ◌≤◌, ◌<◌, max}
-use Rattle.std.proofs.Common.{ap, div-lt_iff_lt-mul, lt_of_mul-lt-mul_right, lt_of_not-le, not-le_of_lt, lt-suc_self, le_antisymm, le_of_suc-le-suc, mul-le-mul_right, arith}
+use Rattle.std.proofs.Common.{ap, div-lt_iff_lt-mul, lt_of_mul-lt-mul_right, lt_of_not-le, not-le_of_lt, lt-suc_self, le_antisymm}
+use Rattle.std.proofs.Common.{le_of_suc-le-suc, mul-le-mul_right, arith}
 use Rattle.std.proofs.Math.Nat.{lt-div-mul-add}
 use Rattle.std.proofs.Math.Decide.{dec_le}
 use Rattle.divider.specs.computed.Divider.{gone_of, last_tick}

@@ -58,4 +58,5 @@ returns c =
     (sym (finishes _ (working c.before.before.before.before.before.before.before.before.before)))
 
 pub finish_spec : {M : Type 1} → statement M
-finish_spec = tie.close (tie.spec works-requires returns-then-not-works capacity-q0-requires work_left-left-requires overflow_mul-left overflow_mul-left-2 ending-last-requires moved-requires returns)
+finish_spec = tie.close (tie.spec works-requires returns-then-not-works capacity-q0-requires work_left-left-requires overflow_mul-left
+    overflow_mul-left-2 ending-last-requires moved-requires returns)

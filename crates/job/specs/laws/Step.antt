@@ -71,7 +71,8 @@ module _ (c : Check) (text old : List ℕ) (at : ℕ) {new : List ℕ} where
     module _ (short : length text ≤ longest_text) where
       pub step_total : {p : Place}
           → (let line = total_of c.tally in
-          length line ≤ line_room → length text ≤ c.at → Wrote line old at p new → Steps c text old at (last_of c (place_after_row p at)) new)
+          length line ≤ line_room → length text ≤ c.at → Wrote line old at p new
+          → Steps c text old at (last_of c (place_after_row p at)) new)
       unfolding rest_of rows_then lines_of
       step_total few end w =
           last_written (total_of c.tally) few w

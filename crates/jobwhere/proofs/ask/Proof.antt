@@ -73,4 +73,6 @@ returns : tie.Need-returns invariant-loop-at decreases-loop-at
 returns c = ask_end c.loop-at.invariant c.loop-at-test.false
 
 pub ask_spec : {M : Type 1} → statement M
-ask_spec = tie.close (tie.spec invariant-loop-at decreases-loop-at loop-at-init bounds-text-at returns-then-at-eq0 overflow_add-result returns-then-text-at-eq-LF returns-then-at-eq-MOST_DIGITS bounds-text-at-in-loop-at push-pushed-requires enum_told-1 returns-in-Nothing enum_known-pushed overflow_add-at loop-at-smaller loop-at-preserved returns)
+ask_spec = tie.close (tie.spec invariant-loop-at decreases-loop-at loop-at-init bounds-text-at returns-then-at-eq0 overflow_add-result
+    returns-then-text-at-eq-LF returns-then-at-eq-MOST_DIGITS bounds-text-at-in-loop-at push-pushed-requires enum_told-1 returns-in-Nothing
+    enum_known-pushed overflow_add-at loop-at-smaller loop-at-preserved returns)

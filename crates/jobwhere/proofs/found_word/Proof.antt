@@ -27,4 +27,5 @@ returns-in-Refused : tie.Need-returns-in-Refused
 returns-in-Refused c = through (refusal_fits _) c.refusal.ensures ∙ simp c.in-Refused.is
 
 pub found_word_spec : {M : Type 1} → statement M
-found_word_spec = tie.close (tie.spec enum_told-1 enum_told-in-Over enum_known-found refusal-requires returns-in-InWork returns-in-Over returns-in-Refused)
+found_word_spec = tie.close (tie.spec enum_told-1 enum_told-in-Over enum_known-found refusal-requires returns-in-InWork returns-in-Over
+    returns-in-Refused)

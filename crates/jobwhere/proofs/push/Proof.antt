@@ -35,4 +35,5 @@ returns c =
     push_digit s.n s.b t.if-b-lt48.false t.if-b-gt57.false c.if-digit-n.false
 
 pub push_spec : {M : Type 1} → statement M
-push_spec = tie.close (tie.spec returns-then-b-lt48 returns-then-b-gt57 overflow_cast-digit overflow_sub-digit-2 returns-then-digit-n overflow_mul-result overflow_add-result returns)
+push_spec = tie.close (tie.spec returns-then-b-lt48 returns-then-b-gt57 overflow_cast-digit overflow_sub-digit-2 returns-then-digit-n
+    overflow_mul-result overflow_add-result returns)

@@ -77,7 +77,8 @@ module _ {f : Found} {ms : List ℕ} (r : Gathered f ms) (l : Letter) (n : Bool)
     module _ (is : same k l ≡ false) where
       magnitude_stays : get_or magnitudes (index_of k) 0 ≡ get_or ms (index_of k) 0
       magnitude_stays =
-          get_or-set_other ms (index_of l) (index_of k) (magnitude_after f l m) 0 (eqb-false (index_of k) (index_of l) (index_same k l ∙ is))
+          get_or-set_other ms (index_of l) (index_of k) (magnitude_after f l m) 0
+          (eqb-false (index_of k) (index_of l) (index_same k l ∙ is))
 
       sign_stays : (b : Bool) → has_of (bit_or f.negative (cond b (2 ^ index_of l) 0)) k ≡ has_of f.negative k
       sign_stays true = rw (has_put f.negative r.negative l k, is)
@@ -93,7 +94,8 @@ module _ {f : Found} {ms : List ℕ} (r : Gathered f ms) (l : Letter) (n : Bool)
 
   pub words_more : words_in more magnitudes ≡ put_of (words_in f ms) l (one_word n m)
   words_more =
-      words_same (word_in more magnitudes) (λ k. cond (same k l) (more_of (word_at (words_in f ms) k) (one_word n m)) (word_at (words_in f ms) k))
+      words_same (word_in more magnitudes)
+      (λ k. cond (same k l) (more_of (word_at (words_in f ms) k) (one_word n m)) (word_at (words_in f ms) k))
       (λ k. rw (at_by (word_in f ms) k) (after k (same k l) refl))
 
   -- ---- what is kept

@@ -101,7 +101,8 @@ module _ (q c : ℕ) (some : 0 < q) where
       half (suc a + b) (split (neg (num (axis_steps q (suc a) c)) ⊗ num b ⊖ num (axis_steps q b c) ⊗ var (negsuc a)))
       (omega (arith, side q b (suc a) c some)) (omega (arith, side q (suc a) b c some))
   cross (negsuc a) (negsuc b) =
-      half (suc a + suc b) (split (neg (num (axis_steps q (suc a) c)) ⊗ var (negsuc b) ⊖ neg (num (axis_steps q (suc b) c)) ⊗ var (negsuc a)))
+      half (suc a + suc b)
+      (split (neg (num (axis_steps q (suc a) c)) ⊗ var (negsuc b) ⊖ neg (num (axis_steps q (suc b) c)) ⊗ var (negsuc a)))
       (omega (arith, side q (suc a) (suc b) c some)) (omega (arith, side q (suc b) (suc a) c some))
 
   pub near_line : (a b : ℤ) → NearLine a b (axis_moved q a c) (axis_moved q b c)

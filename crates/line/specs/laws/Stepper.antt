@@ -31,7 +31,8 @@ track_next q a negative c x =
     by : (t : Bool) → leb a (q - 1 - register_of q a c) ≡ t
         → cond t (tracked a negative (q - 1 - register_of q a c - a) 0)
         (tracked a negative (q - 1 - register_of q a c + q - a) (code_of true negative))
-        ≡ tracked a negative (q - 1 - (clock_of q a (register_of q a c)).register) (code_of (clock_of q a (register_of q a c)).pulse negative)
+        ≡ tracked a negative (q - 1 - (clock_of q a (register_of q a c)).register)
+        (code_of (clock_of q a (register_of q a c)).pulse negative)
     by true e =
         let below = register_below q a c x in
         let room = leb-true a (q - 1 - register_of q a c) e in

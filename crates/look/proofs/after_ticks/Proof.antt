@@ -57,4 +57,5 @@ returns : tie.Need-returns invariant-loop-left decreases-loop-left
 returns c = let l = c.loop-left in sym (l.invariant.1 ∙ ticking_none l.left l.now (omega (arith, c.loop-left-test.false)))
 
 pub after_ticks_spec : {M : Type 1} → statement M
-after_ticks_spec = tie.close (tie.spec invariant-loop-left decreases-loop-left loop-left-init works-requires returns-then-not-works pass-p-requires overflow_sub-left loop-left-smaller loop-left-preserved returns)
+after_ticks_spec = tie.close (tie.spec invariant-loop-left decreases-loop-left loop-left-init works-requires returns-then-not-works
+    pass-p-requires overflow_sub-left loop-left-smaller loop-left-preserved returns)

@@ -119,7 +119,8 @@ lf_within took size left last held lf most e = behind (ltb took size) refl e
     at_limit more true _ e = let none : lf ≡ 0 = cc in (omega (arith, none), omega (arith, none))
     at_limit more false n e = let one : lf ≡ 1 = cc in (omega (arith, one, eqb-false left 0 n), omega (arith, one, more))
 
-    used_up_lem : (end empty : Bool) → Come.Line lf ≡ cond end (cond empty Come.End (Come.Line 0)) Come.Wait → (lf ≤ left) × (took + lf ≤ size)
+    used_up_lem : (end empty : Bool) → Come.Line lf ≡ cond end (cond empty Come.End (Come.Line 0)) Come.Wait
+        → (lf ≤ left) × (took + lf ≤ size)
     used_up_lem true true e = let none : lf ≡ 0 = cc in (omega (arith, none), omega (arith, none))
     used_up_lem true false e = let none : lf ≡ 0 = cc in (omega (arith, none), omega (arith, none))
     used_up_lem false empty e = let none : lf ≡ 0 = cc in (omega (arith, none), omega (arith, none))

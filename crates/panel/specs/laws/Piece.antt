@@ -1,7 +1,8 @@
 -- What a call hands out, and what is then still to come, is what was to come; and a call that brings something leaves fewer.
 use Rattle.std.specs.Prelude.{◌≡◌, Bool, cond, eqb, ltb, take, drop, get_or}
 use Rattle.std.proofs.Math.Path.{refl, sym, ap}
-use Rattle.std.proofs.Common.{◌∙◌, true≢false, add-zero, add-one, length-take, length-append, drop_of_length-le, drop-cons, eqb-true, ltb-true, ltb-false}
+use Rattle.std.proofs.Common.{◌∙◌, true≢false, add-zero, add-one, length-take, length-append, drop_of_length-le, drop-cons, eqb-true}
+use Rattle.std.proofs.Common.{ltb-true, ltb-false}
 use Rattle.std.proofs.Math.Bool.{true, false}
 use mathlib.Core.List.{List, [], ◌∷◌, ◌++◌, append-nil}
 use Prim.Native.Nat.{ℕ, zero, suc, ◌+◌, ◌-◌, ◌*◌, ◌≤◌, ◌<◌, min}
@@ -208,7 +209,8 @@ module _ (c : PanelCheck) (scratch piece : List ℕ) (last : Bool) where
             record {
               took = omega (arith, few);
               line = omega arith;
-              bytes = λ free kept rest e. append-nil (last_row totals c.tally) ∙ sym (gone rest ∙ rw (ended rest e) (at_end_lem line empty));
+              bytes =
+                  λ free kept rest e. append-nil (last_row totals c.tally) ∙ sym (gone rest ∙ rw (ended rest e) (at_end_lem line empty));
               keeps = over_keeps n;
               fewer = λ going some. rw lines (omega arith);
             }
@@ -252,7 +254,8 @@ module _ (c : PanelCheck) (scratch piece : List ℕ) (last : Bool) where
         at_limit more true e = too_long_onward more (eqb-true left 0 e)
         at_limit more false e = lf_onward more (eqb-false left 0 e)
 
-        at_end_lem : length piece ≤ n → last ≡ true → (empty : Bool) → eqb (length line) 0 ≡ empty → Does (cond empty Come.End (Come.Line 0))
+        at_end_lem : length piece ≤ n → last ≡ true → (empty : Bool) → eqb (length line) 0 ≡ empty
+            → Does (cond empty Come.End (Come.Line 0))
         at_end_lem all end true e = total_onward all end (eqb-true (length line) 0 e)
         at_end_lem all end false e = last_onward all end (eqb-false (length line) 0 e)
 

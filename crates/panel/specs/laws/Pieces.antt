@@ -100,7 +100,8 @@ module _ (c : PanelCheck) (scratch piece : List ℕ) (last : Bool) (old : List �
   reads_on (ReadsPiece.read ok h) = handed_on ok h
 
   -- for programs that call it until all is handed out
-  pub reads_less : ReadsPiece c scratch piece last old f free new → scratch_bytes ≤ length scratch → has_room old 0 ≡ true → is_over c ≡ false
+  pub reads_less : ReadsPiece c scratch piece last old f free new → scratch_bytes ≤ length scratch → has_room old 0 ≡ true
+      → is_over c ≡ false
       → (length piece ≡ 0 → last ≡ true)
       → calls_left f.check < calls_left c
   reads_less (ReadsPiece.short small e kept same) wide room going some = absurd (true≢false (sym (fitting scratch old wide room) ∙ small))

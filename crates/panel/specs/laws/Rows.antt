@@ -88,7 +88,8 @@ on_short (b ∷ rest) t (suc left) line none h =
     by (eqb b 10) refl (λ t' line' none'. on_short rest t' left line' none' (omega arith))
   where
     by : (lf : Bool) → eqb b 10 ≡ lf
-        → ((t' : Tally) (line' : List ℕ) → first_line line' ≡ line' → rows_on t' left line' rest ≡ rows_from t' (front line' (lines_of rest)))
+        → ((t' : Tally) (line' : List ℕ) → first_line line' ≡ line'
+        → rows_on t' left line' rest ≡ rows_from t' (front line' (lines_of rest)))
         → at_lf lf (row_then (listed_of t (first_line line)) (λ t'. rows_on t' left [] rest)) (rows_on t left (line ++ (b ∷ [])) rest)
         ≡ rows_from t (front line (line_or lf b (lines_of rest)))
     by true e on = rw (front_lf line (lines_of rest), none, on (listed_of t line).tally [] refl)

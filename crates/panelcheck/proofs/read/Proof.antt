@@ -32,4 +32,5 @@ returns c =
     (simp (length-take, length-drop) (omega arith)) c.read.ensures
 
 pub read_spec : {M : Type 1} → statement M
-read_spec = tie.close (tie.spec slice_bounds-read-count slice_bounds-read-start slice_bounds-read-end read-requires shape_of-scratch shape_of-rows returns)
+read_spec = tie.close (tie.spec slice_bounds-read-count slice_bounds-read-start slice_bounds-read-end read-requires shape_of-scratch
+    shape_of-rows returns)

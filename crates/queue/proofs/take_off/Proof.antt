@@ -57,4 +57,6 @@ returns c =
     c.cycles_by-cycles.ensures c.if-count-cycles.false
 
 pub take_off_spec : {M : Type 1} → statement M
-take_off_spec = tie.close (tie.spec load_no-requires wrong-requires returns-then-load_no-ne0 is_root-requires wrong-requires-then-not-is_root returns-then-not-is_root cycles_by-cycles-requires wrong-requires-then-count-cycles returns-then-count-cycles returns)
+take_off_spec = tie.close (tie.spec load_no-requires wrong-requires returns-then-load_no-ne0 is_root-requires
+    wrong-requires-then-not-is_root returns-then-not-is_root cycles_by-cycles-requires wrong-requires-then-count-cycles
+    returns-then-count-cycles returns)

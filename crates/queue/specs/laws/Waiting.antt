@@ -1,6 +1,7 @@
 -- What each step of a queue does to the blocks that wait; and the queue that holds just a list of them.
 use Rattle.std.specs.Prelude.{◌≡◌, refl, List, [], ◌∷◌, ◌++◌, ℕ, zero, suc, ◌+◌, ◌-◌, ◌≤◌, ◌<◌, length, take, drop, set, get_or, replicate}
-use Rattle.std.proofs.Common.{sym, ap, ◌∙◌, append_assoc, not-suc-le-zero, le_of_suc-le-suc, add-one, arith, length-append, take-suc-set, length-take-le}
+use Rattle.std.proofs.Common.{sym, ap, ◌∙◌, append_assoc, not-suc-le-zero, le_of_suc-le-suc, add-one, arith, length-append, take-suc-set}
+use Rattle.std.proofs.Common.{length-take-le}
 use Rattle.std.proofs.lemmas.List.{replicate-append-replicate, take-append-le}
 use Rattle.std.proofs.Math.Seq.{take-append_seam, set-append_seam}
 use Rattle.plane.specs.declared.point.Point.{Point}
@@ -114,7 +115,8 @@ push_queue from l b h =
     by r w n k j e =
         rw (e, more, sym n, set-append_seam r blank (replicate j blank) w, append_assoc r (w ∷ []) (replicate j blank))
 
-pub pop_queue : (from : Point) (b : Block) (l : List Block) → length l < 16 → popped_of (queue_of from (b ∷ l)) ≡ queue_of (end_after from b) l
+pub pop_queue : (from : Point) (b : Block) (l : List Block) → length l < 16
+    → popped_of (queue_of from (b ∷ l)) ≡ queue_of (end_after from b) l
 unfolding popped_of queue_of rooted
 pop_queue from b l h = by (rooted (end_after from b) l) (16 - suc (length l)) (16 - length l) (suc (length l) - 1) (omega arith)
     (omega arith)

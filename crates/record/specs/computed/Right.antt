@@ -26,7 +26,8 @@ use Rattle.record.specs.computed.Words.{len_in, bench_in}
 unfoldable pub is_front : List ℤ → Bool
 is_front ws =
     same_words (front_of (at ws 0) (head_in ws) (work_words_in ws) (figures_in ws) [])
-    (front_of abi (head_of (bench_in ws)) (work_words_of (bench_in ws).work) (figures_of (count_of (at ws 19)) (count_of (at ws 20)) (len_in ws)) [])
+    (front_of abi (head_of (bench_in ws)) (work_words_of (bench_in ws).work)
+    (figures_of (count_of (at ws 19)) (count_of (at ws 20)) (len_in ws)) [])
 
 unfoldable pub figures_right : Figures → Bool
 figures_right f = is_count f.root && (is_count f.left && is_count f.len)

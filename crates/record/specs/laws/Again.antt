@@ -1,6 +1,7 @@
 -- The words of a sound record tell it again, so a caller may hand them to the next call. The places that no block waits in are blank in
 -- what words tell, and they stay so.
-use Rattle.std.specs.Prelude.{◌≡◌, refl, Bool, true, false, cond, List, [], ◌∷◌, ◌++◌, ℕ, zero, suc, ◌+◌, ◌-◌, ◌≤◌, ◌<◌, min, ℤ, length, drop, replicate}
+use Rattle.std.specs.Prelude.{◌≡◌, refl, Bool, true, false, cond, List, [], ◌∷◌, ◌++◌, ℕ, zero, suc, ◌+◌, ◌-◌, ◌≤◌, ◌<◌, min, ℤ, length}
+use Rattle.std.specs.Prelude.{drop, replicate}
 use Rattle.std.proofs.Common.{sym, ap, subst, ◌∙◌, arith, drop_at, drop-drop, drop-set-lt}
 use Rattle.std.proofs.lemmas.List.{replicate-append-replicate, drop-append-le}
 use Rattle.std.proofs.Math.Seq.{drop-append_seam}

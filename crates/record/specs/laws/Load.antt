@@ -103,4 +103,5 @@ module _ (ws : List ℤ) (t : sound_words ws ≡ true) where
         many = omega (arith, queue_length (places q), held)
 
         behind_it : length (encode_of m) + 7 ≡ length (front (queue_words (places q) ++ seven_of (block_words_of w) []))
-        behind_it = omega (arith, own, queue_length (places q), held, length-append (queue_words (places q)) (seven_of (block_words_of w) []))
+        behind_it =
+            omega (arith, own, queue_length (places q), held, length-append (queue_words (places q)) (seven_of (block_words_of w) []))

@@ -1,5 +1,6 @@
 -- Where the words of the blocks that wait stand, and the places that they tell.
-use Rattle.std.specs.Prelude.{◌≡◌, refl, List, [], ◌∷◌, ◌++◌, ℕ, zero, suc, ◌+◌, ◌-◌, ◌*◌, ◌^◌, ◌≤◌, ◌<◌, min, ℤ, pos, length, take, drop, get_or, replicate}
+use Rattle.std.specs.Prelude.{◌≡◌, refl, List, [], ◌∷◌, ◌++◌, ℕ, zero, suc, ◌+◌, ◌-◌, ◌*◌, ◌^◌, ◌≤◌, ◌<◌, min, ℤ, pos, length, take, drop}
+use Rattle.std.specs.Prelude.{get_or, replicate}
 use Rattle.std.proofs.Math.Path.{sym}
 use Rattle.std.proofs.Common.{ap, ◌∙◌, append-nil, arith, length-append, drop-cons, drop-drop, get_or-drop, take_at, take_all}
 use Rattle.std.proofs.lemmas.List.{length-replicate}
@@ -35,7 +36,8 @@ places_length ws i (suc n) = ap suc (places_length ws (i + 1) n)
 step : (ws : List ℤ) (n m : ℕ) → n < length ws → m ≡ suc n → drop n ws ≡ at ws n ∷ drop m ws
 step ws n m h e = rw e (drop-cons ws n (pos 0) h)
 
-pub seven : (ws : List ℤ) (i : ℕ) → 29 + 7 * i ≤ length ws → drop (22 + 7 * i) ws ≡ seven_of (block_words_in ws i) (drop (22 + 7 * (i + 1)) ws)
+pub seven : (ws : List ℤ) (i : ℕ) → 29 + 7 * i ≤ length ws
+    → drop (22 + 7 * i) ws ≡ seven_of (block_words_in ws i) (drop (22 + 7 * (i + 1)) ws)
 seven ws i h =
     let n = 22 + 7 * i in
     step ws n (n + 1) (omega arith) (omega arith)
@@ -140,7 +142,8 @@ module _ (ws : List ℤ) (from : Point) {n : ℕ} (is : n ≡ len_in ws) where
 
   pub last_end : (n ≡ 0 → ⊥) → n ≤ 16 → (waiting_in ws (n - 1)).block.end ≡ chain_end from (waiting (queue_in ws (len_in ws)))
   last_end some most =
-      ap (λ (w : Waiting). w.block.end) (sym (front ∙ place_at_lem ws 0 (min n 16) (n - 1) (omega (arith, waits)) ∙ ap (waiting_in ws) first))
+      ap (λ (w : Waiting). w.block.end)
+      (sym (front ∙ place_at_lem ws 0 (min n 16) (n - 1) (omega (arith, waits)) ∙ ap (waiting_in ws) first))
       ∙ end_last from (queue_in ws n).blocks n waits (omega (arith, queue_sixteen ws n))
       ∙ ap (λ (k : ℕ). chain_end from (waiting (queue_in ws k))) is
     where

@@ -24,15 +24,18 @@ use Rattle.encoding.specs.declared.encode.WorkWords.{WorkWords}
 use Rattle.encoding.specs.Words.{abi, at, word_of, count_of, head_of, work_words_of}
 use Rattle.encoding.specs.computed.Words.{head_in, work_words_in, work_read}
 use Rattle.encoding.specs.laws.Same.{same_true, same_words_lem}
-use Rattle.encoding.specs.laws.Right.{count_again, count_right, zero_right, head_again, head_right_lem, WorkFits, work_again, work_right_lem}
+use Rattle.encoding.specs.laws.Right.{count_again, count_right, zero_right, head_again, head_right_lem, WorkFits, work_again}
+use Rattle.encoding.specs.laws.Right.{work_right_lem}
 use Rattle.encoding.specs.laws.Right.{words_at}
 use Rattle.record.specs.declared.read.BlockWords.{BlockWords}
 use Rattle.record.specs.Words.{figures_of, front_of, block_words, block_words_along, block_words_of, seven_of, queue_words, encode_of}
 use Rattle.record.specs.Words.{over}
-use Rattle.record.specs.computed.Words.{waiting_of, path_read, block_words_in, waiting_in, places_in, queue_in, figures_in, len_in, bench_in}
+use Rattle.record.specs.computed.Words.{waiting_of, path_read, block_words_in, waiting_in, places_in, queue_in, figures_in, len_in}
+use Rattle.record.specs.computed.Words.{bench_in}
 use Rattle.record.specs.computed.Words.{machine_in}
 use Rattle.record.specs.computed.Words.{is_record}
-use Rattle.record.specs.computed.Right.{figures_right, is_front, front_right, block_row_right, kind_right, block_right, are_blocks, row_right}
+use Rattle.record.specs.computed.Right.{figures_right, is_front, front_right, block_row_right, kind_right, block_right, are_blocks}
+use Rattle.record.specs.computed.Right.{row_right}
 use Rattle.record.specs.laws.Places.{queue_length, seven, block_at, queue_sixteen, queue_places, places_length}
 use Rattle.record.specs.laws.Record.{record_words, words_record}
 
@@ -296,9 +299,11 @@ module _ (q0 : ℕ) (t : Travel) (ws : List ℤ) where
       all : min n 16 ≡ n
       all = omega arith
 
-  pub row_long : (from : Point) (cycles n : ℕ) → 16 < n → (are_blocks ws 0 (min n 16) && sound_with q0 t from cycles (queue_in ws n)) ≡ false
+  pub row_long : (from : Point) (cycles n : ℕ) → 16 < n
+      → (are_blocks ws 0 (min n 16) && sound_with q0 t from cycles (queue_in ws n)) ≡ false
   row_long from cycles n h =
-      ap (λ (b : Bool). are_blocks ws 0 (min n 16) && b) (too_long_lem q0 t from cycles (queue_in ws n) h) ∙ none (are_blocks ws 0 (min n 16))
+      ap (λ (b : Bool). are_blocks ws 0 (min n 16) && b) (too_long_lem q0 t from cycles (queue_in ws n) h)
+      ∙ none (are_blocks ws 0 (min n 16))
 
   pub row_end : (start : Point) (count i n : ℕ) → n ≤ i → row_right q0 t ws start count i (n - i) ≡ eqb count 0
   unfolding row_right

@@ -22,7 +22,8 @@ use Rattle.record.specs.laws.Right.{none, record_is}
 
 -- ---- root, figure and queue
 
-module _ (ws : List ℤ) (len q0 : ℕ) (t : Travel) (p : Point) (w : Work) (root left : ℕ) {r : TakenOff} (e : r ≡ work_off p w root left) where
+module _ (ws : List ℤ) (len q0 : ℕ) (t : Travel) (p : Point) (w : Work) (root left : ℕ) {r : TakenOff}
+    (e : r ≡ work_off p w root left) where
   -- the words of those that wait, and what waits
   abbrev right : Bool
   right = are_blocks ws 0 (min len 16) && waiting_right q0 t p w root left (queue_in ws len)

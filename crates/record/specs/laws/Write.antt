@@ -257,7 +257,8 @@ module _ (ws : List ℤ) (p : Point) {n : ℕ} (is : n ≡ len_in ws) where
   brought_first some = by n some ∙ ap (brought_of ws p) is
     where
       by : (n : ℕ) → (n ≡ 0 → ⊥)
-          → shifted (set (set (set_work ws (work_words_of (begun_of p (waiting_in ws 0).block).work)) 19 (word_of (waiting_in ws 0).root)) 21
+          → shifted (set (set (set_work ws (work_words_of (begun_of p (waiting_in ws 0).block).work)) 19 (word_of (waiting_in ws 0).root))
+          21
           (word_of (n - 1))) (n - 1)
           ≡ brought_of ws p n
       by zero some = absurd (some refl)

@@ -20,7 +20,15 @@ pub block_length : (block text_line : ℕ) (kind : Kind) (cycles : ℕ) (x y : �
     → length (block_line block text_line kind cycles x y bits) ≤ 128
 block_length block text_line kind cycles x y bits b l c p q w =
     rw line_length
-    (omega (arith, digits_most block b, digits_most text_line l, digits_most cycles c, signed_most x p, signed_most y q, digits_most bits w))
+    (omega (
+      arith,
+      digits_most block b,
+      digits_most text_line l,
+      digits_most cycles c,
+      signed_most x p,
+      signed_most y q,
+      digits_most bits w,
+    ))
 
 pub total_length : (blocks cycles ticks : ℕ) → Fits w64 blocks → Fits w64 cycles → ticks < 10 ^ 30
     → length (total_line blocks cycles ticks) ≤ 79

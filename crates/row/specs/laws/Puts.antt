@@ -1,6 +1,7 @@
 -- What it means to put bytes into a buffer from a place on, and that such steps follow one another.
 use Rattle.std.specs.Prelude.{ℕ, suc, ◌+◌, ◌≤◌, ◌<◌, ◌≡◌, refl, List, [], ◌∷◌, ◌++◌, length, set, take}
-use Rattle.std.proofs.Common.{sym, ap, ◌∙◌, append_assoc, le_refl, arith, add-one, length-append, length-set, length-take-le, take-suc-set, drop-set-lt, le-leb}
+use Rattle.std.proofs.Common.{sym, ap, ◌∙◌, append_assoc, le_refl, arith, add-one, length-append, length-set, length-take-le, take-suc-set}
+use Rattle.std.proofs.Common.{drop-set-lt, le-leb}
 use Rattle.std.proofs.Math.Seq.{paste, paste-zero, take-length, append_snoc, take-set-lt}
 use Rattle.std.proofs.lemmas.List.{set_split, set-append_left, take-set-le}
 use Rattle.std.proofs.lemmas.Bool.{lt-leb}

@@ -48,4 +48,5 @@ returns-in-Arc c =
     rw (w, ← c.least-most.ensures) (r.0, r.1)
 
 pub run_work_spec : {M : Type 1} → statement M
-run_work_spec = tie.close (tie.spec least-most-requires enum_told-1 enum_known-work run_line-requires enum_known-work-in-Arc-1 run_arc-requires returns-in-Nothing shape_of-out-in-Line returns-in-Line shape_of-out-in-Arc returns-in-Arc)
+run_work_spec = tie.close (tie.spec least-most-requires enum_told-1 enum_known-work run_line-requires enum_known-work-in-Arc-1
+    run_arc-requires returns-in-Nothing shape_of-out-in-Line returns-in-Line shape_of-out-in-Arc returns-in-Arc)

@@ -165,7 +165,8 @@ module _ {q0 : ℕ} {at : Point} {r : ℕ} {w : Work} (i : SoundIn q0 at r w) wh
   cycle_pays = omega (arith, ap (λ (c : ℕ). c * q0) paid_off.charges)
 
   -- each of those at least what a tick adds
-  pub each_pays : cycles_left (cycle_of at w).at (cycle_of at w).work * added_of w ≤ charges_left (cycle_of at w).at (cycle_of at w).work * q0
+  pub each_pays : cycles_left (cycle_of at w).at (cycle_of at w).work * added_of w
+      ≤ charges_left (cycle_of at w).at (cycle_of at w).work * q0
   each_pays =
       let k = cycles_left (cycle_of at w).at (cycle_of at w).work in
       omega (arith, mul-le-mul_left (1000 * k) in_work_lem.feed.most, mul-le-mul_right q0 paid_off.least)

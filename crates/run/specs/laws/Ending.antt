@@ -19,7 +19,8 @@ use Rattle.run.specs.laws.Sound.{run_ready}
 
 -- `due` is no more than what is left
 pub short_same : {q0 : ℕ} {at : Point} {r : ℕ} {w : Work} → SoundIn q0 at r w → (most due : ℕ) → due ≤ charges_left at w * q0
-    → falls_short due (added_of w) r most ≡ true → Same most (most + 1) (last_tick (charges_left at w * q0) (added_of w) r (cycles_left at w))
+    → falls_short due (added_of w) r most ≡ true
+    → Same most (most + 1) (last_tick (charges_left at w * q0) (added_of w) r (cycles_left at w))
 unfolding falls_short
 short_same {q0} {at} {r} {w} i most due few t =
     let short = ltb-true (r + most * added_of w) due (both {a = ltb most 10000000} t).1 in

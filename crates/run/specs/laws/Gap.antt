@@ -1,7 +1,8 @@
 -- The gap to the next cycle: by what ticks add, and without a division where the remainder is below what a tick adds.
 use Rattle.std.specs.Prelude.{◌≡◌, refl, Bool, true, false, cond, ℕ, zero, suc, ◌+◌, ◌-◌, ◌*◌, ◌/◌, ◌≤◌, ◌<◌, ltb}
 use Rattle.std.proofs.Math.Path.{ap}
-use Rattle.std.proofs.Common.{ap₂, ◌∙◌, lt_of_mul-lt-mul_right, le_antisymm, le_of_suc-le-suc, div-mul-le_self, mul-le-mul, mul-le-mul_left, arith, ltb-true, ltb-false}
+use Rattle.std.proofs.Common.{ap₂, ◌∙◌, lt_of_mul-lt-mul_right, le_antisymm, le_of_suc-le-suc, div-mul-le_self, mul-le-mul, mul-le-mul_left}
+use Rattle.std.proofs.Common.{arith, ltb-true, ltb-false}
 use Rattle.std.proofs.Math.Nat.{lt-div-mul-add}
 use Rattle.circle.specs.declared.step.Move.{Move}
 use Rattle.circle.specs.declared.step.Move.TheVariants.{Rise, Slant, Fall}

@@ -24,7 +24,8 @@ pub idle_tick : (q0 : ℕ) (at : Point) (r : ℕ) (w : Work) → r + added_of w 
 unfolding advance_of
 idle_tick q0 at r w h = rw (lt-leb (due_of q0 at w) (r + added_of w) h)
 
-pub cycle_tick_lem : (q0 : ℕ) (at : Point) (r : ℕ) (w : Work) {rest : ℕ} {c : Cycle} → due_of q0 at w + rest ≡ r + added_of w → c ≡ cycle_of at w
+pub cycle_tick_lem : (q0 : ℕ) (at : Point) (r : ℕ) (w : Work) {rest : ℕ} {c : Cycle} → due_of q0 at w + rest ≡ r + added_of w
+    → c ≡ cycle_of at w
     → record { at = c.at; remainder = rest; byte = c.byte; work = c.work } ≡ advance_of q0 at r w
 unfolding advance_of
 cycle_tick_lem q0 at r w {rest} {c} e k =

@@ -119,7 +119,8 @@ strip_left q0 t (suc n) at r w i busy =
     by false e s rest = omega (arith, advance_left q0 t at r w i.sound busy, advance_marks q0 at r w busy, rest e)
 
 -- a run of n ticks
-pub ran_left : {q0 : ℕ} {at : Point} {r : ℕ} {w : Work} → SoundIn q0 at r w → (n : ℕ) → cycles_over (strip_of q0 n at r w) ≡ cycles_left at w
+pub ran_left : {q0 : ℕ} {at : Point} {r : ℕ} {w : Work} → SoundIn q0 at r w → (n : ℕ)
+    → cycles_over (strip_of q0 n at r w) ≡ cycles_left at w
 ran_left {q0} {at} {r} {w} i n =
     strip_left q0 i.travel n at r w (record { inside = inside i.inside; below = i.below; sound = i.sound }) i.busy
 

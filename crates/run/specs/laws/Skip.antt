@@ -52,7 +52,8 @@ module _ {q0 : ℕ} {at : Point} {r : ℕ} {w : Work} (i : SoundIn q0 at r w) wh
           let done : cycles_marked (strip_of q0 t at r w).bytes ≡ cycles_left at w =
           omega (arith, ran_left i t, ap (cycles_left (strip_of q0 t at r w).at) s.idle) in
           let D = charges_left at w * q0 in
-          let rest : (strip_of q0 t at r w).remainder ≡ (ending_of D (added_of w) r (cycles_left at w)).remainder = omega (arith, s.adds_up) in
+          let rest : (strip_of q0 t at r w).remainder ≡ (ending_of D (added_of w) r (cycles_left at w)).remainder =
+          omega (arith, s.adds_up) in
           rw (last, left, s.ended, s.ticks, s.reached, rest, s.idle, done)
 
       -- the ticks end before the block

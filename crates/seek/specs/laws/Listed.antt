@@ -108,7 +108,8 @@ seek_listed s passed text n = rw passed (by (leb (length text) longest_text))
   where
     by : (short : Bool)
         → Listed (cond short (seek_from 0 0 n (fresh_of s) unknown (lines_of text)) (answer (Found.Refused 30) 0 1 n (fresh_of s))) 0
-        (cond short (job_from s 1 (record { x = pos 0; y = pos 0 }) unknown (lines_of text)) (record { blocks = []; end = End.refused 1 30 })
+        (cond short (job_from s 1 (record { x = pos 0; y = pos 0 }) unknown (lines_of text))
+        (record { blocks = []; end = End.refused 1 30 })
         ).blocks
     by true = lines_listed (lines_of text) 0 0 n (fresh_of s) unknown (fresh_rests s passed)
     by false = tt

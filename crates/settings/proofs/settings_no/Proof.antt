@@ -51,4 +51,5 @@ returns c =
     )
 
 pub settings_no_spec : {M : Type 1} → statement M
-settings_no_spec = tie.close (tie.spec in_range-requires returns-then-not-in_range in_range-requires-2 returns-then-not-in_range-2 travel_right-requires returns-then-not-travel_right returns)
+settings_no_spec = tie.close (tie.spec in_range-requires returns-then-not-in_range in_range-requires-2 returns-then-not-in_range-2
+    travel_right-requires returns-then-not-travel_right returns)

@@ -30,7 +30,8 @@ in_front_then false a s next = by s.ended refl
     by true e = rw e
     by false e = rw e
 
-pub strip_split : (q0 n m : ℕ) (at : Point) (r : ℕ) (w : Work) → strip_of q0 (n + m) at r w ≡ and_then (strip_of q0 n at r w) (strip_of q0 m)
+pub strip_split : (q0 n m : ℕ) (at : Point) (r : ℕ) (w : Work)
+    → strip_of q0 (n + m) at r w ≡ and_then (strip_of q0 n at r w) (strip_of q0 m)
 unfolding strip_of after
 strip_split q0 zero m at r w = let none : 0 + m ≡ m = omega arith in ap (λ (k : ℕ). strip_of q0 k at r w) none
 strip_split q0 (suc n) m at r w =

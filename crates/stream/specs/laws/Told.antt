@@ -91,7 +91,8 @@ lines_told [] n m k i low = none (capacity_of m.settings) m.remainder
 lines_told (l ∷ ls) n m k i low = by_line m n k ls i low (lines_told ls) (line_asks_lem m k i.sound i.idle l)
 
 -- of a whole text, from a machine made fresh
-pub bytes_told_lem : (s : Settings) → settings_no s ≡ 0 → (text : List ℕ) → Counts (capacity_of s) 0 (job_of s text).blocks (tick_bytes_of s text)
+pub bytes_told_lem : (s : Settings) → settings_no s ≡ 0 → (text : List ℕ)
+    → Counts (capacity_of s) 0 (job_of s text).blocks (tick_bytes_of s text)
 unfolding tick_bytes_of job_at fresh_of
 bytes_told_lem s passed text = by (leb (length text) longest_text)
   where

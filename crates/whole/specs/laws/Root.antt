@@ -1,6 +1,7 @@
 -- The least and the nearest root by inequalities, and that these settle them.
 use Rattle.std.specs.Prelude.{◌≡◌, refl, ℕ, zero, suc, ◌+◌, ◌-◌, ◌*◌, ◌≤◌, ◌<◌, leb, eqb, true, false}
-use Rattle.std.proofs.Common.{sym, ap, ◌∙◌, zero-le, lt_of_not-le, not-le_of_lt, lt_of_lt_of_le, le_trans, add-le-add, add-one, arith, leb→le, le→leb, leb-true, le-leb, eqb-true, eq-eqb, ne_eqb}
+use Rattle.std.proofs.Common.{sym, ap, ◌∙◌, zero-le, lt_of_not-le, not-le_of_lt, lt_of_lt_of_le, le_trans, add-le-add, add-one, arith}
+use Rattle.std.proofs.Common.{leb→le, le→leb, leb-true, le-leb, eqb-true, eq-eqb, ne_eqb}
 use Rattle.std.proofs.Math.Decide.{dec_le}
 use Rattle.whole.specs.First.{first_from}
 use Rattle.whole.specs.Root.{least_root, nearest_root}

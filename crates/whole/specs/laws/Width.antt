@@ -1,6 +1,7 @@
 -- The width by leading zeros, and that of the nearest root without the root.
 use Rattle.std.specs.Prelude.{◌≡◌, refl, ℕ, zero, suc, ◌+◌, ◌-◌, ◌*◌, ◌/◌, ◌^◌, ◌≤◌, ◌<◌, ltb}
-use Rattle.std.proofs.Common.{◌∙◌, ap, pow-suc, lt_of_not-le, lt_of_lt_of_le, le_trans, zero-add, add-one, arith, ltb→lt, lt→ltb, pow_pos, pow_mono, pow-add}
+use Rattle.std.proofs.Common.{◌∙◌, ap, pow-suc, lt_of_not-le, lt_of_lt_of_le, le_trans, zero-add, add-one, arith, ltb→lt, lt→ltb, pow_pos}
+use Rattle.std.proofs.Common.{pow_mono, pow-add}
 use Rattle.std.proofs.Math.Decide.{dec_le}
 use Rattle.std.specs.Int.Count.{count_leading_zeros}
 use Rattle.std.proofs.lemmas.Nat.{leading_length}

@@ -1,6 +1,8 @@
 -- Digits that are read are the number that they write, and how large it is.
-use Rattle.std.specs.Prelude.{ℕ, ◌+◌, ◌-◌, ◌*◌, ◌^◌, ◌≤◌, ◌<◌, ◌≡◌, refl, List, [], ◌∷◌, ◌++◌, Bool, true, false, cond, ltb, leb, length, drop}
-use Rattle.std.proofs.Common.{sym, ap, ◌∙◌, arith, pow-suc, lt_of_lt_of_le, mul_assoc, mul-le-mul_right, mul-lt-mul_of_pos_right, pow-add, ltb-true, ltb-false, leb-true, lt-ltb, le-ltb, le-leb}
+use Rattle.std.specs.Prelude.{ℕ, ◌+◌, ◌-◌, ◌*◌, ◌^◌, ◌≤◌, ◌<◌, ◌≡◌, refl, List, [], ◌∷◌, ◌++◌, Bool, true, false, cond, ltb, leb, length}
+use Rattle.std.specs.Prelude.{drop}
+use Rattle.std.proofs.Common.{sym, ap, ◌∙◌, arith, pow-suc, lt_of_lt_of_le, mul_assoc, mul-le-mul_right, mul-lt-mul_of_pos_right, pow-add}
+use Rattle.std.proofs.Common.{ltb-true, ltb-false, leb-true, lt-ltb, le-ltb, le-leb}
 use Rattle.std.proofs.Math.Bool.{and-false}
 use Rattle.std.proofs.lemmas.Bool.{false≢true}
 use Rattle.std.proofs.Math.Nat.{one-le-pow, pow-le-pow_right, add-sub_cancel_left}

@@ -60,7 +60,8 @@ items_read (word l sg w f ∷ is) ws r =
     let t = number_text sg w f in
     let after = put_of ws l (one_word (is_minus sg) (magnitude_of l w f)) in
     let n = number_read l sg w f (line_text is) r.0 (end_of_lines is) in
-    let e : next_item ws (letter_byte l) (t ++ line_text is) ≡ on (length t) after = rw (no_blank l, letter_of_lem l) (ap (number_next ws l) n) in
+    let e : next_item ws (letter_byte l) (t ++ line_text is) ≡ on (length t) after =
+    rw (no_blank l, letter_of_lem l) (ap (number_next ws l) n) in
     ap (go_on (t ++ line_text is)) e
     ∙ scan_skip (length t) after (t ++ line_text is)
     ∙ rw (drop-append_seam t (line_text is)) (items_read is after r.1)

@@ -1,6 +1,7 @@
 -- How far the loops of `digits::read` and `line::read_first` have come, and what the ways out of a number are.
 use Rattle.std.specs.Prelude.{ℕ, ◌+◌, ◌-◌, ◌*◌, ◌^◌, ◌≤◌, ◌<◌, ◌≡◌, refl, List, [], ◌∷◌, Bool, true, false, cond, eqb, length, drop, get_or}
-use Rattle.std.proofs.Common.{sym, ap, ◌∙◌, arith, add-one, pow-suc, mul-le-mul, lt-ltb, le-ltb, eqb-true, eq-eqb, ne_eqb, length-drop, drop_of_length-le, drop-cons, drop-drop}
+use Rattle.std.proofs.Common.{sym, ap, ◌∙◌, arith, add-one, pow-suc, mul-le-mul, lt-ltb, le-ltb, eqb-true, eq-eqb, ne_eqb, length-drop}
+use Rattle.std.proofs.Common.{drop_of_length-le, drop-cons, drop-drop}
 use Rattle.std.proofs.lemmas.Bool.{false≢true}
 use Rattle.std.proofs.Math.Nat.{pow-le-pow_right}
 use Rattle.letters.specs.declared.letter.Letter.{Letter}

@@ -32,4 +32,5 @@ returns c =
     (sym c.is_same.ensures ∙ c.if-is_same.false) c.cycle_byte-2.ensures
 
 pub arc_cycle_spec : {M : Type 1} → statement M
-arc_cycle_spec = tie.close (tie.spec step-s-requires is_same-requires cycle_byte-requires returns-then-is_same cycle_byte-requires-2 returns)
+arc_cycle_spec = tie.close (tie.spec step-s-requires is_same-requires cycle_byte-requires returns-then-is_same cycle_byte-requires-2
+    returns)

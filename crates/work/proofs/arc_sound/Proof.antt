@@ -22,7 +22,8 @@ returns c =
     let e2 = c.before in
     let e1 = e2.before.before in
     c.is_at.ensures
-    ∙ same_test (λ t. arc_sound_lem (record { feed = record { some = e1.if-a-lt1.false; most = e2.if-capacity-a.false }; arc = arc_at_lem t }))
+    ∙ same_test (λ t. arc_sound_lem
+    (record { feed = record { some = e1.if-a-lt1.false; most = e2.if-capacity-a.false }; arc = arc_at_lem t }))
     (λ t. arc_test (arc_work t).arc)
 
 pub arc_sound_spec : {M : Type 1} → statement M

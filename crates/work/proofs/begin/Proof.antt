@@ -34,4 +34,5 @@ returns-in-Arc c =
     simp (c.in-Arc.is, c.arc_of-a.ensures, c.width-in-Arc.ensures)
 
 pub begin_spec : {M : Type 1} → statement M
-begin_spec = tie.close (tie.spec enum_told-1 new-l-requires width-requires enum_known-path arc_of-a-requires width-requires-in-Arc returns-in-Line returns-in-Arc)
+begin_spec = tie.close (tie.spec enum_told-1 new-l-requires width-requires enum_known-path arc_of-a-requires width-requires-in-Arc
+    returns-in-Line returns-in-Arc)

@@ -26,4 +26,5 @@ returns-in-Arc : tie.Need-returns-in-Arc
 returns-in-Arc c = c.charge.ensures ∙ rw c.in-Arc.is
 
 pub charge_spec : {M : Type 1} → statement M
-charge_spec = tie.close (tie.spec enum_told-1 enum_told-in-Line enum_known-work charge-requires returns-in-Nothing returns-in-Line returns-in-Arc)
+charge_spec = tie.close (tie.spec enum_told-1 enum_told-in-Line enum_known-work charge-requires returns-in-Nothing returns-in-Line
+    returns-in-Arc)

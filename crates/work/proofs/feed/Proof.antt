@@ -42,4 +42,5 @@ returns c =
     rw (h.charge.ensures, n.feed_number-added.ensures) at c.add_feed.ensures
 
 pub feed_spec : {M : Type 1} → statement M
-feed_spec = tie.close (tie.spec feed_number-added-requires overflow_mul-added overflow_add-sum overflow_mul-capacity returns-then-sum-capacity charge-requires overflow_mul-charge add_feed-requires returns)
+feed_spec = tie.close (tie.spec feed_number-added-requires overflow_mul-added overflow_add-sum overflow_mul-capacity
+    returns-then-sum-capacity charge-requires overflow_mul-charge add_feed-requires returns)

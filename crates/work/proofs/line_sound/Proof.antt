@@ -48,4 +48,5 @@ returns c =
     })) (λ t. line_test (line_work t).line)
 
 pub line_sound_spec : {M : Type 1} → statement M
-line_sound_spec = tie.close (tie.spec inside-requires returns-then-not-inside inside-requires-2 returns-then-not-inside-2 returns-then-l-lt1 returns-then-capacity-l is_at-requires returns)
+line_sound_spec = tie.close (tie.spec inside-requires returns-then-not-inside inside-requires-2 returns-then-not-inside-2 returns-then-l-lt1
+    returns-then-capacity-l is_at-requires returns)

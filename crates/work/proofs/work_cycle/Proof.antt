@@ -33,4 +33,5 @@ unfolding cycle_of
 returns-in-Arc c = c.arc_cycle.ensures ∙ rw c.in-Arc.is
 
 pub work_cycle_spec : {M : Type 1} → statement M
-work_cycle_spec = tie.close (tie.spec enum_told-1 enum_known-work line_cycle-requires enum_known-work-in-Arc-1 arc_cycle-requires returns-in-Nothing returns-in-Line returns-in-Arc)
+work_cycle_spec = tie.close (tie.spec enum_told-1 enum_known-work line_cycle-requires enum_known-work-in-Arc-1 arc_cycle-requires
+    returns-in-Nothing returns-in-Line returns-in-Arc)

@@ -33,4 +33,5 @@ unfolding work_sound
 returns-in-Arc c = c.arc_sound.ensures ∙ simp c.in-Arc.is
 
 pub work_sound_spec : {M : Type 1} → statement M
-work_sound_spec = tie.close (tie.spec enum_told-1 enum_known-work line_sound-requires enum_known-work-in-Arc-1 arc_sound-requires returns-in-Nothing returns-in-Line returns-in-Arc)
+work_sound_spec = tie.close (tie.spec enum_told-1 enum_known-work line_sound-requires enum_known-work-in-Arc-1 arc_sound-requires
+    returns-in-Nothing returns-in-Line returns-in-Arc)

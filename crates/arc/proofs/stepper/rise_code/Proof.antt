@@ -38,4 +38,5 @@ returns c =
     sym (rise_right t) ∙ in_quadrant_lem t k
 
 pub rise_code_spec : {M : Type 1} → statement M
-rise_code_spec = tie.close (tie.spec up-requires returns-then-quadrant-eq0 returns-then-quadrant-eq1 down-requires returns-then-quadrant-eq2 returns)
+rise_code_spec = tie.close (tie.spec up-requires returns-then-quadrant-eq0 returns-then-quadrant-eq1 down-requires returns-then-quadrant-eq2
+    returns)

@@ -53,4 +53,5 @@ returns c =
     )
 
 pub load_sound_spec : {M : Type 1} → statement M
-load_sound_spec = tie.close (tie.spec capacity-requires is_nothing-requires load_no-no-requires returns-then-no-ne0 begin-begun-requires moved-requires returns)
+load_sound_spec = tie.close (tie.spec capacity-requires is_nothing-requires load_no-no-requires returns-then-no-ne0 begin-begun-requires
+    moved-requires returns)

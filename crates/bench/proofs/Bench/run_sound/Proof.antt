@@ -46,4 +46,5 @@ returns c =
     (run_works s.args.self s.args.budget s.args.out.now s.requires (busy e.before) e.if-self.false ran.0 ran.1)
 
 pub run_sound_spec : {M : Type 1} → statement M
-run_sound_spec = tie.close (tie.spec is_nothing-requires returns-then-is_nothing returns-then-self capacity-requires run_work-r-requires report_of-requires moved-requires shape_of-out returns)
+run_sound_spec = tie.close (tie.spec is_nothing-requires returns-then-is_nothing returns-then-self capacity-requires run_work-r-requires
+    report_of-requires moved-requires shape_of-out returns)

@@ -44,4 +44,5 @@ returns c =
     (sym e.is_nothing.ensures ∙ e.if-is_nothing.false) advance)
 
 pub tick_sound_spec : {M : Type 1} → statement M
-tick_sound_spec = tie.close (tie.spec returns-then-self is_nothing-requires returns-then-is_nothing capacity-requires work_tick-a-requires moved-requires returns)
+tick_sound_spec = tie.close (tie.spec returns-then-self is_nothing-requires returns-then-is_nothing capacity-requires work_tick-a-requires
+    moved-requires returns)

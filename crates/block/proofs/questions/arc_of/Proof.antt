@@ -66,4 +66,5 @@ returns c =
     λ i. record { centre = centre i; square = square i; turn = s.args.turn; end = s.args.b.end; feed = s.args.b.feed }
 
 pub arc_of_spec : {M : Type 1} → statement M
-arc_of_spec = tie.close (tie.spec part-x-requires part-y-requires back-requires overflow_mul-result overflow_mul-result-2 overflow_add-result returns)
+arc_of_spec = tie.close (tie.spec part-x-requires part-y-requires back-requires overflow_mul-result overflow_mul-result-2
+    overflow_add-result returns)

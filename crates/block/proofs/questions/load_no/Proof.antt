@@ -54,4 +54,5 @@ returns c = c.path_no.ensures ∙ simp (
 )
 
 pub load_no_spec : {M : Type 1} → statement M
-load_no_spec = tie.close (tie.spec returns-then-not-room feed_right-requires returns-then-not-feed_right inside-requires returns-then-not-inside path_no-requires returns)
+load_no_spec = tie.close (tie.spec returns-then-not-room feed_right-requires returns-then-not-feed_right inside-requires
+    returns-then-not-inside path_no-requires returns)

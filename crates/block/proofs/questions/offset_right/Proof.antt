@@ -55,7 +55,12 @@ returns c =
     let e1 = e2.before.before in
     let p = e1.before.before in
     let x = x_is p.before.before in
-    simp (le-leb _ _ (rw x at e1.if-x-gt1000000.false), le-leb _ _ (rw (y_is p) at e2.if-y-gt1000000.false), ne_eqb _ _ (λ z. c.if-x-eq0.false (x ∙ z)))
+    simp (
+      le-leb _ _ (rw x at e1.if-x-gt1000000.false),
+      le-leb _ _ (rw (y_is p) at e2.if-y-gt1000000.false),
+      ne_eqb _ _ (λ z. c.if-x-eq0.false (x ∙ z)),
+    )
 
 pub offset_right_spec : {M : Type 1} → statement M
-offset_right_spec = tie.close (tie.spec part-x-requires part-y-requires returns-then-x-gt1000000 returns-then-y-gt1000000 returns-then-x-eq0 returns)
+offset_right_spec = tie.close (tie.spec part-x-requires part-y-requires returns-then-x-gt1000000 returns-then-y-gt1000000 returns-then-x-eq0
+    returns)

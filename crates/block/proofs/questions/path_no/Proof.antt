@@ -51,4 +51,5 @@ returns-else-not-offset_right c =
     )
 
 pub path_no_spec : {M : Type 1} → statement M
-path_no_spec = tie.close (tie.spec enum_told-1 is_same-requires returns-then-is_same enum_known-path offset_right-requires returns-then-not-offset_right arc_of-requires arc_no-requires returns-else-is_same returns-else-not-offset_right)
+path_no_spec = tie.close (tie.spec enum_told-1 is_same-requires returns-then-is_same enum_known-path offset_right-requires
+    returns-then-not-offset_right arc_of-requires arc_no-requires returns-else-is_same returns-else-not-offset_right)

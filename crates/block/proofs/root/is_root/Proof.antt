@@ -45,4 +45,5 @@ unfolding root_of
 returns-in-Arc c = c.is_nearest_root.ensures ∙ simp (c.in-Arc.is, c.square.ensures)
 
 pub is_root_spec : {M : Type 1} → statement M
-is_root_spec = tie.close (tie.spec enum_told-1 takes-requires enum_known-path square-requires overflow_mul-square is_nearest_root-requires returns-in-Line returns-in-Arc)
+is_root_spec = tie.close (tie.spec enum_told-1 takes-requires enum_known-path square-requires overflow_mul-square is_nearest_root-requires
+    returns-in-Line returns-in-Arc)

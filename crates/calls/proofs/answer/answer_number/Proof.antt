@@ -30,4 +30,5 @@ returns-in-Refused : tie.Need-returns-in-Refused
 returns-in-Refused c = through (refusal_fits _) c.refusal.ensures ∙ simp c.in-Refused.is
 
 pub answer_number_spec : {M : Type 1} → statement M
-answer_number_spec = tie.close (tie.spec enum_told-1 enum_known-answer word-requires enum_known-answer-in-Refused-1 refusal-requires returns-in-Done returns-in-Width returns-in-Refused)
+answer_number_spec = tie.close (tie.spec enum_told-1 enum_known-answer word-requires enum_known-answer-in-Refused-1 refusal-requires
+    returns-in-Done returns-in-Width returns-in-Refused)

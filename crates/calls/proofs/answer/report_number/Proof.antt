@@ -45,4 +45,5 @@ returns-in-Refused : tie.Need-returns-in-Refused
 returns-in-Refused c = through (refusal_fits _) c.refusal.ensures ∙ simp c.in-Refused.is
 
 pub report_number_spec : {M : Type 1} → statement M
-report_number_spec = tie.close (tie.spec enum_told-1 enum_told-in-Held enum_told-in-Ended enum_told-in-Spent enum_told-in-Full enum_known-report refusal-requires returns-in-Idle returns-in-Held returns-in-Ended returns-in-Spent returns-in-Full returns-in-Refused)
+report_number_spec = tie.close (tie.spec enum_told-1 enum_told-in-Held enum_told-in-Ended enum_told-in-Spent enum_told-in-Full
+    enum_known-report refusal-requires returns-in-Idle returns-in-Held returns-in-Ended returns-in-Spent returns-in-Full returns-in-Refused)

@@ -27,4 +27,5 @@ returns-in-Refused : tie.Need-returns-in-Refused
 returns-in-Refused c = through (refusal_fits _) c.refusal.ensures ∙ simp c.in-Refused.is
 
 pub tick_number_spec : {M : Type 1} → statement M
-tick_number_spec = tie.close (tie.spec enum_known-tick overflow_cast-result enum_known-tick-in-Refused-1 refusal-requires returns-in-Byte returns-in-Refused)
+tick_number_spec = tie.close (tie.spec enum_known-tick overflow_cast-result enum_known-tick-in-Refused-1 refusal-requires returns-in-Byte
+    returns-in-Refused)

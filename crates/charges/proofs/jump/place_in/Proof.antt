@@ -52,4 +52,5 @@ returns c =
     rw (lt-leb (2 * s.i) s.quarter c.if-i-quarter.false, c.nearest_root-2.ensures)
 
 pub place_in_spec : {M : Type 1} → statement M
-place_in_spec = tie.close (tie.spec overflow_mul-i overflow_mul-i-then-i-quarter overflow_sub-n nearest_root-requires returns-then-i-quarter overflow_sub-along overflow_mul-along overflow_sub-n-2 nearest_root-requires-2 returns)
+place_in_spec = tie.close (tie.spec overflow_mul-i overflow_mul-i-then-i-quarter overflow_sub-n nearest_root-requires returns-then-i-quarter
+    overflow_sub-along overflow_mul-along overflow_sub-n-2 nearest_root-requires-2 returns)

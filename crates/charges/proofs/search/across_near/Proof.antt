@@ -55,4 +55,6 @@ returns : tie.Need-returns
 returns c = omega (arith, root_small c.before)
 
 pub across_near_spec : {M : Type 1} → statement M
-across_near_spec = tie.close (tie.spec overflow_mul-middle less-requires less-requires-2 overflow_add-d overflow_mul-n overflow_mul-d less-requires-3 nearest_root-root-requires overflow_mul-toll overflow_mul-root overflow_add-toll overflow_mul-middle-2 less-requires-4 returns)
+across_near_spec = tie.close (tie.spec overflow_mul-middle less-requires less-requires-2 overflow_add-d overflow_mul-n overflow_mul-d
+    less-requires-3 nearest_root-root-requires overflow_mul-toll overflow_mul-root overflow_add-toll overflow_mul-middle-2 less-requires-4
+    returns)

@@ -39,4 +39,5 @@ returns : tie.Need-returns
 returns c = search rules
 
 pub cycles_near_spec : {M : Type 1} → statement M
-cycles_near_spec = tie.close (tie.spec quadrant_charges-round-requires overflow_mul-round least-requires overflow_add-from rank_near-rank-requires overflow_add-from-2 less-requires overflow_add-result returns)
+cycles_near_spec = tie.close (tie.spec quadrant_charges-round-requires overflow_mul-round least-requires overflow_add-from
+    rank_near-rank-requires overflow_add-from-2 less-requires overflow_add-result returns)

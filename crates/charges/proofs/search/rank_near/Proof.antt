@@ -15,7 +15,8 @@ before_small c =
     let k : s.args.toll / q ≤ 20000000000 = omega (arith, div-le_self s.args.toll q) in
     mul-le-mul k s.requires.2
 
-rest_small : (c : tie.After-quadrant_charges-quadrant) → c.args.toll % c.quadrant_charges-quadrant.result < c.quadrant_charges-quadrant.result
+rest_small : (c : tie.After-quadrant_charges-quadrant)
+    → c.args.toll % c.quadrant_charges-quadrant.result < c.quadrant_charges-quadrant.result
 rest_small c = mod-lt c.args.toll (omega (arith, c.quadrant_charges-quadrant.ensures))
 
 quadrant_charges-quadrant-requires : tie.Need-quadrant_charges-quadrant-requires
@@ -61,4 +62,6 @@ returns : tie.Need-returns
 returns c = omega (arith, before_small c.before.before.before)
 
 pub rank_near_spec : {M : Type 1} → statement M
-rank_near_spec = tie.close (tie.spec quadrant_charges-quadrant-requires nonzero_div-before overflow_mul-before nonzero_rem-rest overflow_mul-rest across_near-requires overflow_add-result returns-then-rest-quadrant overflow_add-before overflow_sub-quadrant across_near-requires-2 overflow_add-across_near less-requires returns)
+rank_near_spec = tie.close (tie.spec quadrant_charges-quadrant-requires nonzero_div-before overflow_mul-before nonzero_rem-rest
+    overflow_mul-rest across_near-requires overflow_add-result returns-then-rest-quadrant overflow_add-before overflow_sub-quadrant
+    across_near-requires-2 overflow_add-across_near less-requires returns)

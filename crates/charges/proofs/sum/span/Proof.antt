@@ -94,4 +94,6 @@ returns c =
     (c.way_on-2.ensures ∙ rw (from_is k.before.before, to_is k.before, round_is r))
 
 pub span_spec : {M : Type 1} → statement M
-span_spec = tie.close (tie.spec overflow_mul-n nearest_root-quarter-requires nearest_root-radius-requires seen_span-from-requires seen_span-to-requires overflow_mul-quarter way_on-requires quadrant_charges-requires overflow_mul-quadrant_charges way_on-requires-2 returns)
+span_spec = tie.close (tie.spec overflow_mul-n nearest_root-quarter-requires nearest_root-radius-requires seen_span-from-requires
+    seen_span-to-requires overflow_mul-quarter way_on-requires quadrant_charges-requires overflow_mul-quadrant_charges way_on-requires-2
+    returns)

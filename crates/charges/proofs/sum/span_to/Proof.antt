@@ -50,4 +50,5 @@ unfolding toll_of pulses_to
 returns c = rw c.rank-cycles.ensures
 
 pub span_to_spec : {M : Type 1} → statement M
-span_to_spec = tie.close (tie.spec rank-cycles-requires overflow_mul-pulses overflow_mul-pulses-2 overflow_add-pulses overflow_sub-pulses overflow_add-pulses-2 overflow_mul-charges overflow_mul-charges-2 overflow_add-charges returns)
+span_to_spec = tie.close (tie.spec rank-cycles-requires overflow_mul-pulses overflow_mul-pulses-2 overflow_add-pulses overflow_sub-pulses
+    overflow_add-pulses-2 overflow_mul-charges overflow_mul-charges-2 overflow_add-charges returns)

@@ -42,4 +42,5 @@ returns c =
     )
 
 pub near_circle_spec : {M : Type 1} → statement M
-near_circle_spec = tie.close (tie.spec larger-m-requires overflow_mul-s overflow_mul-s-2 overflow_add-s overflow_add-n returns-then-n-m overflow_add-result returns)
+near_circle_spec = tie.close (tie.spec larger-m-requires overflow_mul-s overflow_mul-s-2 overflow_add-s overflow_add-n returns-then-n-m
+    overflow_add-result returns)

@@ -67,4 +67,5 @@ returns c =
     )
 
 pub on_circle_spec : {M : Type 1} → statement M
-on_circle_spec = tie.close (tie.spec returns-then-n-lt1 returns-then-n-gt-LARGEST_N part-x-requires part-y-requires returns-then-x-gt2000000 returns-then-y-gt2000000 near_circle-requires returns)
+on_circle_spec = tie.close (tie.spec returns-then-n-lt1 returns-then-n-gt-LARGEST_N part-x-requires part-y-requires returns-then-x-gt2000000
+    returns-then-y-gt2000000 near_circle-requires returns)

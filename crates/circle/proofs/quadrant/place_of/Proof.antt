@@ -114,4 +114,5 @@ returns c =
     rw (x, y) (in_0 p.x p.y (rw y at f.if-y.false) (rw x at f.if-x-2.false) (rw x at c.if-x-eq0.false))
 
 pub place_of_spec : {M : Type 1} → statement M
-place_of_spec = tie.close (tie.spec part-x-requires part-y-requires returns-then-x returns-then-y returns-then-y-eq0 returns-then-x-2 returns-then-x-eq0 returns)
+place_of_spec = tie.close (tie.spec part-x-requires part-y-requires returns-then-x returns-then-y returns-then-y-eq0 returns-then-x-2
+    returns-then-x-eq0 returns)

@@ -68,4 +68,5 @@ returns : tie.Need-returns invariant-loop-left decreases-loop-left
 returns c = let l = c.loop-left in sym (l.invariant.1 ∙ ticks_none l.left l.words (omega (arith, c.loop-left-test.false)))
 
 pub after_ticks_spec : {M : Type 1} → statement M
-after_ticks_spec = tie.close (tie.spec invariant-loop-left decreases-loop-left loop-left-init bench_in-k-requires works-requires returns-then-not-works pass-left-requires overflow_sub-left loop-left-smaller loop-left-preserved returns)
+after_ticks_spec = tie.close (tie.spec invariant-loop-left decreases-loop-left loop-left-init bench_in-k-requires works-requires
+    returns-then-not-works pass-left-requires overflow_sub-left loop-left-smaller loop-left-preserved returns)

@@ -33,4 +33,5 @@ returns c =
     pass_told c.requires c.args.ticks c.capacity.ensures c.skip_work-r.ensures c.moved-after.ensures c.store_ticks.ensures
 
 pub pass_spec : {M : Type 1} → statement M
-pass_spec = tie.close (tie.spec capacity-requires skip_work-r-requires moved-after-requires left_in-requires overflow_sub-left store_ticks-requires returns)
+pass_spec = tie.close (tie.spec capacity-requires skip_work-r-requires moved-after-requires left_in-requires overflow_sub-left
+    store_ticks-requires returns)

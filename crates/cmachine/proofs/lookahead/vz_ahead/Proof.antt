@@ -39,4 +39,5 @@ returns c =
     (c.bench_in-far.ensures ∙ ap bench_in c.after_ticks.ensures))
 
 pub vz_ahead_spec : {M : Type 1} → statement M
-vz_ahead_spec = tie.close (tie.spec is_sound-requires returns-then-not-is_sound returns-then-ticks-gt-MOST_TICKS bench_in-k-requires after_ticks-requires bench_in-far-requires way-requires sum_words-pulses-requires returns)
+vz_ahead_spec = tie.close (tie.spec is_sound-requires returns-then-not-is_sound returns-then-ticks-gt-MOST_TICKS bench_in-k-requires
+    after_ticks-requires bench_in-far-requires way-requires sum_words-pulses-requires returns)

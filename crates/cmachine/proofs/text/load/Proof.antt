@@ -35,4 +35,5 @@ returns-in-Refused c =
     c.in-Refused.is
 
 pub load_spec : {M : Type 1} → statement M
-load_spec = tie.close (tie.spec load_sound-answer-requires enum_told-1 enum_known-answer enum_known-answer-in-Refused-1 returns-in-Done returns-in-Width returns-in-Refused)
+load_spec = tie.close (tie.spec load_sound-answer-requires enum_told-1 enum_known-answer enum_known-answer-in-Refused-1 returns-in-Done
+    returns-in-Width returns-in-Refused)

@@ -30,4 +30,5 @@ returns-in-Refused : tie.Need-returns-in-Refused
 returns-in-Refused c = through (refusal_fits _) c.refusal.ensures ∙ simp c.in-Refused.is
 
 pub read_number_spec : {M : Type 1} → statement M
-read_number_spec = tie.close (tie.spec enum_told-1 enum_known-read word-requires enum_known-read-in-Refused-1 refusal-requires returns-in-Nothing returns-in-Loaded returns-in-Refused)
+read_number_spec = tie.close (tie.spec enum_told-1 enum_known-read word-requires enum_known-read-in-Refused-1 refusal-requires
+    returns-in-Nothing returns-in-Loaded returns-in-Refused)

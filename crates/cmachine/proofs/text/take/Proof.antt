@@ -31,4 +31,5 @@ returns-in-Refused c =
     line_refused c.args.words.now c.args.before c.requires.sound c.args.a c.in-Refused.is
 
 pub take_spec : {M : Type 1} → statement M
-take_spec = tie.close (tie.spec enum_told-1 enum_known-asks load-requires enum_known-asks-in-Refused-1 returns-in-Nothing returns-in-Block returns-in-Refused)
+take_spec = tie.close (tie.spec enum_told-1 enum_known-asks load-requires enum_known-asks-in-Refused-1 returns-in-Nothing returns-in-Block
+    returns-in-Refused)

@@ -61,4 +61,6 @@ returns c =
     c.ask_line-a.ensures c.take-h.ensures.0 c.take-h.ensures.1))
 
 pub vz_read_line_spec : {M : Type 1} → statement M
-vz_read_line_spec = tie.close (tie.spec is_sound-requires returns-then-not-is_sound decode_known-d-requires returns-then-not-d bench_in-k-requires start_in-start-requires ask_line-a-requires take-h-requires encode_known-after-requires read_number-requires returns)
+vz_read_line_spec = tie.close (tie.spec is_sound-requires returns-then-not-is_sound decode_known-d-requires returns-then-not-d
+    bench_in-k-requires start_in-start-requires ask_line-a-requires take-h-requires encode_known-after-requires read_number-requires
+    returns)

@@ -42,4 +42,5 @@ returns c =
     (simp to_z-of_z at c.panel_right.ensures)
 
 pub decode_panel_spec : {M : Type 1} → statement M
-decode_panel_spec = tie.close (tie.spec first_nine-requires decode_progress-p-requires bounds-words-9 count-requires panel_of-check-requires bounds-words-9-2 panel_right-requires returns)
+decode_panel_spec = tie.close (tie.spec first_nine-requires decode_progress-p-requires bounds-words-9 count-requires panel_of-check-requires
+    bounds-words-9-2 panel_right-requires returns)

@@ -37,4 +37,5 @@ returns c =
     search (rules, nine_of ws (search rules))
 
 pub first_nine_spec : {M : Type 1} → statement M
-first_nine_spec = tie.close (tie.spec bounds-words-0 bounds-words-1 bounds-words-2 bounds-words-3 bounds-words-4 bounds-words-5 bounds-words-6 bounds-words-7 bounds-words-8 returns)
+first_nine_spec = tie.close (tie.spec bounds-words-0 bounds-words-1 bounds-words-2 bounds-words-3 bounds-words-4 bounds-words-5
+    bounds-words-6 bounds-words-7 bounds-words-8 returns)

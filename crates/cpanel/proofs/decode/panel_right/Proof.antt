@@ -44,4 +44,5 @@ returns c =
     rw (p, sym (count_is e2.before) ∙ e2.if-not-is_count.false, le-leb a.c.left longest_text (search rules))
 
 pub panel_right_spec : {M : Type 1} → statement M
-panel_right_spec = tie.close (tie.spec returns-then-not-progress is_count-requires returns-then-not-is_count returns-then-c-gt-LONGEST_TEXT returns)
+panel_right_spec = tie.close (tie.spec returns-then-not-progress is_count-requires returns-then-not-is_count returns-then-c-gt-LONGEST_TEXT
+    returns)

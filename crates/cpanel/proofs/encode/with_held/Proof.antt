@@ -37,4 +37,5 @@ returns c =
     search (rules, ten_of a.w a.held (search rules))
 
 pub with_held_spec : {M : Type 1} → statement M
-with_held_spec = tie.close (tie.spec bounds-w-0 bounds-w-1 bounds-w-2 bounds-w-3 bounds-w-4 bounds-w-5 bounds-w-6 bounds-w-7 bounds-w-8 returns)
+with_held_spec = tie.close (tie.spec bounds-w-0 bounds-w-1 bounds-w-2 bounds-w-3 bounds-w-4 bounds-w-5 bounds-w-6 bounds-w-7 bounds-w-8
+    returns)

@@ -55,4 +55,5 @@ returns c =
     rw (kind_is e.before, ne_eqb _ _ e.if-kind-eq1.false, ne_eqb _ _ c.if-kind-eq2.false, ne_eqb _ _ c.if-kind-eq3.false)
 
 pub work_of_spec : {M : Type 1} → statement M
-work_of_spec = tie.close (tie.spec count-kind-requires line_of-requires returns-then-kind-eq1 arc_of-requires returns-then-kind-eq2 arc_of-requires-then-kind-eq3 returns-then-kind-eq3 returns)
+work_of_spec = tie.close (tie.spec count-kind-requires line_of-requires returns-then-kind-eq1 arc_of-requires returns-then-kind-eq2
+    arc_of-requires-then-kind-eq3 returns-then-kind-eq3 returns)

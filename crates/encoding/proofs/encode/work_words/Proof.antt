@@ -32,4 +32,5 @@ returns-in-Arc : tie.Need-returns-in-Arc
 returns-in-Arc c = c.arc_words.ensures ∙ simp c.in-Arc.is
 
 pub work_words_spec : {M : Type 1} → statement M
-work_words_spec = tie.close (tie.spec enum_told-1 nothing_words-requires enum_known-work line_words-requires enum_known-work-in-Arc-1 arc_words-requires returns-in-Nothing returns-in-Line returns-in-Arc)
+work_words_spec = tie.close (tie.spec enum_told-1 nothing_words-requires enum_known-work line_words-requires enum_known-work-in-Arc-1
+    arc_words-requires returns-in-Nothing returns-in-Line returns-in-Arc)

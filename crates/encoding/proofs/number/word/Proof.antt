@@ -11,7 +11,8 @@ overflow_cast-result : tie.Need-overflow_cast-result
 overflow_cast-result c = search rules
 
 returns-then-count-lt9223372036854775808 : tie.Need-returns-then-count-lt9223372036854775808
-returns-then-count-lt9223372036854775808 c = to_z_pos w64 c.if-count-lt9223372036854775808.true ∙ sym (word_small c.if-count-lt9223372036854775808.true)
+returns-then-count-lt9223372036854775808 c =
+    to_z_pos w64 c.if-count-lt9223372036854775808.true ∙ sym (word_small c.if-count-lt9223372036854775808.true)
 
 returns-else-count-lt9223372036854775808 : tie.Need-returns-else-count-lt9223372036854775808
 returns-else-count-lt9223372036854775808 c = sym (word_large c.if-count-lt9223372036854775808.false)

@@ -75,4 +75,5 @@ returns c =
     )
 
 pub head_right_spec : {M : Type 1} → statement M
-head_right_spec = tie.close (tie.spec is_count-requires returns-then-not-is_count is_count-requires-2 returns-then-not-is_count-2 is_mark-requires returns-then-not-is_mark is_count-requires-3 returns)
+head_right_spec = tie.close (tie.spec is_count-requires returns-then-not-is_count is_count-requires-2 returns-then-not-is_count-2
+    is_mark-requires returns-then-not-is_mark is_count-requires-3 returns)

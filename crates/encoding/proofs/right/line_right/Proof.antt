@@ -44,4 +44,5 @@ returns c =
     g_is c ∙ rw (sym (f_is e2.before) ∙ e2.if-not-is_count-2.false, sym (e_is e1.before) ∙ e1.if-not-is_count.false)
 
 pub line_right_spec : {M : Type 1} → statement M
-line_right_spec = tie.close (tie.spec is_count-requires returns-then-not-is_count is_count-requires-2 returns-then-not-is_count-2 is_count-requires-3 returns)
+line_right_spec = tie.close (tie.spec is_count-requires returns-then-not-is_count is_count-requires-2 returns-then-not-is_count-2
+    is_count-requires-3 returns)

@@ -164,4 +164,6 @@ returns c =
     )
 
 pub nothing_right_spec : {M : Type 1} → statement M
-nothing_right_spec = tie.close (tie.spec equal-requires returns-then-not-equal equal-requires-2 returns-then-not-equal-2 equal-requires-3 returns-then-not-equal-3 equal-requires-4 returns-then-not-equal-4 equal-requires-5 returns-then-not-equal-5 equal-requires-6 returns-then-not-equal-6 equal-requires-7 returns)
+nothing_right_spec = tie.close (tie.spec equal-requires returns-then-not-equal equal-requires-2 returns-then-not-equal-2 equal-requires-3
+    returns-then-not-equal-3 equal-requires-4 returns-then-not-equal-4 equal-requires-5 returns-then-not-equal-5 equal-requires-6
+    returns-then-not-equal-6 equal-requires-7 returns)

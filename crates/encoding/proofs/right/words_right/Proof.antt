@@ -40,4 +40,5 @@ returns c =
     ∙ rw (sym (abi_is e1.before) ∙ e1.if-not-equal.false, sym e2.head_right.ensures ∙ e2.if-not-head_right.false)
 
 pub words_right_spec : {M : Type 1} → statement M
-words_right_spec = tie.close (tie.spec equal-requires returns-then-not-equal head_right-requires returns-then-not-head_right work_right-requires returns)
+words_right_spec = tie.close (tie.spec equal-requires returns-then-not-equal head_right-requires returns-then-not-head_right
+    work_right-requires returns)

@@ -104,4 +104,6 @@ returns c =
     rw (not_zero e1, not_one e2, not_two e3, not_three c)
 
 pub work_right_spec : {M : Type 1} → statement M
-work_right_spec = tie.close (tie.spec equal-requires nothing_right-requires returns-then-equal equal-requires-2 line_right-requires returns-then-equal-2 equal-requires-3 arc_right-requires returns-then-equal-3 equal-requires-4 arc_right-requires-then-equal-4 returns-then-equal-4 returns)
+work_right_spec = tie.close (tie.spec equal-requires nothing_right-requires returns-then-equal equal-requires-2 line_right-requires
+    returns-then-equal-2 equal-requires-3 arc_right-requires returns-then-equal-3 equal-requires-4 arc_right-requires-then-equal-4
+    returns-then-equal-4 returns)

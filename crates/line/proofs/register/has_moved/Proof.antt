@@ -27,4 +27,5 @@ returns : tie.Need-returns
 returns c = by_product _ _ _ c.requires _ c.if-sum-whole.false
 
 pub has_moved_spec : {M : Type 1} → statement M
-has_moved_spec = tie.close (tie.spec returns-then-increment-moved overflow_mul-sum overflow_add-sum overflow_mul-whole returns-then-sum-whole returns)
+has_moved_spec = tie.close (tie.spec returns-then-increment-moved overflow_mul-sum overflow_add-sum overflow_mul-whole
+    returns-then-sum-whole returns)

@@ -89,4 +89,5 @@ returns c =
     )
 
 pub load_spec : {M : Type 1} → statement M
-load_spec = tie.close (tie.spec is_sound-requires refused-requires returns-then-not-is_sound start_of-start-requires capacity-requires load_no-no-requires refused-requires-then-no-ne0 returns-then-no-ne0 take-requires returns)
+load_spec = tie.close (tie.spec is_sound-requires refused-requires returns-then-not-is_sound start_of-start-requires capacity-requires
+    load_no-no-requires refused-requires-then-no-ne0 returns-then-no-ne0 take-requires returns)

@@ -50,4 +50,5 @@ returns c =
     run_goes_on s.args.self s.args.budget s.args.out.now (tested e) ran.ensures.0 c.next.ensures ran.ensures.1
 
 pub run_spec : {M : Type 1} → statement M
-run_spec = tie.close (tie.spec is_sound-requires returns-then-not-is_sound run_sound-r-requires overflow_sub-left next-requires shape_of-out returns)
+run_spec = tie.close (tie.spec is_sound-requires returns-then-not-is_sound run_sound-r-requires overflow_sub-left next-requires shape_of-out
+    returns)

@@ -58,4 +58,5 @@ returns c =
     r.root_of-root.ensures n.cycles_left.ensures (sym n.is_nothing.ensures ∙ c.if-is_nothing.false))
 
 pub take_spec : {M : Type 1} → statement M
-take_spec = tie.close (tie.spec begin-begun-requires root_of-root-requires cycles_left-requires overflow_add-left is_nothing-requires moved-next-requires returns-then-is_nothing push-next-requires returns)
+take_spec = tie.close (tie.spec begin-begun-requires root_of-root-requires cycles_left-requires overflow_add-left is_nothing-requires
+    moved-next-requires returns-then-is_nothing push-next-requires returns)

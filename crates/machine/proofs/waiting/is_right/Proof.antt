@@ -55,4 +55,5 @@ returns c =
     (sym b.is_nothing.ensures ∙ b.if-is_nothing.false)
 
 pub is_right_spec : {M : Type 1} → statement M
-is_right_spec = tie.close (tie.spec work_off-t-requires returns-then-not-t returns-then-q-eq0 is_nothing-requires returns-then-is_nothing end_of-end-requires capacity-requires is_sound-requires returns)
+is_right_spec = tie.close (tie.spec work_off-t-requires returns-then-not-t returns-then-q-eq0 is_nothing-requires returns-then-is_nothing
+    end_of-end-requires capacity-requires is_sound-requires returns)

@@ -27,4 +27,5 @@ returns-in-Refused : tie.Need-returns-in-Refused
 returns-in-Refused c = omega (arith, told_refused c.in-Refused.is)
 
 pub left_after_spec : {M : Type 1} → statement M
-left_after_spec = tie.close (tie.spec enum_known-tick returns-then-byte-lt16 overflow_sub-result enum_told-1 returns-else-byte-lt16 returns-in-Refused)
+left_after_spec = tie.close (tie.spec enum_known-tick returns-then-byte-lt16 overflow_sub-result enum_told-1 returns-else-byte-lt16
+    returns-in-Refused)

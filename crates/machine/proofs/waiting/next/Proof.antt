@@ -48,4 +48,5 @@ returns c =
     (next_first e.requires (sym e.is_nothing.ensures ∙ e.if-not-is_nothing.false) some)
 
 pub next_spec : {M : Type 1} → statement M
-next_spec = tie.close (tie.spec is_nothing-requires returns-then-not-is_nothing returns-then-q-eq0 first-w-requires begin-begun-requires moved-requires pop-requires returns)
+next_spec = tie.close (tie.spec is_nothing-requires returns-then-not-is_nothing returns-then-q-eq0 first-w-requires begin-begun-requires
+    moved-requires pop-requires returns)

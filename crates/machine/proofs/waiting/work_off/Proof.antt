@@ -92,4 +92,7 @@ returns-else-not-is_nearest_root c =
     (off_rooted _ (Work.Arc _) _ _ (sym r.is_nearest_root.ensures ∙ l.if-not-is_nearest_root.false))
 
 pub work_off_spec : {M : Type 1} → statement M
-work_off_spec = tie.close (tie.spec enum_told-1 wrong-requires returns-then-root-ne0 less-requires enum_known-work wrong-requires-then-root-l returns-then-root-l overflow_sub-l less-requires-in-Line enum_known-work-in-Arc-1 overflow_mul-a is_nearest_root-requires wrong-requires-then-not-is_nearest_root returns-then-not-is_nearest_root cycles-requires less-requires-in-Arc returns-else-root-ne0 returns-else-root-l returns-else-not-is_nearest_root)
+work_off_spec = tie.close (tie.spec enum_told-1 wrong-requires returns-then-root-ne0 less-requires enum_known-work
+    wrong-requires-then-root-l returns-then-root-l overflow_sub-l less-requires-in-Line enum_known-work-in-Arc-1 overflow_mul-a
+    is_nearest_root-requires wrong-requires-then-not-is_nearest_root returns-then-not-is_nearest_root cycles-requires less-requires-in-Arc
+    returns-else-root-ne0 returns-else-root-l returns-else-not-is_nearest_root)

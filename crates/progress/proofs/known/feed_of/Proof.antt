@@ -36,4 +36,5 @@ returns c =
     c.if-p.false)
 
 pub feed_of_spec : {M : Type 1} → statement M
-feed_of_spec = tie.close (tie.spec part-p-requires returns-then-p overflow_cast-result overflow_cast-result-then-f-lt10000000000 returns-then-f-lt10000000000 returns)
+feed_of_spec = tie.close (tie.spec part-p-requires returns-then-p overflow_cast-result overflow_cast-result-then-f-lt10000000000
+    returns-then-f-lt10000000000 returns)

@@ -38,4 +38,5 @@ returns-in-Known c =
     rw c.in-Known.is (through (word_fits _) c.word.ensures ∙ word_small (omega arith))
 
 pub feed_word_spec : {M : Type 1} → statement M
-feed_word_spec = tie.close (tie.spec enum_told-1 enum_known-feed overflow_cast-millimetres overflow_mul-millimetres overflow_cast-thousandths overflow_add-millimetres word-requires returns-in-Unknown returns-in-Known)
+feed_word_spec = tie.close (tie.spec enum_told-1 enum_known-feed overflow_cast-millimetres overflow_mul-millimetres
+    overflow_cast-thousandths overflow_add-millimetres word-requires returns-in-Unknown returns-in-Known)

@@ -27,4 +27,5 @@ returns-in-Arc c = simp c.in-Arc.is
     (through (turn_fits c.in-Arc.turn) c.turn_word.ensures)
 
 pub motion_word_spec : {M : Type 1} → statement M
-motion_word_spec = tie.close (tie.spec enum_told-1 enum_told-in-Line enum_known-motion turn_word-requires returns-in-Unknown returns-in-Line returns-in-Arc)
+motion_word_spec = tie.close (tie.spec enum_told-1 enum_told-in-Line enum_known-motion turn_word-requires returns-in-Unknown returns-in-Line
+    returns-in-Arc)

@@ -111,4 +111,5 @@ returns c =
     )
 
 pub counts_right_spec : {M : Type 1} → statement M
-counts_right_spec = tie.close (tie.spec is_count-requires returns-then-not-is_count is_count-requires-2 returns-then-not-is_count-2 is_count-requires-3 returns-then-not-is_count-3 is_count-requires-4 returns-then-not-is_count-4 long_right-requires returns)
+counts_right_spec = tie.close (tie.spec is_count-requires returns-then-not-is_count is_count-requires-2 returns-then-not-is_count-2
+    is_count-requires-3 returns-then-not-is_count-3 is_count-requires-4 returns-then-not-is_count-4 long_right-requires returns)

@@ -42,4 +42,5 @@ returns c =
     (search rules)
 
 pub progress_of_spec : {M : Type 1} → statement M
-progress_of_spec = tie.close (tie.spec known_of-known-requires long_words-ticks-requires stage_word-requires word-requires word-requires-2 word-requires-3 word-requires-4 returns)
+progress_of_spec = tie.close (tie.spec known_of-known-requires long_words-ticks-requires stage_word-requires word-requires word-requires-2
+    word-requires-3 word-requires-4 returns)

@@ -41,4 +41,5 @@ returns c =
     ∙ rw (sym (stage_is e1.before) ∙ e1.if-not-within.false, sym e2.known_right.ensures ∙ e2.if-not-known_right.false)
 
 pub progress_right_spec : {M : Type 1} → statement M
-progress_right_spec = tie.close (tie.spec within-requires returns-then-not-within known_right-requires returns-then-not-known_right counts_right-requires returns)
+progress_right_spec = tie.close (tie.spec within-requires returns-then-not-within known_right-requires returns-then-not-known_right
+    counts_right-requires returns)

@@ -29,4 +29,5 @@ returns c = search (
 )
 
 pub tally_of_spec : {M : Type 1} → statement M
-tally_of_spec = tie.close (tie.spec reader_of-reader-requires long_of-ticks-requires count-requires count-requires-2 count-requires-3 returns)
+tally_of_spec = tie.close (tie.spec reader_of-reader-requires long_of-ticks-requires count-requires count-requires-2 count-requires-3
+    returns)

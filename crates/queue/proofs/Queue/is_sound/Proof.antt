@@ -81,4 +81,5 @@ returns c =
     tested _ _ _ _ _ v.4 v.3 (v.6 ∙ none_left _ _ _ l.left _ l.i _ c.loop-i-test.false (omega (arith, v.3, v.4)))
 
 pub is_sound_spec : {M : Type 1} → statement M
-is_sound_spec = tie.close (tie.spec invariant-loop-i decreases-loop-i returns-then-self-gt16 loop-i-init offset_bounds-self-i bounds-self-i take_off-t-requires returns-then-not-t overflow_add-i loop-i-smaller loop-i-preserved returns)
+is_sound_spec = tie.close (tie.spec invariant-loop-i decreases-loop-i returns-then-self-gt16 loop-i-init offset_bounds-self-i bounds-self-i
+    take_off-t-requires returns-then-not-t overflow_add-i loop-i-smaller loop-i-preserved returns)

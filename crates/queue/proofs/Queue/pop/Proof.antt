@@ -60,4 +60,6 @@ returns c =
     pop_end _ _ _ c.blank-last.ensures v.0 (rw last at v.2)
 
 pub pop_spec : {M : Type 1} → statement M
-pop_spec = tie.close (tie.spec invariant-loop-i decreases-loop-i loop-i-init overflow_add-from offset_bounds-next-from bounds-next-from offset_bounds-next-i bounds-next-i overflow_add-i loop-i-smaller loop-i-preserved blank-last-requires bounds-next-15 overflow_sub-next returns)
+pop_spec = tie.close (tie.spec invariant-loop-i decreases-loop-i loop-i-init overflow_add-from offset_bounds-next-from bounds-next-from
+    offset_bounds-next-i bounds-next-i overflow_add-i loop-i-smaller loop-i-preserved blank-last-requires bounds-next-15 overflow_sub-next
+    returns)

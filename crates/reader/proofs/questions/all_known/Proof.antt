@@ -32,4 +32,5 @@ returns c = c.feed_known.ensures ∙ rw (
 )
 
 pub all_known_spec : {M : Type 1} → statement M
-all_known_spec = tie.close (tie.spec moves-requires returns-then-not-moves motion_known-requires returns-then-not-motion_known feed_known-requires returns)
+all_known_spec = tie.close (tie.spec moves-requires returns-then-not-moves motion_known-requires returns-then-not-motion_known
+    feed_known-requires returns)

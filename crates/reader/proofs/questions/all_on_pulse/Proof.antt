@@ -66,4 +66,5 @@ returns c =
     )
 
 pub all_on_pulse_spec : {M : Type 1} → statement M
-all_on_pulse_spec = tie.close (tie.spec on_pulse-requires returns-then-not-on_pulse on_pulse-requires-2 returns-then-not-on_pulse-2 returns-then-j-eq0 on_pulse-requires-3 returns-then-not-on_pulse-3 on_pulse-requires-4 returns)
+all_on_pulse_spec = tie.close (tie.spec on_pulse-requires returns-then-not-on_pulse on_pulse-requires-2 returns-then-not-on_pulse-2
+    returns-then-j-eq0 on_pulse-requires-3 returns-then-not-on_pulse-3 on_pulse-requires-4 returns)

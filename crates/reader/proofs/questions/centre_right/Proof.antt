@@ -35,4 +35,5 @@ returns : tie.Need-returns
 returns c = ap not c.centre_stands-2.ensures ∙ rw (sym c.is_arc.ensures ∙ c.if-is_arc.false)
 
 pub centre_right_spec : {M : Type 1} → statement M
-centre_right_spec = tie.close (tie.spec is_arc-requires end_stands-requires centre_stands-requires returns-then-end_stands returns-then-is_arc centre_stands-requires-2 returns)
+centre_right_spec = tie.close (tie.spec is_arc-requires end_stands-requires centre_stands-requires returns-then-end_stands
+    returns-then-is_arc centre_stands-requires-2 returns)

@@ -135,4 +135,6 @@ returns c =
     )
 
 pub line_no_spec : {M : Type 1} → statement M
-line_no_spec = tie.close (tie.spec returns-then-bytes-gt-LONGEST_LINE returns-then-not-l returns-then-not-l-2 motion_right-requires returns-then-not-motion_right all_on_pulse-requires returns-then-not-all_on_pulse all_known-requires returns-then-not-all_known centre_right-requires returns-then-not-centre_right returns)
+line_no_spec = tie.close (tie.spec returns-then-bytes-gt-LONGEST_LINE returns-then-not-l returns-then-not-l-2 motion_right-requires
+    returns-then-not-motion_right all_on_pulse-requires returns-then-not-all_on_pulse all_known-requires returns-then-not-all_known
+    centre_right-requires returns-then-not-centre_right returns)

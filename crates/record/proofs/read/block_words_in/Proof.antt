@@ -96,4 +96,7 @@ returns c =
     )
 
 pub block_words_in_spec : {M : Type 1} → statement M
-block_words_in_spec = tie.close (tie.spec overflow_mul-at overflow_add-at overflow_add-x overflow_add-y overflow_add-feed overflow_add-i overflow_add-j overflow_add-root offset_bounds-words-at bounds-words-at offset_bounds-words-x bounds-words-x offset_bounds-words-y bounds-words-y offset_bounds-words-feed bounds-words-feed offset_bounds-words-i bounds-words-i offset_bounds-words-j bounds-words-j offset_bounds-words-root bounds-words-root returns)
+block_words_in_spec = tie.close (tie.spec overflow_mul-at overflow_add-at overflow_add-x overflow_add-y overflow_add-feed overflow_add-i
+    overflow_add-j overflow_add-root offset_bounds-words-at bounds-words-at offset_bounds-words-x bounds-words-x offset_bounds-words-y
+    bounds-words-y offset_bounds-words-feed bounds-words-feed offset_bounds-words-i bounds-words-i offset_bounds-words-j bounds-words-j
+    offset_bounds-words-root bounds-words-root returns)

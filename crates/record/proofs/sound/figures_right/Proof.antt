@@ -49,4 +49,5 @@ returns c =
     len_is c ∙ rw (sym (left_is e2.before) ∙ e2.if-not-is_count-2.false, sym (root_is e1.before) ∙ e1.if-not-is_count.false)
 
 pub figures_right_spec : {M : Type 1} → statement M
-figures_right_spec = tie.close (tie.spec is_count-requires returns-then-not-is_count is_count-requires-2 returns-then-not-is_count-2 is_count-requires-3 returns)
+figures_right_spec = tie.close (tie.spec is_count-requires returns-then-not-is_count is_count-requires-2 returns-then-not-is_count-2
+    is_count-requires-3 returns)

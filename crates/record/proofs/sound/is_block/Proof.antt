@@ -145,4 +145,6 @@ returns c =
     e ∙ own s
 
 pub is_block_spec : {M : Type 1} → statement M
-is_block_spec = tie.close (tie.spec is_count-requires returns-then-not-is_count is_count-requires-2 returns-then-not-is_count-2 equal-requires equal-requires-then-equal returns-then-not-equal equal-requires-then-equal-2 returns-then-equal equal-requires-2 returns-then-equal-2 equal-requires-3 returns)
+is_block_spec = tie.close (tie.spec is_count-requires returns-then-not-is_count is_count-requires-2 returns-then-not-is_count-2
+    equal-requires equal-requires-then-equal returns-then-not-equal equal-requires-then-equal-2 returns-then-equal equal-requires-2
+    returns-then-equal-2 equal-requires-3 returns)

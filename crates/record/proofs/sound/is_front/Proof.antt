@@ -136,4 +136,6 @@ returns c =
     e ∙ own s
 
 pub is_front_spec : {M : Type 1} → statement M
-is_front_spec = tie.close (tie.spec head_in-head-requires work_words_in-work-requires figures_in-figures-requires bounds-words-0 equal-requires returns-then-not-equal head_right-requires returns-then-not-head_right work_right-requires returns-then-not-work_right figures_right-requires returns)
+is_front_spec = tie.close (tie.spec head_in-head-requires work_words_in-work-requires figures_in-figures-requires bounds-words-0
+    equal-requires returns-then-not-equal head_right-requires returns-then-not-head_right work_right-requires returns-then-not-work_right
+    figures_right-requires returns)

@@ -49,4 +49,5 @@ returns c =
     (sym (bench_is e.before) ∙ e.if-not-sound.false)
 
 pub is_sound_spec : {M : Type 1} → statement M
-is_sound_spec = tie.close (tie.spec seen-requires is_front-requires returns-then-not-is_front bench_in-k-requires sound-requires returns-then-not-sound waiting_right-requires returns)
+is_sound_spec = tie.close (tie.spec seen-requires is_front-requires returns-then-not-is_front bench_in-k-requires sound-requires
+    returns-then-not-sound waiting_right-requires returns)

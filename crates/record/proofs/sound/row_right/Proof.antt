@@ -98,4 +98,6 @@ returns c =
     row_tested _ _ _ _ _ _ v.3 (v.5 ∙ row_end _ _ _ _ l.left l.i _ c.loop-i-test.false)
 
 pub row_right_spec : {M : Type 1} → statement M
-row_right_spec = tie.close (tie.spec invariant-loop-i decreases-loop-i returns-then-len-gt16 loop-i-init block_words_in-b-requires is_block-requires returns-then-not-is_block waiting_of-w-requires take_off-t-requires returns-then-not-t overflow_add-i loop-i-smaller loop-i-preserved returns)
+row_right_spec = tie.close (tie.spec invariant-loop-i decreases-loop-i returns-then-len-gt16 loop-i-init block_words_in-b-requires
+    is_block-requires returns-then-not-is_block waiting_of-w-requires take_off-t-requires returns-then-not-t overflow_add-i loop-i-smaller
+    loop-i-preserved returns)

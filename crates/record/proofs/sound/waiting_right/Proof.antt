@@ -85,7 +85,8 @@ capacity-requires c κs = (sound c.requires).settings
 
 row_right-requires : tie.Need-row_right-requires
 row_right-requires c κs =
-    let s = c.before.before.before.before.before.before.before.before.before.before.before.before.before.before.before.before.before.before in
+    let s =
+    c.before.before.before.before.before.before.before.before.before.before.before.before.before.before.before.before.before.before in
     (wide s.args.k s.requires, rw c.before.end_of-end.ensures (work_end_inside s.args.k s.requires))
 
 returns : tie.Need-returns
@@ -100,4 +101,6 @@ returns c =
     ∙ busy_right _ _ _ _ _ _ _ _ w.work_off-t.ensures (not-false _ e.if-not-t.false) (sym i.is_nothing.ensures ∙ i.if-is_nothing.false))
 
 pub waiting_right_spec : {M : Type 1} → statement M
-waiting_right_spec = tie.close (tie.spec figures_in-figures-requires count-requires count-requires-2 work_off-t-requires returns-then-not-t count-len-requires returns-then-len-eq0 is_nothing-requires returns-then-is_nothing end_of-end-requires capacity-requires row_right-requires returns)
+waiting_right_spec = tie.close (tie.spec figures_in-figures-requires count-requires count-requires-2 work_off-t-requires returns-then-not-t
+    count-len-requires returns-then-len-eq0 is_nothing-requires returns-then-is_nothing end_of-end-requires capacity-requires
+    row_right-requires returns)

@@ -45,4 +45,5 @@ returns-in-Arc c =
     (search rules)
 
 pub block_words_spec : {M : Type 1} → statement M
-block_words_spec = tie.close (tie.spec enum_told-1 word-requires word-requires-in-Line enum_known-path turn_word-requires word-requires-in-Arc word-requires-in-Arc-2 returns-in-Line returns-in-Arc)
+block_words_spec = tie.close (tie.spec enum_told-1 word-requires word-requires-in-Line enum_known-path turn_word-requires
+    word-requires-in-Arc word-requires-in-Arc-2 returns-in-Line returns-in-Arc)

@@ -87,7 +87,10 @@ returns c =
       through (word_fits _) c.word-2.ensures,
       c.waiting_in-w.ensures,
     )
-    (brought_first c.args.words.now c.args.at (len_is c.before.before.before.before.before.before.before.before.before.before.before) c.if-len-eq0.false)
+    (brought_first c.args.words.now c.args.at (len_is c.before.before.before.before.before.before.before.before.before.before.before)
+    c.if-len-eq0.false)
 
 pub bring_in_spec : {M : Type 1} → statement M
-bring_in_spec = tie.close (tie.spec figures_in-figures-requires count-len-requires nothing_words-requires set_work-requires bounds-words-19 returns-then-len-eq0 waiting_in-w-requires begin-begun-requires overflow_sub-others work_words-requires set_work-requires-2 word-requires bounds-words-19-2 word-requires-2 bounds-words-21 shift-requires returns)
+bring_in_spec = tie.close (tie.spec figures_in-figures-requires count-len-requires nothing_words-requires set_work-requires bounds-words-19
+    returns-then-len-eq0 waiting_in-w-requires begin-begun-requires overflow_sub-others work_words-requires set_work-requires-2
+    word-requires bounds-words-19-2 word-requires-2 bounds-words-21 shift-requires returns)

@@ -37,4 +37,5 @@ returns c =
     (works s.args.words.now s.requires s.args.w s.args.root s.args.left)
 
 pub into_work_spec : {M : Type 1} → statement M
-into_work_spec = tie.close (tie.spec work_words-requires set_work-requires word-requires bounds-words-19 word-requires-2 bounds-words-20 returns)
+into_work_spec = tie.close (tie.spec work_words-requires set_work-requires word-requires bounds-words-19 word-requires-2 bounds-words-20
+    returns)

@@ -52,4 +52,5 @@ returns c =
     (pushes c.args.words.now c.requires.0 c.seen-arg-2-1.given c.args.w c.args.left c.requires.1)
 
 pub push_spec : {M : Type 1} → statement M
-push_spec = tie.close (tie.spec seen-requires len_in-len-requires word-requires bounds-words-20 overflow_add-len word-requires-2 bounds-words-21 overflow_mul-at overflow_add-at block_words-requires set_block-requires returns)
+push_spec = tie.close (tie.spec seen-requires len_in-len-requires word-requires bounds-words-20 overflow_add-len word-requires-2
+    bounds-words-21 overflow_mul-at overflow_add-at block_words-requires set_block-requires returns)

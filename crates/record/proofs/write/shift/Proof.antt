@@ -77,4 +77,6 @@ returns c =
     rw all at v.4
 
 pub shift_spec : {M : Type 1} → statement M
-shift_spec = tie.close (tie.spec invariant-loop-i decreases-loop-i seen-requires overflow_mul-end loop-i-init overflow_add-to overflow_add-from offset_bounds-words-from bounds-words-from offset_bounds-words-to bounds-words-to overflow_add-i loop-i-smaller loop-i-preserved returns)
+shift_spec = tie.close (tie.spec invariant-loop-i decreases-loop-i seen-requires overflow_mul-end loop-i-init overflow_add-to
+    overflow_add-from offset_bounds-words-from bounds-words-from offset_bounds-words-to bounds-words-to overflow_add-i loop-i-smaller
+    loop-i-preserved returns)

@@ -49,4 +49,5 @@ returns-in-Arc c =
     (arc_words c.args.words.now c.args.k c.args.left c.requires _ c.in-Arc.is)
 
 pub store_ticks_spec : {M : Type 1} → statement M
-store_ticks_spec = tie.close (tie.spec set_place-requires word-requires bounds-words-20 enum_told-1 bring_in-requires enum_known-work set_done-requires enum_told-in-Arc returns-in-Nothing returns-in-Line returns-in-Arc)
+store_ticks_spec = tie.close (tie.spec set_place-requires word-requires bounds-words-20 enum_told-1 bring_in-requires enum_known-work
+    set_done-requires enum_told-in-Arc returns-in-Nothing returns-in-Line returns-in-Arc)

@@ -84,4 +84,5 @@ returns c =
     )
 
 pub take_spec : {M : Type 1} → statement M
-take_spec = tie.close (tie.spec begin-begun-requires root_of-root-requires left_in-requires cycles_left-requires overflow_add-left is_nothing-requires into_work-requires returns-then-is_nothing push-requires returns)
+take_spec = tie.close (tie.spec begin-begun-requires root_of-root-requires left_in-requires cycles_left-requires overflow_add-left
+    is_nothing-requires into_work-requires returns-then-is_nothing push-requires returns)

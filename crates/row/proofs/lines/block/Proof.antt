@@ -79,4 +79,6 @@ returns c =
     (block.number-at1.ensures then line.number-at2.ensures then letter then blank.byte-at4.ensures then later)
 
 pub block_spec : {M : Type 1} → statement M
-block_spec = tie.close (tie.spec left-requires returns-then-left-lt-ROOM number-at1-requires number-at2-requires letter-requires byte-at3-requires byte-at4-requires number-at5-requires signed-at6-requires signed-at7-requires number-next-requires shape_of-out returns)
+block_spec = tie.close (tie.spec left-requires returns-then-left-lt-ROOM number-at1-requires number-at2-requires letter-requires
+    byte-at3-requires byte-at4-requires number-at5-requires signed-at6-requires signed-at7-requires number-next-requires shape_of-out
+    returns)

@@ -36,4 +36,5 @@ returns c =
     (c.text-at1.ensures then c.number-at2.ensures then c.text-at3.ensures then c.number-next.ensures)
 
 pub refused_spec : {M : Type 1} → statement M
-refused_spec = tie.close (tie.spec left-requires returns-then-left-lt-ROOM text-at1-requires number-at2-requires text-at3-requires number-next-requires shape_of-out returns)
+refused_spec = tie.close (tie.spec left-requires returns-then-left-lt-ROOM text-at1-requires number-at2-requires text-at3-requires
+    number-next-requires shape_of-out returns)

@@ -37,4 +37,5 @@ returns c =
     (c.text-at1.ensures then c.number-at2.ensures then c.number-at3.ensures then c.long-next.ensures)
 
 pub total_spec : {M : Type 1} → statement M
-total_spec = tie.close (tie.spec left-requires returns-then-left-lt-ROOM text-at1-requires number-at2-requires number-at3-requires long-next-requires shape_of-out returns)
+total_spec = tie.close (tie.spec left-requires returns-then-left-lt-ROOM text-at1-requires number-at2-requires number-at3-requires
+    long-next-requires shape_of-out returns)

@@ -73,4 +73,6 @@ returns c =
     written_last l.invariant (omega (arith, last, s.requires.0)) (simp (to_z-of_z, ← last) at c.signed.ensures)
 
 pub fields_spec : {M : Type 1} → statement M
-fields_spec = tie.close (tie.spec invariant-loop-i decreases-loop-i overflow_sub-last loop-i-init offset_bounds-numbers-i bounds-numbers-i signed-next-requires overflow_add-i loop-i-smaller loop-i-preserved offset_bounds-numbers-last bounds-numbers-last signed-requires shape_of-out returns)
+fields_spec = tie.close (tie.spec invariant-loop-i decreases-loop-i overflow_sub-last loop-i-init offset_bounds-numbers-i bounds-numbers-i
+    signed-next-requires overflow_add-i loop-i-smaller loop-i-preserved offset_bounds-numbers-last bounds-numbers-last signed-requires
+    shape_of-out returns)

@@ -45,4 +45,5 @@ returns-else-numbers-eq0 c =
     with_room_for a.numbers.now a.out.now a.at (omega arith) f.fields-next.ensures
 
 pub line_spec : {M : Type 1} → statement M
-line_spec = tie.close (tie.spec returns-then-out-at overflow_sub-out returns-then-out-at-2 byte-next-requires fields-next-requires shape_of-out-then-numbers-eq0 returns-then-numbers-eq0 shape_of-out-else-numbers-eq0 returns-else-numbers-eq0)
+line_spec = tie.close (tie.spec returns-then-out-at overflow_sub-out returns-then-out-at-2 byte-next-requires fields-next-requires
+    shape_of-out-then-numbers-eq0 returns-then-numbers-eq0 shape_of-out-else-numbers-eq0 returns-else-numbers-eq0)

@@ -60,4 +60,6 @@ returns : tie.Need-returns invariant-loop-m decreases-loop-m
 returns c = behind_all c.loop-m.invariant (omega arith)
 
 pub digits_spec : {M : Type 1} → statement M
-digits_spec = tie.close (tie.spec invariant-loop-m decreases-loop-m width-requires overflow_add-end loop-m-init overflow_sub-i overflow_cast-d overflow_add-out bounds-out-i loop-m-smaller loop-m-preserved overflow_cast-d-2 overflow_add-out-2 bounds-out-at shape_of-out returns)
+digits_spec = tie.close (tie.spec invariant-loop-m decreases-loop-m width-requires overflow_add-end loop-m-init overflow_sub-i
+    overflow_cast-d overflow_add-out bounds-out-i loop-m-smaller loop-m-preserved overflow_cast-d-2 overflow_add-out-2 bounds-out-at
+    shape_of-out returns)

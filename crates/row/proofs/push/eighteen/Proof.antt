@@ -45,4 +45,5 @@ returns : tie.Need-returns invariant-loop-i decreases-loop-i
 returns c = last_all c.loop-i.invariant (omega arith)
 
 pub eighteen_spec : {M : Type 1} → statement M
-eighteen_spec = tie.close (tie.spec invariant-loop-i decreases-loop-i overflow_add-end loop-i-init overflow_sub-i overflow_cast-d overflow_add-out bounds-out-i loop-i-smaller loop-i-preserved shape_of-out returns)
+eighteen_spec = tie.close (tie.spec invariant-loop-i decreases-loop-i overflow_add-end loop-i-init overflow_sub-i overflow_cast-d
+    overflow_add-out bounds-out-i loop-i-smaller loop-i-preserved shape_of-out returns)

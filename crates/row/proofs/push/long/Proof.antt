@@ -66,4 +66,5 @@ returns c =
     (omega (arith, high_digits n.low n.high low high)))
 
 pub long_spec : {M : Type 1} → statement M
-long_spec = tie.close (tie.spec overflow_cast-high overflow_add-high number-requires shape_of-out-then-high-eq0 returns-then-high-eq0 digits-first-requires eighteen-last-requires byte-requires shape_of-out returns)
+long_spec = tie.close (tie.spec overflow_cast-high overflow_add-high number-requires shape_of-out-then-high-eq0 returns-then-high-eq0
+    digits-first-requires eighteen-last-requires byte-requires shape_of-out returns)

@@ -56,4 +56,5 @@ returns c =
     puts_text a.s.now a.out.now v.out a.at v.i (search rules) (omega arith) v.invariant.2
 
 pub text_spec : {M : Type 1} → statement M
-text_spec = tie.close (tie.spec invariant-loop-i decreases-loop-i loop-i-init bounds-s-i overflow_add-out bounds-out-at overflow_add-i loop-i-smaller loop-i-preserved overflow_add-result shape_of-out returns)
+text_spec = tie.close (tie.spec invariant-loop-i decreases-loop-i loop-i-init bounds-s-i overflow_add-out bounds-out-at overflow_add-i
+    loop-i-smaller loop-i-preserved overflow_add-result shape_of-out returns)

@@ -44,4 +44,5 @@ returns : tie.Need-returns invariant-loop-m decreases-loop-m
 returns c = omega (arith, length_small c.loop-m.m (omega arith))
 
 pub width_spec : {M : Type 1} → statement M
-width_spec = tie.close (tie.spec invariant-loop-m decreases-loop-m returns-then-n-lt10 returns-then-n-lt100 returns-then-n-lt1000 returns-then-n-lt10000 loop-m-init overflow_add-w loop-m-smaller loop-m-preserved returns)
+width_spec = tie.close (tie.spec invariant-loop-m decreases-loop-m returns-then-n-lt10 returns-then-n-lt100 returns-then-n-lt1000
+    returns-then-n-lt10000 loop-m-init overflow_add-w loop-m-smaller loop-m-preserved returns)

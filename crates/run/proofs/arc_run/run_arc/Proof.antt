@@ -63,12 +63,14 @@ in_time l h = omega (arith, long l, (start l).requires.1, l.loop-gap.invariant.0
 abbrev entry : tie.After-enter-tracer invariant-loop-gap decreases-loop-gap → tie.Start invariant-loop-gap decreases-loop-gap
 entry c = c.before.before.before.before.before.before.before.before.before.before.before.before
 
-entered : (c : tie.After-enter-tracer invariant-loop-gap decreases-loop-gap) → (entry c).args.at ≡ tracer_at (entry c).args.a.centre c.enter-tracer.result
+entered : (c : tie.After-enter-tracer invariant-loop-gap decreases-loop-gap)
+    → (entry c).args.at ≡ tracer_at (entry c).args.a.centre c.enter-tracer.result
 entered c =
     let b = entry c in
     sym (ap (tracer_at b.args.a.centre) c.enter-tracer.ensures ∙ tracer_at_lem b.args.a b.args.at (circles (run_ready b.requires.0).0))
 
-first_charge : (c : tie.After-charge invariant-loop-gap decreases-loop-gap) → (let s = (entry c.before).args in c.charge.result ≡ arc_charge s.a s.at)
+first_charge : (c : tie.After-charge invariant-loop-gap decreases-loop-gap)
+    → (let s = (entry c.before).args in c.charge.result ≡ arc_charge s.a s.at)
 first_charge c =
     let b = entry c.before in
     c.charge.ensures
@@ -147,7 +149,8 @@ loop-gap-init c =
     (begins b.args.a b.args.remainder same i, c.enter-tracer.ensures ∙ ap (arc_tracer b.args.a) same)
 
 cycle-t-requires : tie.Need-cycle-t-requires invariant-loop-gap decreases-loop-gap
-cycle-t-requires c κs = let l = c.before.before in (arc_asks (start l).args.a l.loop-gap.tracer l.loop-gap.invariant.0 l.loop-gap.invariant.1).1
+cycle-t-requires c κs = let l = c.before.before in
+    (arc_asks (start l).args.a l.loop-gap.tracer l.loop-gap.invariant.0 l.loop-gap.invariant.1).1
 
 with_marks-requires : tie.Need-with_marks-requires invariant-loop-gap decreases-loop-gap
 with_marks-requires c κs =
@@ -197,7 +200,8 @@ last_code-code-requires c κs =
 with_marks-requires-then-last-n : tie.Need-with_marks-requires-then-last-n invariant-loop-gap decreases-loop-gap
 with_marks-requires-then-last-n c κs =
     let l = c.before.before.before.before.before in
-    let small = arc_small (start l).args.a l.loop-gap.tracer l.loop-gap.invariant.0 l.loop-gap.invariant.1 {t = traced_of l.loop-gap.tracer} refl in
+    let small =
+    arc_small (start l).args.a l.loop-gap.tracer l.loop-gap.invariant.0 l.loop-gap.invariant.1 {t = traced_of l.loop-gap.tracer} refl in
     omega (arith, small, c.last_code-code.ensures)
 
 bounds-out-tick-then-last-n : tie.Need-bounds-out-tick-then-last-n invariant-loop-gap decreases-loop-gap
@@ -246,9 +250,15 @@ returns c =
     let l = c.before.before.before.before.before.before.before in
     let t = c.before.before.before.before in
     let a =
-    arc_out (start l).args.a l.loop-gap.tracer l.loop-gap.invariant.0 l.loop-gap.invariant.1 t.if-last-n.false t.loop-gap-test.false (cleared l) in
+    arc_out (start l).args.a l.loop-gap.tracer l.loop-gap.invariant.0 l.loop-gap.invariant.1 t.if-last-n.false t.loop-gap-test.false
+    (cleared l) in
     answers (strip (start l)) (entered l.before.before.before)
     (rw (c.leave.ensures, c.remainder_at.ensures, last_charge c.before) a)
 
 pub run_arc_spec : {M : Type 1} → statement M
-run_arc_spec = tie.close (tie.spec invariant-loop-gap decreases-loop-gap overflow_mul-added arc_end-end-requires least-n-requires overflow_sub-end least-last-requires clear-requires overflow_mul-capacity divide-straight-requires overflow_mul-capacity-2 divide-diagonal-requires enter-tracer-requires charge-requires overflow_mul-charge first_gap-gap-requires loop-gap-init cycle-t-requires with_marks-requires bounds-out-tick overflow_add-cycles arc_gap-gap-requires loop-gap-smaller loop-gap-preserved last_code-code-requires with_marks-requires-then-last-n bounds-out-tick-then-last-n overflow_add-result shape_of-out-then-last-n returns-then-last-n leave-requires charge-requires-2 overflow_mul-charge-2 remainder_at-requires shape_of-out returns)
+run_arc_spec = tie.close (tie.spec invariant-loop-gap decreases-loop-gap overflow_mul-added arc_end-end-requires least-n-requires
+    overflow_sub-end least-last-requires clear-requires overflow_mul-capacity divide-straight-requires overflow_mul-capacity-2
+    divide-diagonal-requires enter-tracer-requires charge-requires overflow_mul-charge first_gap-gap-requires loop-gap-init cycle-t-requires
+    with_marks-requires bounds-out-tick overflow_add-cycles arc_gap-gap-requires loop-gap-smaller loop-gap-preserved last_code-code-requires
+    with_marks-requires-then-last-n bounds-out-tick-then-last-n overflow_add-result shape_of-out-then-last-n returns-then-last-n
+    leave-requires charge-requires-2 overflow_mul-charge-2 remainder_at-requires shape_of-out returns)

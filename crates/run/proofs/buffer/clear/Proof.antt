@@ -50,4 +50,5 @@ returns c =
     i.1 ∙ ap (λ (k : ℕ). cleared_of k c.args.out.now) all
 
 pub clear_spec : {M : Type 1} → statement M
-clear_spec = tie.close (tie.spec invariant-loop-i decreases-loop-i loop-i-init bounds-out-at overflow_add-i loop-i-smaller loop-i-preserved shape_of-out returns)
+clear_spec = tie.close (tie.spec invariant-loop-i decreases-loop-i loop-i-init bounds-out-at overflow_add-i loop-i-smaller loop-i-preserved
+    shape_of-out returns)

@@ -63,4 +63,5 @@ returns c =
     record { same = ap (min (suc s.most)) (c.last_tick.ensures ∙ end) }
 
 pub arc_end_spec : {M : Type 1} → statement M
-arc_end_spec = tie.close (tie.spec overflow_mul-added longer_way-requires overflow_mul-least overflow_mul-least-2 falls_short-requires overflow_add-result returns-then-falls_short span-span-requires overflow_mul-span last_tick-requires returns)
+arc_end_spec = tie.close (tie.spec overflow_mul-added longer_way-requires overflow_mul-least overflow_mul-least-2 falls_short-requires
+    overflow_add-result returns-then-falls_short span-span-requires overflow_mul-span last_tick-requires returns)

@@ -35,4 +35,5 @@ returns : tie.Need-returns
 returns c = record { same = ap (min (suc c.args.most)) c.last_tick.ensures }
 
 pub line_end_spec : {M : Type 1} → statement M
-line_end_spec = tie.close (tie.spec overflow_sub-left overflow_mul-due overflow_mul-due-2 overflow_mul-added falls_short-requires overflow_add-result returns-then-falls_short last_tick-requires returns)
+line_end_spec = tie.close (tie.spec overflow_sub-left overflow_mul-due overflow_mul-due-2 overflow_mul-added falls_short-requires
+    overflow_add-result returns-then-falls_short last_tick-requires returns)

@@ -53,4 +53,5 @@ unfolding gap_of
 returns c = search rules
 
 pub first_gap_spec : {M : Type 1} → statement M
-first_gap_spec = tie.close (tie.spec overflow_add-result overflow_sub-result returns-then-due-remainder overflow_sub-ticks overflow_sub-ticks-2 nonzero_div-ticks overflow_mul-result overflow_add-result-2 overflow_add-result-3 overflow_sub-result-2 returns)
+first_gap_spec = tie.close (tie.spec overflow_add-result overflow_sub-result returns-then-due-remainder overflow_sub-ticks
+    overflow_sub-ticks-2 nonzero_div-ticks overflow_mul-result overflow_add-result-2 overflow_add-result-3 overflow_sub-result-2 returns)

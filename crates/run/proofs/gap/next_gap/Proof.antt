@@ -62,4 +62,6 @@ returns c =
     (next_either s.requires.0 (parts_of s) s.args.gap c.if-added-gap.false)
 
 pub next_gap_spec : {M : Type 1} → statement M
-next_gap_spec = tie.close (tie.spec first_gap-more-requires overflow_add-result overflow_add-result-then-added-gap returns-then-added-gap if_less-late-requires if_less-more-requires overflow_add-result-2 overflow_add-result-3 overflow_add-result-4 overflow_sub-result returns)
+next_gap_spec = tie.close (tie.spec first_gap-more-requires overflow_add-result overflow_add-result-then-added-gap returns-then-added-gap
+    if_less-late-requires if_less-more-requires overflow_add-result-2 overflow_add-result-3 overflow_add-result-4 overflow_sub-result
+    returns)

@@ -25,4 +25,5 @@ unfolding remainder_at
 returns c = refl
 
 pub remainder_at_spec : {M : Type 1} → statement M
-remainder_at_spec = tie.close (tie.spec overflow_add-result overflow_add-result-2 overflow_sub-result overflow_mul-result overflow_sub-result-2 returns)
+remainder_at_spec = tie.close (tie.spec overflow_add-result overflow_add-result-2 overflow_sub-result overflow_mul-result
+    overflow_sub-result-2 returns)

@@ -109,7 +109,8 @@ loop-gap-init c =
     )
 
 advance-s-requires : tie.Need-advance-s-requires invariant-loop-gap decreases-loop-gap
-advance-s-requires c κs = let l = c.before.before in line_asks_lem (start l).args.l l.loop-gap.cycles l.loop-gap.invariant.0 l.loop-gap.invariant.1
+advance-s-requires c κs = let l = c.before.before in
+    line_asks_lem (start l).args.l l.loop-gap.cycles l.loop-gap.invariant.0 l.loop-gap.invariant.1
 
 cycle_byte-requires : tie.Need-cycle_byte-requires invariant-loop-gap decreases-loop-gap
 cycle_byte-requires c κs =
@@ -212,4 +213,9 @@ returns c =
     answers (strip (start l)) (reached (start l)) (rw (c.point.ensures, c.remainder_at.ensures) a)
 
 pub run_line_spec : {M : Type 1} → statement M
-run_line_spec = tie.close (tie.spec invariant-loop-gap decreases-loop-gap overflow_mul-due overflow_mul-added line_end-end-requires least-n-requires overflow_sub-end least-last-requires clear-requires divide-parts-requires first_gap-gap-requires enter-stepper-requires loop-gap-init advance-s-requires cycle_byte-requires bounds-out-tick overflow_add-cycles next_gap-gap-requires loop-gap-smaller loop-gap-preserved advance-s-requires-then-last-n cycle_byte-requires-then-last-n bounds-out-tick-then-last-n overflow_add-result overflow_sub-result shape_of-out-then-last-n returns-then-last-n overflow_sub-result-2 point-requires remainder_at-requires shape_of-out returns)
+run_line_spec = tie.close (tie.spec invariant-loop-gap decreases-loop-gap overflow_mul-due overflow_mul-added line_end-end-requires
+    least-n-requires overflow_sub-end least-last-requires clear-requires divide-parts-requires first_gap-gap-requires enter-stepper-requires
+    loop-gap-init advance-s-requires cycle_byte-requires bounds-out-tick overflow_add-cycles next_gap-gap-requires loop-gap-smaller
+    loop-gap-preserved advance-s-requires-then-last-n cycle_byte-requires-then-last-n bounds-out-tick-then-last-n overflow_add-result
+    overflow_sub-result shape_of-out-then-last-n returns-then-last-n overflow_sub-result-2 point-requires remainder_at-requires shape_of-out
+    returns)

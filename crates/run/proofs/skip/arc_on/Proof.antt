@@ -61,4 +61,5 @@ returns c =
     arc_on_ran s.args.a s.requires.0 s.args.ticks s.requires.2 (paid c.before.before)
 
 pub arc_on_spec : {M : Type 1} → statement M
-arc_on_spec = tie.close (tie.spec overflow_mul-sum overflow_mul-sum-2 overflow_add-sum overflow_sub-cycles least-most-requires nonzero_div-sum paid-paid-requires overflow_mul-result overflow_sub-result returns)
+arc_on_spec = tie.close (tie.spec overflow_mul-sum overflow_mul-sum-2 overflow_add-sum overflow_sub-cycles least-most-requires
+    nonzero_div-sum paid-paid-requires overflow_mul-result overflow_sub-result returns)

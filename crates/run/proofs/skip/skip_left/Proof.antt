@@ -32,4 +32,5 @@ returns : tie.Need-returns
 returns c = c.work_on.ensures
 
 pub skip_left_spec : {M : Type 1} → statement M
-skip_left_spec = tie.close (tie.spec overflow_mul-left overflow_mul-left-2 ending-last-requires returns-then-last-ticks work_on-requires returns)
+skip_left_spec = tie.close (tie.spec overflow_mul-left overflow_mul-left-2 ending-last-requires returns-then-last-ticks work_on-requires
+    returns)

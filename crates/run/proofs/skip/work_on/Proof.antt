@@ -30,4 +30,5 @@ returns-in-Arc : tie.Need-returns-in-Arc
 returns-in-Arc c = c.arc_on.ensures ∙ simp c.in-Arc.is
 
 pub work_on_spec : {M : Type 1} → statement M
-work_on_spec = tie.close (tie.spec enum_told-1 enum_known-work line_on-requires enum_known-work-in-Arc-1 arc_on-requires returns-in-Nothing returns-in-Line returns-in-Arc)
+work_on_spec = tie.close (tie.spec enum_told-1 enum_known-work line_on-requires enum_known-work-in-Arc-1 arc_on-requires returns-in-Nothing
+    returns-in-Line returns-in-Arc)

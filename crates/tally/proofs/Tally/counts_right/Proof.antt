@@ -33,4 +33,5 @@ returns c = same_test (λ t. counts_test _
     (λ t. lt-ltb _ low_limit (counts _ t).low)
 
 pub counts_right_spec : {M : Type 1} → statement M
-counts_right_spec = tie.close (tie.spec returns-then-self-gt-MOST_LINES returns-then-self overflow_mul-self returns-then-self-2 overflow_cast-ticks returns-then-self-ticks returns)
+counts_right_spec = tie.close (tie.spec returns-then-self-gt-MOST_LINES returns-then-self overflow_mul-self returns-then-self-2
+    overflow_cast-ticks returns-then-self-ticks returns)

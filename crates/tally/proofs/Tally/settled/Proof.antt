@@ -27,4 +27,5 @@ returns-in-Arc : tie.Need-returns-in-Arc
 returns-in-Arc c = search rules
 
 pub settled_spec : {M : Type 1} → statement M
-settled_spec = tie.close (tie.spec enum_told-1 moved-idle-requires enum_told-in-Line enum_told-in-Arc returns-in-Nothing returns-in-Line returns-in-Arc)
+settled_spec = tie.close (tie.spec enum_told-1 moved-idle-requires enum_told-in-Line enum_told-in-Arc returns-in-Nothing returns-in-Line
+    returns-in-Arc)

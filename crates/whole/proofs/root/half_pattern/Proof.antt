@@ -31,4 +31,5 @@ returns-else-x : tie.Need-returns-else-x
 returns-else-x c = search rules
 
 pub half_pattern_spec : {M : Type 1} → statement M
-half_pattern_spec = tie.close (tie.spec float_to_bits-pattern overflow_add-pattern float_from_bits-result returns-then-pattern-lt9218868437227405312 returns-else-pattern-lt9218868437227405312 returns-else-x)
+half_pattern_spec = tie.close (tie.spec float_to_bits-pattern overflow_add-pattern float_from_bits-result
+    returns-then-pattern-lt9218868437227405312 returns-else-pattern-lt9218868437227405312 returns-else-x)

@@ -37,4 +37,5 @@ returns : tie.Need-returns
 returns c = root_test _ _ (pos_of_ne-zero c.if-q-eq0.false) (omega (arith, c.if-s-less.false))
 
 pub is_least_root_spec : {M : Type 1} → statement M
-is_least_root_spec = tie.close (tie.spec returns-then-q-eq0 returns-then-q-gt-MOST_ROOT overflow_sub-less overflow_mul-less returns-then-s-less overflow_mul-result returns)
+is_least_root_spec = tie.close (tie.spec returns-then-q-eq0 returns-then-q-gt-MOST_ROOT overflow_sub-less overflow_mul-less
+    returns-then-s-less overflow_mul-result returns)

@@ -40,4 +40,5 @@ returns : tie.Need-returns
 returns c = nearest_test _ _ (pos_of_ne-zero c.if-r-eq0.false) (omega (arith, c.if-n-square.false))
 
 pub is_nearest_root_spec : {M : Type 1} → statement M
-is_nearest_root_spec = tie.close (tie.spec returns-then-r-eq0 returns-then-r-gt-MOST_ROOT overflow_mul-square overflow_sub-square returns-then-n-square overflow_add-result returns)
+is_nearest_root_spec = tie.close (tie.spec returns-then-r-eq0 returns-then-r-gt-MOST_ROOT overflow_mul-square overflow_sub-square
+    returns-then-n-square overflow_add-result returns)

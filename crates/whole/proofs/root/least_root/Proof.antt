@@ -65,4 +65,6 @@ returns : tie.Need-returns
 returns c = search rules
 
 pub least_root_spec : {M : Type 1} → statement M
-least_root_spec = tie.close (tie.spec returns-then-s-eq0 root_within-requires returns-then-s-le65536 near_root-parts-requires float_to_bits-g overflow_mul-square overflow_sub-s overflow_mul-g overflow_add-g overflow_add-result returns-then-s-square overflow_add-square overflow_mul-g-else-square-s returns-then-square-s-2 root_within-requires-2 returns)
+least_root_spec = tie.close (tie.spec returns-then-s-eq0 root_within-requires returns-then-s-le65536 near_root-parts-requires
+    float_to_bits-g overflow_mul-square overflow_sub-s overflow_mul-g overflow_add-g overflow_add-result returns-then-s-square
+    overflow_add-square overflow_mul-g-else-square-s returns-then-square-s-2 root_within-requires-2 returns)

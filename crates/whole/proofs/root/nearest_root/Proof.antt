@@ -38,4 +38,5 @@ returns-else-n-q : tie.Need-returns-else-n-q
 returns-else-n-q c = nearest_same _ _ (root c.before.before) (pos_of_ne-zero c.if-q-eq0.false) c.if-n-q.false
 
 pub nearest_root_spec : {M : Type 1} → statement M
-nearest_root_spec = tie.close (tie.spec least_root-q-requires returns-then-q-eq0 overflow_sub-down overflow_mul-q returns-then-n-q returns-else-n-q)
+nearest_root_spec = tie.close (tie.spec least_root-q-requires returns-then-q-eq0 overflow_sub-down overflow_mul-q returns-then-n-q
+    returns-else-n-q)

@@ -64,4 +64,5 @@ returns-else-p c =
     to_z_pos w64 f.sfits ∙ ap (λ (b : Bool). signed b p.magnitude) (sym c.if-p.false)
 
 pub join_spec : {M : Type 1} → statement M
-join_spec = tie.close (tie.spec overflow_sub-result overflow_cast-result overflow_sub-result-else-m-eq0 overflow_cast-result-else-p returns-then-m-eq0 returns-else-m-eq0 returns-else-p)
+join_spec = tie.close (tie.spec overflow_sub-result overflow_cast-result overflow_sub-result-else-m-eq0 overflow_cast-result-else-p
+    returns-then-m-eq0 returns-else-m-eq0 returns-else-p)

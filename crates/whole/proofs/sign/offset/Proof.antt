@@ -58,4 +58,5 @@ returns-else-x-lt0 c =
     simp to_z-of_z (omega (arith, size_is c, offset_sum c.args.x f))
 
 pub offset_spec : {M : Type 1} → statement M
-offset_spec = tie.close (tie.spec overflow_sub-result overflow_cast-result overflow_cast-result-else-x-lt0 overflow_add-result returns-then-x-lt0 returns-else-x-lt0)
+offset_spec = tie.close (tie.spec overflow_sub-result overflow_cast-result overflow_cast-result-else-x-lt0 overflow_add-result
+    returns-then-x-lt0 returns-else-x-lt0)

@@ -46,4 +46,5 @@ returns c =
     simp to_z-of_z (part_below c.args.x (below_zero c))
 
 pub part_spec : {M : Type 1} → statement M
-part_spec = tie.close (tie.spec overflow_cast-result returns-then-x-ge0 overflow_sub-result overflow_cast-result-2 overflow_add-result returns)
+part_spec = tie.close (tie.spec overflow_cast-result returns-then-x-ge0 overflow_sub-result overflow_cast-result-2 overflow_add-result
+    returns)

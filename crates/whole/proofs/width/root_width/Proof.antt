@@ -62,4 +62,5 @@ returns-else-n-top c =
     root_width_more w.args.n _ (half_is w) (rw (top_is w.width.result (word w)) at c.if-n-top.false)
 
 pub root_width_spec : {M : Type 1} → statement M
-root_width_spec = tie.close (tie.spec width-requires overflow_add-half overflow_shl-top overflow_sub-top overflow_mul-top overflow_add-result returns-then-n-top returns-else-n-top)
+root_width_spec = tie.close (tie.spec width-requires overflow_add-half overflow_shl-top overflow_sub-top overflow_mul-top
+    overflow_add-result returns-then-n-top returns-else-n-top)

@@ -75,4 +75,6 @@ returns : tie.Need-returns invariant-loop-d decreases-loop-d
 returns c = let v = c.loop-d in (counted_full v.invariant c.loop-d-test.false, v.invariant.sized)
 
 pub read_spec : {M : Type 1} → statement M
-read_spec = tie.close (tie.spec invariant-loop-d decreases-loop-d loop-d-init overflow_add-from byte_at-b-requires is_digit-requires returns-then-not-is_digit overflow_mul-d overflow_sub-d overflow_cast-d overflow_add-d overflow_add-d-in-loop-d loop-d-smaller loop-d-preserved returns)
+read_spec = tie.close (tie.spec invariant-loop-d decreases-loop-d loop-d-init overflow_add-from byte_at-b-requires is_digit-requires
+    returns-then-not-is_digit overflow_mul-d overflow_sub-d overflow_cast-d overflow_add-d overflow_add-d-in-loop-d loop-d-smaller
+    loop-d-preserved returns)

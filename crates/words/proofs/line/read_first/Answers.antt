@@ -1,4 +1,5 @@
--- `read_first` is right because each way through the loop's body is one of the scan's, and at the line's end the words so far are its answer.
+-- `read_first` is right because each way through the loop's body is one of the scan's, and at the line's end the words so far are its
+-- answer.
 use Rattle.std.proofs.Common.{◌+◌, ◌∙◌, sym, arith, rules}
 use borrow.Author.Tests.{not-true, not-false}
 use Rattle.letters.specs.laws.Put.{gathered_none, gathered_more, words_more}

@@ -32,4 +32,5 @@ returns c =
     (number_is a.s.now a.from a.l g.read_sign-sign.result m.read_amount-m.result sign amount, search rules)
 
 pub read_spec : {M : Type 1} → statement M
-read_spec = tie.close (tie.spec takes_sign-requires read_sign-sign-requires overflow_add-from takes_point-requires read_amount-m-requires overflow_add-result returns)
+read_spec = tie.close (tie.spec takes_sign-requires read_sign-sign-requires overflow_add-from takes_point-requires read_amount-m-requires
+    overflow_add-result returns)

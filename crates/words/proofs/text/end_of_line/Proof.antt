@@ -49,4 +49,5 @@ returns c =
     omega (arith, v.invariant, at_end_lem c.args.text.now v.end none)
 
 pub end_of_line_spec : {M : Type 1} → statement M
-end_of_line_spec = tie.close (tie.spec invariant-loop-end decreases-loop-end loop-end-init in_line-requires overflow_add-end loop-end-smaller loop-end-preserved returns)
+end_of_line_spec = tie.close (tie.spec invariant-loop-end decreases-loop-end loop-end-init in_line-requires overflow_add-end
+    loop-end-smaller loop-end-preserved returns)

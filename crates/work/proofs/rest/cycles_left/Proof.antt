@@ -29,4 +29,5 @@ returns-in-Arc : tie.Need-returns-in-Arc
 returns-in-Arc c = c.cycles.ensures ∙ rw c.in-Arc.is
 
 pub cycles_left_spec : {M : Type 1} → statement M
-cycles_left_spec = tie.close (tie.spec enum_told-1 enum_known-work overflow_sub-result enum_known-work-in-Arc-1 cycles-requires returns-in-Nothing returns-in-Line returns-in-Arc)
+cycles_left_spec = tie.close (tie.spec enum_told-1 enum_known-work overflow_sub-result enum_known-work-in-Arc-1 cycles-requires
+    returns-in-Nothing returns-in-Line returns-in-Arc)

@@ -30,4 +30,5 @@ returns-in-Arc : tie.Need-returns-in-Arc
 returns-in-Arc c = c.nearest_root.ensures ∙ rw c.in-Arc.is
 
 pub root_of_spec : {M : Type 1} → statement M
-root_of_spec = tie.close (tie.spec enum_told-1 enum_known-work enum_known-work-in-Arc-1 overflow_mul-a nearest_root-requires returns-in-Nothing returns-in-Line returns-in-Arc)
+root_of_spec = tie.close (tie.spec enum_told-1 enum_known-work enum_known-work-in-Arc-1 overflow_mul-a nearest_root-requires
+    returns-in-Nothing returns-in-Line returns-in-Arc)

@@ -34,4 +34,5 @@ returns-in-Arc : tie.Need-returns-in-Arc
 returns-in-Arc c = rw (c.in-Arc.is, c.span-span.ensures)
 
 pub work_left_spec : {M : Type 1} → statement M
-work_left_spec = tie.close (tie.spec enum_told-1 enum_known-work overflow_sub-cycles overflow_mul-result enum_known-work-in-Arc-1 span-span-requires returns-in-Nothing returns-in-Line returns-in-Arc)
+work_left_spec = tie.close (tie.spec enum_told-1 enum_known-work overflow_sub-cycles overflow_mul-result enum_known-work-in-Arc-1
+    span-span-requires returns-in-Nothing returns-in-Line returns-in-Arc)

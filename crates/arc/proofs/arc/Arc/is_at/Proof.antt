@@ -107,4 +107,5 @@ returns c =
     c.stays.ensures ∙ rw (near c.before.before.before.before.before.before.before.before, o.on, o.end_on)
 
 pub is_at_spec : {M : Type 1} → statement M
-is_at_spec = tie.close (tie.spec is_centre-requires returns-then-not-is_centre inside-requires returns-then-not-inside seen-requires on_circle-requires returns-then-not-on_circle ends_on_circle-requires returns-then-not-ends_on_circle stays-requires returns)
+is_at_spec = tie.close (tie.spec is_centre-requires returns-then-not-is_centre inside-requires returns-then-not-inside seen-requires
+    on_circle-requires returns-then-not-on_circle ends_on_circle-requires returns-then-not-ends_on_circle stays-requires returns)

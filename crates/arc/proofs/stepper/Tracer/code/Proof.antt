@@ -25,4 +25,5 @@ returns-in-Fall : tie.Need-returns-in-Fall
 returns-in-Fall c = search rules
 
 pub code_spec : {M : Type 1} → statement M
-code_spec = tie.close (tie.spec enum_told-1 enum_told-in-Slant overflow_add-result enum_told-in-Fall returns-in-Rise returns-in-Slant returns-in-Fall)
+code_spec = tie.close (tie.spec enum_told-1 enum_told-in-Slant overflow_add-result enum_told-in-Fall returns-in-Rise returns-in-Slant
+    returns-in-Fall)

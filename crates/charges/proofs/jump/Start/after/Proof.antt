@@ -52,4 +52,5 @@ returns c =
     (c.way_on-charges.ensures ∙ rw (round_is r, w.span_to-to.ensures))
 
 pub after_spec : {M : Type 1} → statement M
-after_spec = tie.close (tie.spec overflow_add-from place_at-place-requires span_to-to-requires quadrant_charges-round-requires overflow_mul-round way_on-charges-requires returns)
+after_spec = tie.close (tie.spec overflow_add-from place_at-place-requires span_to-to-requires quadrant_charges-round-requires
+    overflow_mul-round way_on-charges-requires returns)

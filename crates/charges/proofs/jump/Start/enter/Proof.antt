@@ -42,4 +42,5 @@ returns c =
     rw (c.span_to.ensures, place_is c.before, roots.nearest_root-quarter.ensures, roots.nearest_root-radius.ensures)
 
 pub enter_spec : {M : Type 1} → statement M
-enter_spec = tie.close (tie.spec overflow_mul-n nearest_root-quarter-requires nearest_root-radius-requires seen_from-requires place_of-place-requires span_to-requires returns)
+enter_spec = tie.close (tie.spec overflow_mul-n nearest_root-quarter-requires nearest_root-radius-requires seen_from-requires
+    place_of-place-requires span_to-requires returns)

@@ -50,4 +50,5 @@ unfolding enter_of
 returns c = let s = c.args in rw (q_is c.before.before)
 
 pub enter_spec : {M : Type 1} → statement M
-enter_spec = tie.close (tie.spec seen_from-requires place_of-q-requires overflow_mul-squares overflow_mul-squares-2 overflow_add-squares overflow_add-result overflow_sub-result returns)
+enter_spec = tie.close (tie.spec seen_from-requires place_of-q-requires overflow_mul-squares overflow_mul-squares-2 overflow_add-squares
+    overflow_add-result overflow_sub-result returns)

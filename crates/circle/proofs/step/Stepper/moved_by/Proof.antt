@@ -69,4 +69,8 @@ returns-in-Fall : tie.Need-returns-in-Fall
 returns-in-Fall c = simp c.in-Fall.is
 
 pub moved_by_spec : {M : Type 1} → statement M
-moved_by_spec = tie.close (tie.spec enum_told-1 overflow_add-result overflow_mul-result overflow_add-result-in-Rise overflow_add-result-in-Rise-2 enum_told-in-Slant overflow_sub-result overflow_add-result-in-Slant overflow_mul-result-in-Slant overflow_add-result-in-Slant-2 overflow_add-result-in-Slant-3 overflow_mul-result-in-Slant-2 overflow_sub-result-in-Slant enum_told-in-Fall overflow_sub-result-in-Fall overflow_add-result-in-Fall overflow_mul-result-in-Fall overflow_sub-result-in-Fall-2 returns-in-Rise returns-in-Slant returns-in-Fall)
+moved_by_spec = tie.close (tie.spec enum_told-1 overflow_add-result overflow_mul-result overflow_add-result-in-Rise
+    overflow_add-result-in-Rise-2 enum_told-in-Slant overflow_sub-result overflow_add-result-in-Slant overflow_mul-result-in-Slant
+    overflow_add-result-in-Slant-2 overflow_add-result-in-Slant-3 overflow_mul-result-in-Slant-2 overflow_sub-result-in-Slant
+    enum_told-in-Fall overflow_sub-result-in-Fall overflow_add-result-in-Fall overflow_mul-result-in-Fall overflow_sub-result-in-Fall-2
+    returns-in-Rise returns-in-Slant returns-in-Fall)

@@ -56,4 +56,6 @@ returns c =
     rw (le-ltb s.across s.along (omega arith), lt-leb (bias + 2 * s.along) (s.excess + s.across + 1) (omega arith))
 
 pub next_move_spec : {M : Type 1} → statement M
-next_move_spec = tie.close (tie.spec overflow_mul-self overflow_add-self overflow_add-self-then-self overflow_add-self-then-self-2 returns-then-self-2 returns-then-self overflow_mul-self-2 overflow_add-self-2 overflow_add-self-3 overflow_add-self-4 returns-then-self-3 returns)
+next_move_spec = tie.close (tie.spec overflow_mul-self overflow_add-self overflow_add-self-then-self overflow_add-self-then-self-2
+    returns-then-self-2 returns-then-self overflow_mul-self-2 overflow_add-self-2 overflow_add-self-3 overflow_add-self-4
+    returns-then-self-3 returns)

@@ -32,4 +32,5 @@ returns c =
     (rw (g.word-2.ensures, g.word.ensures))
 
 pub words_spec : {M : Type 1} → statement M
-words_spec = tie.close (tie.spec word-requires word-requires-2 word-requires-3 word-requires-4 word-requires-5 word-requires-6 word-requires-7 returns)
+words_spec = tie.close (tie.spec word-requires word-requires-2 word-requires-3 word-requires-4 word-requires-5 word-requires-6
+    word-requires-7 returns)

@@ -69,4 +69,5 @@ returns : tie.Need-returns
 returns c = y_test c ∙ rw (sym (x_test c.before.before) ∙ c.if-not-axis_at.false)
 
 pub has_reached_spec : {M : Type 1} → statement M
-has_reached_spec = tie.close (tie.spec between-way-requires between-gone-requires axis_at-requires returns-then-not-axis_at axis_at-requires-2 returns)
+has_reached_spec = tie.close (tie.spec between-way-requires between-gone-requires axis_at-requires returns-then-not-axis_at
+    axis_at-requires-2 returns)

@@ -64,4 +64,5 @@ returns c =
     same_test (λ b. drawn_test (short (ltb-true _ _ b))) (λ b. lt-ltb _ _ (drawn b).due)
 
 pub is_drawn_spec : {M : Type 1} → statement M
-is_drawn_spec = tie.close (tie.spec between-way-requires returns-then-x-gt-LONGEST returns-then-y-gt-LONGEST takes-requires returns-then-not-takes returns)
+is_drawn_spec = tie.close (tie.spec between-way-requires returns-then-x-gt-LONGEST returns-then-y-gt-LONGEST takes-requires
+    returns-then-not-takes returns)

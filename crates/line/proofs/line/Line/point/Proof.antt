@@ -101,4 +101,5 @@ returns c =
     simp to_z-of_z (λ i. record { x = x i; y = y i })
 
 pub point_spec : {M : Type 1} → statement M
-point_spec = tie.close (tie.spec between-way-requires axis_moved-requires overflow_add-result axis_moved-requires-2 overflow_add-result-2 returns)
+point_spec = tie.close (tie.spec between-way-requires axis_moved-requires overflow_add-result axis_moved-requires-2 overflow_add-result-2
+    returns)

@@ -33,7 +33,8 @@ codes-pulses-requires : tie.Need-codes-pulses-requires
 codes-pulses-requires c κs = search rules
 
 overflow_add-line : tie.Need-overflow_add-line
-overflow_add-line c = let s = c.before.before in let d = (line_at_lem s.requires).drawing in omega (arith, d.due, (axis_x s.args.self d).wide)
+overflow_add-line c = let s = c.before.before in let d = (line_at_lem s.requires).drawing in
+    omega (arith, d.due, (axis_x s.args.self d).wide)
 
 pulsed-requires : tie.Need-pulsed-requires
 pulsed-requires c κs =
