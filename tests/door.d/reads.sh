@@ -7,21 +7,20 @@ half_read() { python3 tests/door.d/half_read.py "$@" >"$work/out" 2>"$work/err";
 # says_only LINES: nothing on standard output, and so many lines on standard error
 says_only() { [[ ! -s $work/out && $(wc -l <"$work/err") -eq $1 ]]; }
 
+# The programs end with 0 whatever fails, so that only what they wrote tells; and with 141, in silence, where nobody reads it any more.
 unread() {
-    target/bin/"$1" <tests >"$work/out" 2>"$work/err"
-    says_only 1
+    target/bin/"$1" <tests >"$work/out" 2>"$work/err" && says_only 1
 }
 cut_off() {
-    half_read target/bin/"$1"
-    says_only 1 && grep -q "^$1: cannot read the job: " "$work/err"
+    half_read target/bin/"$1" && says_only 1 && grep -q "^$1: cannot read the job: " "$work/err"
 }
 unwritten() {
-    target/bin/"$1" <examples/sole.job >/dev/full 2>"$work/err"
-    grep -q "^$1: cannot write the .*: No space left on device$" "$work/err"
+    target/bin/"$1" <examples/sole.job >/dev/full 2>"$work/err" &&
+        grep -q "^$1: cannot write the .*: No space left on device$" "$work/err"
 }
 panel_unwritten() {
-    target/bin/panelcheck <examples/sole.job >/dev/full 2>"$work/err"
-    grep -qx 'panelcheck: cannot write the listing' "$work/err"
+    target/bin/panelcheck <examples/sole.job >/dev/full 2>"$work/err" &&
+        grep -qx 'panelcheck: cannot write the listing' "$work/err"
 }
 for name in jobcheck jobticks; do
     ok "$name reads a folder" unread "$name"
@@ -34,16 +33,23 @@ breaks_off() {
         ! grep -qE '^(total|line) ' "$work/out"
 }
 panel_unread() {
-    target/bin/panelcheck <tests >"$work/out" 2>"$work/err"
-    breaks_off
+    target/bin/panelcheck <tests >"$work/out" 2>"$work/err" && breaks_off
 }
 panel_cut_off() {
-    half_read target/bin/panelcheck
-    breaks_off
+    half_read target/bin/panelcheck && breaks_off
 }
 ok "panelcheck reads a folder" panel_unread
 ok "panelcheck takes a failed read for the end" panel_cut_off
 ok "panelcheck does not say that it cannot write" panel_unwritten
+
+# nobody_reads PROGRAM JOB: into a pipe that nobody reads
+nobody_reads() {
+    python3 tests/door.d/unread_pipe.py target/bin/"$1" <"$2" 2>"$work/err"
+    [[ $? -eq 141 && ! -s $work/err ]]
+}
+for name in jobcheck jobticks panelcheck; do
+    ok "$name, nobody reads: it says so, or its exit status is not 141" nobody_reads "$name" examples/sole.job
+done
 
 # door_cut_off COMMAND..: the same through the front door
 door_cut_off() {

@@ -193,8 +193,8 @@ rows 5 '' '0 0 0 5 0 0 0 0 0 0 0 0 0 0 0 0'
 # The program: a first line that is no number of ticks, a read that fails, a row that cannot be written.
 # unasked INPUT: nothing on standard output, and why on standard error
 unasked() {
-    printf '%b' "$1" | target/bin/jobwhere >"$work/out" 2>"$work/err"
-    says_only 1 && grep -q '^jobwhere: the first line is no number of ticks' "$work/err"
+    printf '%b' "$1" | target/bin/jobwhere >"$work/out" 2>"$work/err" && says_only 1 &&
+        grep -q '^jobwhere: the first line is no number of ticks' "$work/err"
 }
 for input in '' '\n' 5 'x\n' '-5\n' ' 5\n' '5 \n' '5x\n' '5\r\n' '9223372036854775808\n' '9999999999999999999\n' \
     '00000000000000000000\n'; do
@@ -203,10 +203,12 @@ done
 ok "jobwhere reads a folder" unread jobwhere
 ok "jobwhere takes a failed read for the end" cut_off jobwhere
 unwritten_row() {
-    printf '0\nG1\n' | target/bin/jobwhere >/dev/full 2>"$work/err"
-    grep -q '^jobwhere: cannot write where the job stands: No space left on device$' "$work/err"
+    printf '0\nG1\n' | target/bin/jobwhere >/dev/full 2>"$work/err" &&
+        grep -q '^jobwhere: cannot write where the job stands: No space left on device$' "$work/err"
 }
 ok "jobwhere does not say that it cannot write" unwritten_row
+printf '0\nG1\n' >"$work/asked"
+ok "jobwhere, nobody reads: it says so, or its exit status is not 141" nobody_reads jobwhere "$work/asked"
 
 # A row that is not whole passes for none; a program that is not there is built, or the exit status is 3.
 fake "$work/where/door"
