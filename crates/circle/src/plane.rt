@@ -1,6 +1,7 @@
 // Points seen from the centre, the two ways round, and the circle test.
 ghost use Rattle.std.specs.Prelude.{◌≡◌, ◌≤◌, ◌<◌, ◌^◌, max, nat_abs};
 ghost use Rattle.circle.specs.Circle.{largest_n, circle_test, on_circle};
+ghost use Rattle.circle.specs.computed.Kind.{kind_of, TurnOfKind};
 ghost use Rattle.circle.specs.computed.Step.{seen};
 
 use whole::sign::part;
@@ -14,11 +15,40 @@ pub struct Offset {
     pub y: i64,
 }
 
-// The way round, X right and Y up: kinds 2 and 3.
+// The way round, X right and Y up.
 #[derive(Clone, Copy)]
 pub enum Turn {
     Clockwise,
     Counterclockwise,
+}
+
+// A kind that is no way round.
+#[derive(Clone, Copy)]
+pub struct UnknownTurn(pub u64);
+
+impl TryFrom<u64> for Turn {
+    type Error = UnknownTurn;
+
+    ghost try_from_gives = { TurnOfKind };
+
+    fn try_from(kind: u64) -> Result<Self, UnknownTurn> {
+        match kind {
+            2 => Ok(Turn::Clockwise),
+            3 => Ok(Turn::Counterclockwise),
+            _ => Err(UnknownTurn(kind)),
+        }
+    }
+}
+
+impl From<Turn> for u64 {
+    ghost from_gives = { λ turn kind. kind ≡ kind_of turn };
+
+    fn from(turn: Turn) -> u64 {
+        match turn {
+            Turn::Clockwise => 2,
+            Turn::Counterclockwise => 3,
+        }
+    }
 }
 
 fn larger(a: u64, b: u64) -> u64
