@@ -15,7 +15,7 @@ use plane::point::{Point, is_same};
 use plane::travel::{Travel, inside};
 use whole::sign::part;
 
-fn feed_right(capacity: u64, feed: u64) -> bool
+pub fn feed_right(capacity: u64, feed: u64) -> bool
     ensures { result ≡ feed_right capacity feed }
 {
     if feed < 1 {

@@ -15,7 +15,7 @@ ghost use Rattle.work.specs.Work.{begun_of};
 ghost use Rattle.work.specs.computed.Asked.{Cycling, Ready, Loadable};
 
 use arc::arc::Arc;
-use block::questions::arc_of;
+use block::questions::{arc_of, feed_right};
 use block::{Block, Path};
 use circle::step::STRAIGHT;
 use divider::{FEED_SCALE, Fed, add_feed};
@@ -53,48 +53,27 @@ pub struct Advance {
 pub fn is_nothing(work: Work) -> bool
     ensures { result ≡ is_nothing work }
 {
-    match work {
-        Work::Nothing => true,
-        Work::Line(_) => false,
-        Work::Arc(_) => false,
-    }
+    matches!(work, Work::Nothing)
 }
 
 // ---- the test of what is in work, for any numbers; the point and the travel have been tested
 
+#[tactic(auto, using(crate::specs::laws::Sound::line_tests))]
 fn line_sound(capacity: u64, travel: Travel, at: Point, l: Line) -> bool
     ensures { result ≡ line_sound capacity travel at l }
 {
-    let start = l.start;
-    let end = l.end;
-    if !inside(travel, start) {
-        return false;
-    }
-    if !inside(travel, end) {
-        return false;
-    }
-    if l.feed < 1 {
-        return false;
-    }
-    if capacity < l.feed {
-        return false;
-    }
-    l.is_at(at)
+    inside(travel, l.start) && inside(travel, l.end) && feed_right(capacity, l.feed) && l.is_at(at)
 }
 
+#[tactic(auto, unfolding(crate::specs::computed::Work::arc_sound))]
 fn arc_sound(capacity: u64, travel: Travel, at: Point, a: Arc) -> bool
     requires { Wide travel × (inside_of travel at ≡ true) }
     ensures { result ≡ arc_sound capacity travel at a }
 {
-    if a.feed < 1 {
-        return false;
-    }
-    if capacity < a.feed {
-        return false;
-    }
-    a.is_at(travel, at)
+    feed_right(capacity, a.feed) && a.is_at(travel, at)
 }
 
+#[tactic(auto, unfolding(crate::specs::computed::Work::work_sound))]
 pub fn work_sound(capacity: u64, travel: Travel, at: Point, work: Work) -> bool
     requires { Wide travel × (inside_of travel at ≡ true) }
     ensures { result ≡ work_sound capacity travel at work }
@@ -108,58 +87,47 @@ pub fn work_sound(capacity: u64, travel: Travel, at: Point, work: Work) -> bool
 
 // ---- a cycle
 
+#[tactic(auto, using(crate::specs::laws::Cycle::line_codes))]
 fn line_cycle(at: Point, l: Line) -> Cycle
     requires { line_at l at ≡ true }
     ensures { result ≡ line_cycle l }
 {
-    let s = l.step(at);
-    let here = s.at;
-    let pulses = s.pulses;
-    let line = s.line;
-    if line.done == l.cycles {
-        return Cycle {
-            at: here,
-            byte: cycle_byte(pulses, true),
-            work: Work::Nothing,
-        };
-    }
+    let step = l.step(at);
+    let ended = step.line.done == l.cycles;
     Cycle {
-        at: here,
-        byte: cycle_byte(pulses, false),
-        work: Work::Line(line),
+        at: step.at,
+        byte: cycle_byte(step.pulses, ended),
+        work: if ended {
+            Work::Nothing
+        } else {
+            Work::Line(step.line)
+        },
     }
 }
 
+#[tactic(auto, using(crate::specs::laws::Cycle::arc_codes))]
 fn arc_cycle(at: Point, a: Arc) -> Cycle
     requires { StandsOnArc a at }
     ensures { result ≡ arc_cycle at a }
 {
-    let s = a.step(at);
-    let here = s.at;
-    let pulses = s.pulses;
-    let end = a.end;
-    if is_same(here, end) {
-        return Cycle {
-            at: here,
-            byte: cycle_byte(pulses, true),
-            work: Work::Nothing,
-        };
-    }
+    let step = a.step(at);
+    let ended = is_same(step.at, a.end);
     Cycle {
-        at: here,
-        byte: cycle_byte(pulses, false),
-        work: Work::Arc(a),
+        at: step.at,
+        byte: cycle_byte(step.pulses, ended),
+        work: if ended { Work::Nothing } else { Work::Arc(a) },
     }
 }
 
 // The cycle of what is in work; callers ask first whether there is something.
+#[tactic(auto, unfolding(crate::specs::computed::Work::cycle_of))]
 fn work_cycle(at: Point, work: Work) -> Cycle
     requires { Cycling at work }
     ensures { result ≡ cycle_of at work }
 {
     match work {
         Work::Nothing => Cycle {
-            at: at,
+            at,
             byte: 0,
             work: Work::Nothing,
         },
@@ -193,6 +161,7 @@ fn charge(at: Point, work: Work) -> u64
 }
 
 // The divider's tick: the remainder after it, and whether a cycle is due.
+#[tactic(auto, using(crate::specs::laws::Charge::fed_low, crate::specs::laws::Charge::due_range))]
 fn feed(capacity: u64, at: Point, remainder: u64, work: Work) -> Fed
     requires { Ready at remainder work × (capacity ≤ 1200000000) }
     ensures { result ≡ fed_of (due_of capacity at work) (added_of work) remainder }
@@ -214,23 +183,21 @@ pub fn work_tick(capacity: u64, at: Point, remainder: u64, work: Work) -> Advanc
     requires { Ready at remainder work × (capacity ≤ 1200000000) }
     ensures { result ≡ advance_of capacity at remainder work }
 {
-    let f = feed(capacity, at, remainder, work);
-    if f.cycle {
-        let c = work_cycle(at, work);
-        let here = c.at;
-        let next = c.work;
+    let fed = feed(capacity, at, remainder, work);
+    if fed.cycle {
+        let cycle = work_cycle(at, work);
         return Advance {
-            at: here,
-            remainder: f.remainder,
-            byte: c.byte,
-            work: next,
+            at: cycle.at,
+            remainder: fed.remainder,
+            byte: cycle.byte,
+            work: cycle.work,
         };
     }
     Advance {
-        at: at,
-        remainder: f.remainder,
+        at,
+        remainder: fed.remainder,
         byte: 0,
-        work: work,
+        work,
     }
 }
 
@@ -243,15 +210,14 @@ pub struct Begun {
     pub width: u64,
 }
 
+#[tactic(auto, unfolding(crate::specs::Work::begun_of, block::specs::Block::block_width))]
 pub fn begin(start: Point, b: Block) -> Begun
     requires { Loadable start b b.path }
     ensures { result ≡ begun_of start b }
 {
-    let end = b.end;
-    let path = b.path;
-    match path {
+    match b.path {
         Path::Line => {
-            let l = Line::new(start, end, b.feed);
+            let l = Line::new(start, b.end, b.feed);
             Begun {
                 work: Work::Line(l),
                 width: l.width(),

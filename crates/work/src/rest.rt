@@ -31,23 +31,21 @@ pub fn work_left(at: Point, work: Work) -> Left
             end: at,
         },
         Work::Line(l) => {
-            let end = l.end;
             let cycles = l.cycles - l.done;
             Left {
-                cycles: cycles,
+                cycles,
                 charges: STRAIGHT * cycles,
                 feed: l.feed,
-                end: end,
+                end: l.end,
             }
         }
         Work::Arc(a) => {
-            let end = a.end;
             let span = a.span(at);
             Left {
                 cycles: span.cycles,
                 charges: span.charges,
                 feed: a.feed,
-                end: end,
+                end: a.end,
             }
         }
     }
