@@ -11,7 +11,7 @@ use crate::{Block, Path};
 use arc::arc::Arc;
 use arc::centre::back;
 use circle::plane::{Offset, Turn};
-use plane::point::{Point, is_same};
+use plane::point::Point;
 use plane::travel::{Travel, inside};
 use whole::sign::part;
 
@@ -74,6 +74,7 @@ fn arc_no(travel: Travel, start: Point, a: Arc) -> u64
 }
 
 // Questions 13 to 16.
+#[tactic(auto, using(plane::specs::laws::Travel::inside, plane::specs::laws::Travel::travel_near), unfolding(line::specs::Line::differ))]
 fn path_no(travel: Travel, start: Point, b: Block) -> u64
     requires { Wide travel × (inside_of travel start ≡ true) × (inside_of travel b.end ≡ true) }
     ensures { result ≡ path_no travel start b b.path }
@@ -82,7 +83,7 @@ fn path_no(travel: Travel, start: Point, b: Block) -> u64
     let path = b.path;
     match path {
         Path::Line => {
-            if is_same(start, end) {
+            if start == end {
                 return 13;
             }
             0

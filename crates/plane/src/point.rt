@@ -1,12 +1,10 @@
 // A position, and the way from one to another.
 ghost use Rattle.std.specs.Prelude.{◌≡◌};
 ghost use Rattle.plane.specs.computed.Point.{increments_of};
-ghost use Rattle.plane.specs.Point.{equal_point};
 
-use whole::equal::equal;
 use whole::sign::SignMagnitude;
 
-#[derive(Clone, Copy)]
+#[derive(Clone, Copy, PartialEq, Eq)]
 pub struct Point {
     pub x: i64,
     pub y: i64,
@@ -27,13 +25,4 @@ pub fn between(from: Point, to: Point) -> Increments
         x: whole::sign::difference(from.x, to.x),
         y: whole::sign::difference(from.y, to.y),
     }
-}
-
-pub fn is_same(p: Point, q: Point) -> bool
-    ensures { result ≡ equal_point p q }
-{
-    if !equal(p.x, q.x) {
-        return false;
-    }
-    equal(p.y, q.y)
 }

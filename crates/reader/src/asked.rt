@@ -13,7 +13,7 @@ use crate::command::{block_of, reader_after};
 use crate::questions::{line_no, moves};
 use crate::{LONGEST_LINE, Reader};
 use block::{Block, Path};
-use plane::point::{Point, is_same};
+use plane::point::Point;
 use words::line::Line;
 
 // No block, a block to load, or the number of the question that refuses the line.
@@ -41,12 +41,7 @@ pub struct AskedFirst {
 fn goes_nowhere(b: Block, place: Point) -> bool
     ensures { result ≡ goes_nowhere b.end place b.path }
 {
-    let end = b.end;
-    let path = b.path;
-    match path {
-        Path::Line => is_same(end, place),
-        Path::Arc(_, _) => false,
-    }
+    matches!(b.path, Path::Line) && b.end == place
 }
 
 fn block_asked(place: Point, b: Block) -> ToLoad

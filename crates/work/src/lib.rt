@@ -21,7 +21,7 @@ use circle::step::STRAIGHT;
 use divider::{FEED_SCALE, Fed, add_feed};
 use line::line::Line;
 use plane::byte::cycle_byte;
-use plane::point::{Point, is_same};
+use plane::point::Point;
 use plane::travel::{Travel, inside};
 
 pub mod rest;
@@ -111,7 +111,7 @@ fn arc_cycle(at: Point, a: Arc) -> Cycle
     ensures { result ≡ arc_cycle at a }
 {
     let step = a.step(at);
-    let ended = is_same(step.at, a.end);
+    let ended = step.at == a.end;
     Cycle {
         at: step.at,
         byte: cycle_byte(step.pulses, ended),

@@ -1,9 +1,10 @@
 -- Points are equal where their coordinates are.
-use Rattle.std.specs.Prelude.{◌≡◌, true, nat_abs, ◌-ℤ◌}
+use Rattle.std.specs.Prelude.{◌≡◌, true, ◌&&◌, nat_abs, ◌-ℤ◌}
+use Rattle.std.specs.Ordering.{int_eq}
 use Rattle.std.proofs.Common.{ap, ◌∙◌}
 use Rattle.whole.specs.computed.Sign.{join_of}
 use Rattle.whole.specs.laws.Sign.{join_part}
-use Rattle.whole.specs.laws.Test.{both, joined, equal_true, equal_same}
+use Rattle.whole.specs.laws.Test.{both, joined, equal_true, equal_same, equal_library as equal_library_z}
 use Rattle.plane.specs.declared.point.Point.{Point}
 use Rattle.plane.specs.declared.point.Increments.{Increments}
 use Rattle.plane.specs.computed.Point.{increments_of}
@@ -17,6 +18,10 @@ equal_point_lem p q e = let b = both e in same_point (equal_true p.x q.x b.0) (e
 
 pub equal_itself : (p : Point) → equal_point p p ≡ true
 equal_itself p = joined (equal_same p.x) (equal_same p.y)
+
+-- `==` on points is that test
+pub equal_library : (p q : Point) → (int_eq p.x q.x && int_eq p.y q.y) ≡ equal_point p q
+equal_library p q = rw (equal_library_z p.x q.x, equal_library_z p.y q.y)
 
 -- what an increment's two parts are
 pub length_x : (from to : Point) {w : Increments} → w ≡ increments_of from to → w.x.magnitude ≡ nat_abs (to.x -ℤ from.x)

@@ -4,6 +4,8 @@ use Rattle.std.proofs.Common.{sym, ap, subst, arith, eqb-true, eq-eqb, SFits, of
 use Rattle.whole.specs.Equal.{equal_z}
 use Rattle.whole.specs.laws.Difference.{ring, var, ◌⊕◌, ◌⊖◌}
 use Rattle.std.specs.Int.{w64}
+use Rattle.std.specs.Ordering.{int_eq}
+use Rattle.std.proofs.lemmas.Bool.Decides.{Decides-int_eq}
 use Rattle.whole.specs.laws.Order.{bits_equal}
 
 pub both : {a b : Bool} → (a && b) ≡ true → (a ≡ true) × (b ≡ true)
@@ -55,3 +57,9 @@ equal_bits {x} {y} fx fy = same_test to from
 
     from : equal_z x y ≡ true → eqb (of_z w64 x) (of_z w64 y) ≡ true
     from e = eq-eqb _ _ (ap (of_z w64) (equal_true x y e))
+
+-- the library's test of equality
+pub equal_library : (x y : ℤ) → int_eq x y ≡ equal_z x y
+equal_library x y = let d = Decides-int_eq x y in same_test
+    (λ e. rw (d.0 e) (equal_same y))
+    (λ e. d.1 (equal_true x y e))
