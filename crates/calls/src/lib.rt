@@ -19,7 +19,7 @@ use encoding::encode::encode;
 use encoding::given::settings;
 use machine::waiting::left_after;
 use plane::point::Point;
-use record::read::{bench_in, left_in, len_in, seen, start_in};
+use record::read::{bench_in, left_in, len_in, start_in};
 use record::sound::is_sound;
 use record::write::{store_mark, store_stop, store_ticks, take};
 use settings::capacity;
@@ -124,21 +124,13 @@ pub fn load(words: &mut [i64; 134], b: Block) -> i64
 fn lay(words: &mut [i64; 134], front: &[i64; 19])
     ensures { words.new ≡ over front.now words.old }
 {
-    seen(words);
-    seen(front);
-    let mut i: usize = 0;
-    while i < 19 {
-        let word = front[i];
-        words[i] = word;
-        i = i + 1;
-    }
+    words[..19].copy_from_slice(front);
 }
 
 // Whatever the words were, those in front are a record after it: the bench's own, and no root, no cycle and no block to do.
 pub fn make(words: &mut [i64; 134], p: i64, w: i64, xlo: i64, xhi: i64, ylo: i64, yhi: i64) -> i64
     ensures { tells result words.new ≡ made_of words.old (settings_of p w xlo xhi ylo yhi) }
 {
-    seen(words);
     let a = Bench::make(settings(p, w, xlo, xhi, ylo, yhi));
     let answer = a.answer;
     let front = encode(a.bench);

@@ -7,55 +7,30 @@ ghost use Rattle.bench.specs.computed.Bench.{sound_of};
 ghost use Rattle.machine.specs.computed.Machine.{waiting_right};
 ghost use Rattle.machine.specs.Machine.{start_of};
 ghost use Rattle.machine.specs.Calls.{next_of};
-ghost use Rattle.machine.specs.computed.Asked.{less_of, work_off, cycles_told, Coming};
+ghost use Rattle.machine.specs.computed.Asked.{work_off, cycles_told, Coming};
 
 use crate::Machine;
 use bench::{Bench, Tick};
 use plane::point::Point;
-use queue::{Queue, TakenOff, wrong};
+use queue::Queue;
 use settings::capacity;
 use whole::root::is_nearest_root;
 use work::rest::end_of;
 use work::{Work, begin, is_nothing};
 
-// So many cycles taken off the count, where it has so many.
-fn less(cycles: u64, count: u64) -> TakenOff
-    ensures { result ≡ less_of cycles count }
-{
-    if count < cycles {
-        return wrong();
-    }
-    TakenOff {
-        right: true,
-        left: count - cycles,
-    }
-}
-
-// Whether the block in work has its root and no more cycles to do than the count has, and what the count is without them. Kind by kind, so
-// that what a tick asks of its own kind stands in line.
-pub fn work_off(at: Point, work: Work, root: u64, count: u64) -> TakenOff
+// What is left of the count after the cycles that the block in work has to do, where it has this root and the count has so many. Kind by
+// kind, so that what a tick asks of its own kind stands in line.
+pub fn work_off(at: Point, work: Work, root: u64, count: u64) -> Option<u64>
     requires { Countable at work }
     ensures { result ≡ work_off at work root count }
 {
     match work {
-        Work::Nothing => {
-            if root != 0 {
-                return wrong();
-            }
-            less(0, count)
-        }
-        Work::Line(l) => {
-            if root != l.cycles {
-                return wrong();
-            }
-            less(l.cycles - l.done, count)
-        }
-        Work::Arc(a) => {
-            if !is_nearest_root(2 * a.square, root) {
-                return wrong();
-            }
-            less(a.cycles(root, at), count)
-        }
+        Work::Nothing if root == 0 => Some(count),
+        Work::Line(l) if root == l.cycles => count.checked_sub(l.cycles - l.done),
+        Work::Arc(a) if is_nearest_root(2 * a.square, root) => count.checked_sub(a.cycles(
+            root, at,
+        )),
+        _ => None,
     }
 }
 
@@ -64,22 +39,21 @@ pub fn is_right(k: Bench, root: u64, left: u64, q: Queue) -> bool
     requires { sound_of k ≡ true }
     ensures { result ≡ waiting_right (capacity_of k.settings) k.settings.travel k.at k.work root left q }
 {
-    let at = k.at;
-    let work = k.work;
-    let t = work_off(at, work, root, left);
-    if !t.right {
+    let Some(rest) = work_off(k.at, k.work, root, left) else {
         return false;
-    }
+    };
     if q.len == 0 {
-        return t.left == 0;
+        return rest == 0;
     }
-    if is_nothing(work) {
+    if is_nothing(k.work) {
         return false;
     }
-    let settings = k.settings;
-    let travel = settings.travel;
-    let end = end_of(at, work);
-    q.is_sound(capacity(settings), travel, end, t.left)
+    q.is_sound(
+        capacity(k.settings),
+        k.settings.travel,
+        end_of(k.at, k.work),
+        rest,
+    )
 }
 
 // Where the next block starts: the end of the last one that waits, else of the one in work, else the point.

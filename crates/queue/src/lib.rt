@@ -31,13 +31,6 @@ pub struct Queue {
     pub len: u64,
 }
 
-// Whether one that waits is right, and what is then left of a count after its cycles.
-#[derive(Drop)]
-pub struct TakenOff {
-    pub right: bool,
-    pub left: u64,
-}
-
 // What a place holds that no block has come into.
 fn blank() -> Waiting
     ensures { result ≡ Rattle.queue.specs.Queue.blank }
@@ -53,58 +46,41 @@ fn blank() -> Waiting
     }
 }
 
-pub fn wrong() -> TakenOff
-    ensures { result ≡ Rattle.queue.specs.computed.Test.wrong }
-{
-    TakenOff {
-        right: false,
-        left: 0,
-    }
-}
-
-// Whether a block that waits would be accepted from here and has its root, and its cycles are not more than those of the count, whatever
-// its numbers.
-pub fn take_off(capacity: u64, travel: Travel, start: Point, w: Waiting, count: u64) -> TakenOff
+// What is left of a count after the cycles of a block that waits, where the block would be accepted from here and has its root, and the
+// count has so many; whatever its numbers.
+pub fn take_off(capacity: u64, travel: Travel, start: Point, w: Waiting, count: u64) -> Option<u64>
     requires { Wide travel × (inside_of travel start ≡ true) }
     ensures { result ≡ taken_off capacity travel start w count }
 {
     let b = w.block;
     if load_no(capacity, travel, true, start, b) != 0 {
-        return wrong();
+        return None;
     }
     if !is_root(start, b, w.root) {
-        return wrong();
+        return None;
     }
-    let cycles = cycles_by(start, b, w.root);
-    if count < cycles {
-        return wrong();
-    }
-    TakenOff {
-        right: true,
-        left: count - cycles,
-    }
+    count.checked_sub(cycles_by(start, b, w.root))
 }
 
 impl Queue {
+    #[tactic(auto, unfolding(crate::specs::Queue::empty_queue))]
     pub fn empty() -> Queue
         ensures { result ≡ empty_queue }
     {
-        let b = blank();
-        let all = [b; 16];
         Queue {
-            blocks: all,
+            blocks: [blank(); 16],
             len: 0,
         }
     }
 
     // A block more, behind those that wait.
+    #[tactic(auto, unfolding(crate::specs::Queue::pushed_of))]
     pub fn push(self, w: Waiting) -> Queue
         requires { self.len < 16 }
         ensures { result ≡ pushed_of self w }
     {
         let mut next = self;
-        let at = self.len as usize;
-        next.blocks[at] = w;
+        next.blocks[self.len as usize] = w;
         next.len = self.len + 1;
         next
     }
@@ -122,16 +98,9 @@ impl Queue {
         ensures { result ≡ popped_of self }
     {
         let mut next = self;
-        let mut i: usize = 0;
-        while i < 15 {
-            let from = i + 1;
-            let w = next.blocks[from];
-            next.blocks[i] = w;
-            i = i + 1;
-        }
-        let last = blank();
-        next.blocks[15] = last;
-        next.len = next.len - 1;
+        next.blocks.copy_within(1.., 0);
+        next.blocks[15] = blank();
+        next.len = self.len - 1;
         next
     }
 
@@ -143,10 +112,8 @@ impl Queue {
         if self.len == 0 {
             return from;
         }
-        let at = (self.len - 1) as usize;
-        let w = self.blocks[at];
-        let b = w.block;
-        b.end
+        let last = (self.len - 1) as usize;
+        self.blocks[last].block.end
     }
 
     // Whether the queue is sound behind a block that ends at `from`, and its blocks take so many cycles together; for any numbers in it.
@@ -157,20 +124,14 @@ impl Queue {
         if 16 < self.len {
             return false;
         }
-        let n = self.len as usize;
         let mut start = from;
         let mut left = cycles;
-        let mut i: usize = 0;
-        while i < n {
-            let w = self.blocks[i];
-            let t = take_off(capacity, travel, start, w, left);
-            if !t.right {
+        for w in &self.blocks[..self.len as usize] {
+            let Some(rest) = take_off(capacity, travel, start, *w, left) else {
                 return false;
-            }
-            let b = w.block;
-            left = t.left;
-            start = b.end;
-            i = i + 1;
+            };
+            left = rest;
+            start = w.block.end;
         }
         left == 0
     }

@@ -35,11 +35,6 @@ pub struct BlockWords {
     pub root: i64,
 }
 
-// No code: that an array has its length is known once a slice is made of it, and the laws ask how many words there are.
-pub fn seen(words: &[i64])
-    ensures { words.now ≡ words.now }
-{}
-
 pub fn head_in(words: &[i64; 134]) -> Head
     ensures { result ≡ head_in words.now }
 {

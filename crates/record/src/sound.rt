@@ -8,12 +8,12 @@ ghost use Rattle.record.specs.computed.Words.{sound_words};
 ghost use Rattle.record.specs.computed.Right.{figures_right, is_front, block_row_right, row_sound, waiting_sound};
 
 use crate::read::{
-    BlockWords, Figures, bench_in, block_words_in, figures_in, head_in, seen, waiting_of,
-    work_words_in,
+    BlockWords, Figures, bench_in, block_words_in, figures_in, head_in, left_in, len_in, root_in,
+    waiting_of, work_words_in,
 };
 use bench::{Bench, sound};
 use encoding::encode::ABI;
-use encoding::number::{count, is_count};
+use encoding::number::is_count;
 use encoding::right::{head_right, work_right};
 use machine::waiting::work_off;
 use plane::point::Point;
@@ -79,38 +79,35 @@ fn is_block(b: BlockWords) -> bool
 }
 
 // Whether the words of so many blocks that wait are right, they are sound behind a block that ends at `from`, and they take so many cycles.
+// A twin of `Queue::is_sound` on purpose: that one goes over a queue's places and this one over words, which are tested where they stand,
+// block by block, so that no queue is built.
 fn row_right(
     words: &[i64; 134],
     len: u64,
-    q0: u64,
+    capacity: u64,
     travel: Travel,
     from: Point,
     cycles: u64,
 ) -> bool
     requires { Wide travel × (inside_of travel from ≡ true) }
-    ensures { result ≡ row_sound q0 travel words.now len from cycles }
+    ensures { result ≡ row_sound capacity travel words.now len from cycles }
 {
     if 16 < len {
         return false;
     }
-    let n = len as usize;
     let mut start = from;
     let mut left = cycles;
-    let mut i: usize = 0;
-    while i < n {
-        let b = block_words_in(words, i);
+    for place in 0..len as usize {
+        let b = block_words_in(words, place);
         if !is_block(b) {
             return false;
         }
         let w = waiting_of(b);
-        let t = take_off(q0, travel, start, w, left);
-        if !t.right {
+        let Some(rest) = take_off(capacity, travel, start, w, left) else {
             return false;
-        }
-        let block = w.block;
-        left = t.left;
-        start = block.end;
-        i = i + 1;
+        };
+        left = rest;
+        start = w.block.end;
     }
     left == 0
 }
@@ -120,40 +117,33 @@ fn waiting_right(words: &[i64; 134], k: Bench) -> bool
     requires { sound_of k ≡ true }
     ensures { result ≡ waiting_sound words.now k }
 {
-    let at = k.at;
-    let work = k.work;
-    let figures = figures_in(words);
-    let t = work_off(at, work, count(figures.root), count(figures.left));
-    if !t.right {
+    let Some(rest) = work_off(k.at, k.work, root_in(words), left_in(words)) else {
         return false;
-    }
-    let len = count(figures.len);
+    };
+    let len = len_in(words);
     if len == 0 {
-        return t.left == 0;
+        return rest == 0;
     }
-    if is_nothing(work) {
+    if is_nothing(k.work) {
         return false;
     }
-    let settings = k.settings;
-    let travel = settings.travel;
-    let end = end_of(at, work);
-    row_right(words, len, capacity(settings), travel, end, t.left)
+    row_right(
+        words,
+        len,
+        capacity(k.settings),
+        k.settings.travel,
+        end_of(k.at, k.work),
+        rest,
+    )
 }
 
 // Whether the words are those of a sound record.
 pub fn is_sound(words: &[i64; 134]) -> bool
     ensures { result ≡ sound_words words.now }
 {
-    seen(words);
     if !is_front(words) {
         return false;
     }
     let k = bench_in(words);
-    let settings = k.settings;
-    let at = k.at;
-    let work = k.work;
-    if !sound(settings, at, k.remainder, work) {
-        return false;
-    }
-    waiting_right(words, k)
+    sound(k.settings, k.at, k.remainder, k.work) && waiting_right(words, k)
 }

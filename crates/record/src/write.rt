@@ -11,7 +11,7 @@ ghost use Rattle.record.specs.computed.Write.{waits_of};
 ghost use Rattle.record.specs.computed.Write.{idle_of};
 ghost use Rattle.encoding.specs.Words.{word_of};
 
-use crate::read::{BlockWords, bench_in, figures_in, left_in, len_in, seen, waiting_in};
+use crate::read::{BlockWords, bench_in, figures_in, left_in, len_in, waiting_in};
 use bench::Bench;
 use block::{Block, Path};
 use encoding::encode::{WorkWords, mark_word, nothing_words, turn_word, work_words};
@@ -57,16 +57,7 @@ fn shift(words: &mut [i64; 134], others: usize)
     requires { others < 16 }
     ensures { words.new ≡ shifted words.old others }
 {
-    seen(words);
-    let end = 7 * others;
-    let mut i: usize = 0;
-    while i < end {
-        let to = 22 + i;
-        let from = 29 + i;
-        let word = words[from];
-        words[to] = word;
-        i = i + 1;
-    }
+    words.copy_within(29..29 + 7 * others, 22);
 }
 
 // A block comes into work where one has ended: the first that waits, or none.
@@ -177,12 +168,10 @@ pub fn push(words: &mut [i64; 134], w: Waiting, left: u64)
     requires { (sound_words words.old ≡ true) × (len_in words.old < 16) }
     ensures { words.new ≡ over (encode_of (waits_of (machine_in words.old) w left)) words.old }
 {
-    seen(words);
     let len = len_in(words);
     words[20] = word(left);
     words[21] = word(len + 1);
-    let at = 22 + 7 * (len as usize);
-    set_block(words, at, block_words(w));
+    set_block(words, 22 + 7 * len as usize, block_words(w));
 }
 
 // A block that no question refused, from here: into work where nothing is, else behind those that wait. Answers its width.

@@ -1,13 +1,11 @@
 -- What inner code computes, and what it asks of its callers.
-use Rattle.std.specs.Prelude.{◌≡◌, true, false, cond, ◌&&◌, ℕ, ◌-◌, leb, eqb, ltb}
+use Rattle.std.specs.Prelude.{◌≡◌, true, false, cond, ◌&&◌, Option, Some, None, ℕ, ◌-◌, leb, eqb, ltb}
 use Rattle.plane.specs.declared.point.Point.{Point}
 use Rattle.block.specs.declared.Block.{Block}
 use Rattle.block.specs.Questions.{load_no}
 use Rattle.queue.specs.declared.Queue.{Queue}
-use Rattle.queue.specs.declared.TakenOff.{TakenOff}
 use Rattle.queue.specs.Queue.{waiting}
 use Rattle.queue.specs.computed.Queue.{queue_sound}
-use Rattle.queue.specs.computed.Test.{wrong}
 use Rattle.work.specs.declared.Work.{Work}
 use Rattle.work.specs.Work.{is_nothing, cycles_left, end_of}
 use Rattle.work.specs.Work.{root_in}
@@ -19,14 +17,9 @@ use Rattle.machine.specs.declared.Machine.{Machine}
 use Rattle.machine.specs.Machine.{to_do, start_of}
 use Rattle.machine.specs.computed.Machine.{sound_of}
 
--- so many cycles taken off the count, where it has so many
-abbrev pub less_of : (cycles count : ℕ) → TakenOff
-less_of cycles count = cond (leb cycles count) (record { right = true; left = count - cycles }) wrong
-
--- the block in work, taken off the count
-unfoldable pub work_off : (at : Point) → Work → (root count : ℕ) → TakenOff
-work_off at w root count =
-    cond (eqb root (root_in w) && leb (cycles_left at w) count) (record { right = true; left = count - cycles_left at w }) wrong
+-- the block in work, taken off the count, where it has this root and the count has its cycles
+unfoldable pub work_off : (at : Point) → Work → (root count : ℕ) → Option ℕ
+work_off at w root count = cond (eqb root (root_in w) && leb (cycles_left at w) count) (Some (count - cycles_left at w)) None
 
 -- the cycles that a tick's answer marks
 abbrev pub cycles_told : Tick → ℕ

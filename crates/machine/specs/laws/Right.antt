@@ -1,7 +1,8 @@
 -- What a sound record says of the block in work and of those that wait, and back.
-use Rattle.std.specs.Prelude.{◌≡◌, Bool, cond, ◌&&◌, ◌||◌, ℕ, ◌+◌, ◌-◌, ◌≤◌, ◌<◌, length}
+use Rattle.std.specs.Prelude.{◌≡◌, Bool, Option, Some, None, SomeIff, cond, ◌&&◌, ◌||◌, ℕ, ◌+◌, ◌-◌, ◌≤◌, length}
 use Rattle.std.proofs.Math.Path.{refl, ap, subst}
 use Rattle.std.proofs.Common.{sym, ◌∙◌, arith}
+use Rattle.std.proofs.Math.Nat.{lt_of_not-le}
 use Rattle.std.proofs.Math.Bool.{true, false, not}
 use mathlib.Core.List.{List}
 use Rattle.std.proofs.Math.Dec.{T, leb, eqb}
@@ -12,10 +13,8 @@ use Rattle.plane.specs.declared.travel.Travel.{Travel}
 use Rattle.block.specs.declared.Block.{Block}
 use Rattle.block.specs.Chain.{chain_cycles}
 use Rattle.queue.specs.declared.Queue.{Queue}
-use Rattle.queue.specs.declared.TakenOff.{TakenOff}
 use Rattle.queue.specs.Queue.{waiting}
 use Rattle.queue.specs.computed.Queue.{queue_sound}
-use Rattle.queue.specs.computed.Test.{wrong}
 use Rattle.queue.specs.laws.Sound.{QueueSound, queue_sound_lem, queue_test, none_sound}
 use Rattle.queue.specs.laws.Waiting.{none_waits}
 use Rattle.work.specs.declared.Work.{Work}
@@ -28,7 +27,7 @@ use Rattle.machine.specs.Machine.{to_do, machine_of}
 use Rattle.machine.specs.computed.Machine.{waiting_right, sound_of}
 use Rattle.bench.specs.Bench.{marked_of}
 use Rattle.machine.specs.Calls.{mark_of}
-use Rattle.machine.specs.computed.Asked.{less_of, work_off}
+use Rattle.machine.specs.computed.Asked.{work_off}
 
 pub record WaitingRight (q0 : ℕ) (t : Travel) (at : Point) (w : Work) (root left : ℕ) (q : Queue) : Type 0 where
   pub root_is : root ≡ root_in w
@@ -107,58 +106,63 @@ module _ (at : Point) (w : Work) (root count : ℕ) where
   off_has : eqb root (root_in w) && leb (cycles_left at w) count ≡ true → Off
   off_has e = let r = both {a = eqb root (root_in w)} e in record { root_is = eqb-true root _ r.0; enough = leb-true _ count r.1 }
 
-  off_right : (work_off at w root count).right ≡ eqb root (root_in w) && leb (cycles_left at w) count
+  -- an answer that is none, and one that is some
+  off_none : None ≡ work_off at w root count → eqb root (root_in w) && leb (cycles_left at w) count ≡ false
   unfolding work_off
-  off_right = by (eqb root (root_in w) && leb (cycles_left at w) count)
+  off_none e = by (eqb root (root_in w) && leb (cycles_left at w) count) e
     where
-      by : (b : Bool) → (cond b (record { right = true; left = count - cycles_left at w }) wrong).right ≡ b
-      by true = refl
-      by false = refl
+      by : (b : Bool) → None ≡ cond b (Some (count - cycles_left at w)) None → b ≡ false
+      by true e = cc
+      by false e = refl
 
-  off_left : (work_off at w root count).right ≡ true → (work_off at w root count).left ≡ count - cycles_left at w
+  off_some : {rest : ℕ} → Some rest ≡ work_off at w root count → Off × (rest ≡ count - cycles_left at w)
   unfolding work_off
-  off_left e = rw (sym off_right ∙ e) refl
+  off_some {rest} e = by (eqb root (root_in w) && leb (cycles_left at w) count) refl e
+    where
+      by : (b : Bool) → eqb root (root_in w) && leb (cycles_left at w) count ≡ b → Some rest ≡ cond b (Some (count - cycles_left at w)) None
+          → Off × (rest ≡ count - cycles_left at w)
+      by true t e = (off_has t, cc)
+      by false t e = absurd cc
 
-  -- by the root
-  pub off_rooted : eqb root (root_in w) ≡ true → less_of (cycles_left at w) count ≡ work_off at w root count
-  unfolding work_off
-  off_rooted own = rw own refl
-
-  -- another root, too many cycles, and one that is taken off
-  pub off_unrooted : {r : Bool} → r ≡ eqb root (root_in w) → r ≡ false → wrong ≡ work_off at w root count
+  -- another root, and its own with what is left of the count
+  pub off_unrooted : {r : Bool} → r ≡ eqb root (root_in w) → r ≡ false → None ≡ work_off at w root count
   unfolding work_off
   off_unrooted is other = rw (sym is ∙ other) refl
 
-  module _ {r : Bool} (is : r ≡ eqb root (root_in w)) (own : r ≡ true) {k : ℕ} (c : k ≡ cycles_left at w) where
-    pub off_many : count < k → wrong ≡ work_off at w root count
-    unfolding work_off
-    off_many less = rw (sym is ∙ own, lt-leb (cycles_left at w) count (rw c at less)) refl
+  pub off_rooted : eqb root (root_in w) ≡ true → {k : ℕ} → k ≡ cycles_left at w → {rest : Option ℕ}
+      → SomeIff rest (k ≤ count) (count - k) → rest ≡ work_off at w root count
+  unfolding work_off
+  off_rooted own {k} c {rest} iff = rw (own, sym c) (by rest iff)
+    where
+      by : (rest : Option ℕ) → SomeIff rest (k ≤ count) (count - k) → rest ≡ cond (leb k count) (Some (count - k)) None
+      by None many = rw (lt-leb k count (lt_of_not-le many)) refl
+      by (Some n) i = rw (le-leb k count i.0, i.1) refl
 
-    pub off_counts : k ≤ count → ◌≡◌ {A = TakenOff} (record { right = true; left = count - k }) (work_off at w root count)
-    unfolding work_off
-    off_counts enough = rw (sym is ∙ own, le-leb (cycles_left at w) count (rw c at enough), c) refl
+-- of nothing in work the whole count is left
+pub off_whole : (at : Point) (root count : ℕ) → root ≡ 0 → Some count ≡ work_off at Work.Nothing root count
+off_whole at root count own = off_rooted at Work.Nothing root count (eq-eqb root 0 own) refl (omega arith, omega arith)
 
-module _ (q0 : ℕ) (t : Travel) (at : Point) (w : Work) (root left : ℕ) (q : Queue) {r : TakenOff} (e : r ≡ work_off at w root left) where
-  pub wrong_work : r.right ≡ false → waiting_right q0 t at w root left q ≡ false
+module _ (q0 : ℕ) (t : Travel) (at : Point) (w : Work) (root left : ℕ) (q : Queue) where
+  pub wrong_work : None ≡ work_off at w root left → waiting_right q0 t at w root left q ≡ false
   unfolding to_do
-  wrong_work other =
+  wrong_work e =
       refuted _ (λ yes.
       let i = waiting_right_lem q0 t at w root left q yes in
       let fits = joined (eq-eqb root _ i.root_is) (le-leb (cycles_left at w) left (omega (arith, i.left_is))) in
-      not_both (sym other ∙ ap (λ (r : TakenOff). r.right) e ∙ off_right at w root left ∙ fits))
+      not_both (sym (off_none at w root left e) ∙ fits))
     where
       not_both : false ≡ true → ⊥
       not_both e = subst T (sym e) tt
 
-  module _ (yes : r.right ≡ true) where
+  module _ {rest : ℕ} (e : Some rest ≡ work_off at w root left) where
     off : Off at w root left
-    off = off_has at w root left (sym (off_right at w root left) ∙ sym (ap (λ (r : TakenOff). r.right) e) ∙ yes)
+    off = (off_some at w root left e).0
 
-    rest : r.left ≡ left - cycles_left at w
-    rest = ap (λ (r : TakenOff). r.left) e ∙ off_left at w root left (sym (ap (λ (r : TakenOff). r.right) e) ∙ yes)
+    rest_is : rest ≡ left - cycles_left at w
+    rest_is = (off_some at w root left e).1
 
     -- none waits
-    pub none_waiting : length q.blocks ≡ 16 → q.len ≡ 0 → eqb r.left 0 ≡ waiting_right q0 t at w root left q
+    pub none_waiting : length q.blocks ≡ 16 → q.len ≡ 0 → eqb rest 0 ≡ waiting_right q0 t at w root left q
     unfolding to_do chain_cycles
     none_waiting sixteen none =
         same_test
@@ -166,17 +170,17 @@ module _ (q0 : ℕ) (t : Travel) (at : Point) (w : Work) (root left : ℕ) (q : 
           root_is = off.root_is;
           none = λ idle. none;
           queue = none_sound q0 t (end_of at w) q sixteen none;
-          left_is = all_done (eqb-true r.left 0 z) ∙ ap (λ (l : List Block). cycles_left at w + chain_cycles (end_of at w) l)
+          left_is = all_done (eqb-true rest 0 z) ∙ ap (λ (l : List Block). cycles_left at w + chain_cycles (end_of at w) l)
               (sym (none_waits q none));
         }))
-        (λ z. eq-eqb r.left 0 (nothing_left ((waiting_right_lem q0 t at w root left q z).left_is
+        (λ z. eq-eqb rest 0 (nothing_left ((waiting_right_lem q0 t at w root left q z).left_is
         ∙ ap (λ (l : List Block). cycles_left at w + chain_cycles (end_of at w) l) (none_waits q none))))
       where
-        all_done : r.left ≡ 0 → left ≡ cycles_left at w + 0
-        all_done z = omega (arith, rest, off.enough)
+        all_done : rest ≡ 0 → left ≡ cycles_left at w + 0
+        all_done z = omega (arith, rest_is, off.enough)
 
-        nothing_left : left ≡ cycles_left at w + 0 → r.left ≡ 0
-        nothing_left z = omega (arith, rest)
+        nothing_left : left ≡ cycles_left at w + 0 → rest ≡ 0
+        nothing_left z = omega (arith, rest_is)
 
     -- some wait, and nothing is in work
     pub idle_waiting : (q.len ≡ 0 → ⊥) → is_nothing w ≡ true → waiting_right q0 t at w root left q ≡ false
@@ -184,7 +188,7 @@ module _ (q0 : ℕ) (t : Travel) (at : Point) (w : Work) (root left : ℕ) (q : 
 
     -- some wait behind a block in work
     pub busy_waiting : is_nothing w ≡ false
-        → (queue_sound q0 t (end_of at w) q && eqb r.left (chain_cycles (end_of at w) (waiting q))) ≡ waiting_right q0 t at w root left q
+        → (queue_sound q0 t (end_of at w) q && eqb rest (chain_cycles (end_of at w) (waiting q))) ≡ waiting_right q0 t at w root left q
     unfolding to_do
     busy_waiting busy =
         same_test
@@ -194,11 +198,11 @@ module _ (q0 : ℕ) (t : Travel) (at : Point) (w : Work) (root left : ℕ) (q : 
           root_is = off.root_is;
           none = λ idle. absurd (not_idle (sym busy ∙ idle));
           queue = queue_sound_lem s.0;
-          left_is = omega (arith, rest, off.enough, eqb-true r.left _ s.1);
+          left_is = omega (arith, rest_is, off.enough, eqb-true rest _ s.1);
         }))
         (λ z.
         let i = waiting_right_lem q0 t at w root left q z in
-        joined (queue_test i.queue) (eq-eqb r.left _ (omega (arith, rest, i.left_is))))
+        joined (queue_test i.queue) (eq-eqb rest _ (omega (arith, rest_is, i.left_is))))
       where
         not_idle : false ≡ true → ⊥
         not_idle e = subst T (sym e) tt

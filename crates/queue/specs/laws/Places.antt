@@ -1,8 +1,10 @@
 -- The places of an array: its length, and each moved a place on.
 use Rattle.std.specs.Prelude.{◌≡◌, refl, List, [], ◌∷◌, ◌++◌, map, ℕ, zero, suc, ◌+◌, ◌-◌, ◌≤◌, ◌<◌, length, take, drop, set, get_or}
 use Rattle.std.proofs.Common.{sym, ap, ◌∙◌, not-suc-le-zero, le_of_suc-le-suc, add-one, arith, drop-cons, get_or-take, length-take-le}
-use Rattle.std.proofs.lemmas.List.{length-map}
-use Rattle.std.proofs.Math.Seq.{drop-nil}
+use Rattle.std.proofs.lemmas.List.{length-map, take_all}
+use Rattle.std.proofs.Math.ListN.{drop_of_length-le}
+use Rattle.std.proofs.Math.Seq.{drop-nil, set-append_seam}
+use Rattle.std.specs.List.{copy_within}
 use Rattle.queue.specs.declared.Waiting.{Waiting}
 use Rattle.queue.specs.declared.Queue.{Queue}
 use Rattle.queue.specs.Queue.{blank, popped_of}
@@ -51,6 +53,22 @@ pub pop_end : (q₀ q : Queue) (w : Waiting) → w ≡ blank → length q₀.blo
 unfolding popped_of
 pop_end q₀ q w blanked l e =
     rw (e, blanked) (ap (λ (bs : List Waiting). record { blocks = bs; len = q₀.len - 1 }) (shift_end q₀.blocks 15 blank l))
+
+-- the places copied down by one, and the last one made blank
+pub moved_up : (q : Queue) (bs : List Waiting) (w : Waiting) → length q.blocks ≡ 16 → bs ≡ copy_within q.blocks 1 (length q.blocks) 0
+    → w ≡ blank → ◌≡◌ {A = Queue} (record { blocks = set bs 15 w; len = q.len - 1 }) (popped_of q)
+unfolding popped_of
+moved_up q bs w l e blanked = rw (e, blanked, l) (by q.blocks l)
+  where
+    by : (bs : List Waiting) → length bs ≡ 16
+        → ◌≡◌ {A = Queue} (record { blocks = set (take 15 (drop 1 bs) ++ drop 15 bs) 15 blank; len = q.len - 1 })
+        (record { blocks = drop 1 bs ++ (blank ∷ []); len = q.len - 1 })
+    by [] e = absurd (omega arith)
+    by (x ∷ bs) e =
+        let n : length bs ≡ 15 = omega arith in
+        rw (take_all 15 bs (omega (arith, n)), drop-cons bs 14 blank (omega (arith, n)), drop_of_length-le bs {i = 15} (omega (arith, n)))
+        (ap (λ (l : List Waiting). record { blocks = l; len = q.len - 1 })
+        (ap (λ (k : ℕ). set (bs ++ (get_or bs 14 blank ∷ [])) k blank) (sym n) ∙ set-append_seam bs (get_or bs 14 blank) [] blank))
 
 -- ---- the places of those that wait, from i on
 

@@ -1,7 +1,9 @@
 -- The test as the code makes it is the definition's.
-use Rattle.std.specs.Prelude.{◌≡◌, Bool, cond, ◌&&◌, ℕ, ◌+◌, ◌-◌, ◌≤◌, ◌<◌, length, take, drop, get_or}
+use Rattle.std.specs.Prelude.{◌≡◌, Bool, Option, Some, None, SomeIff, cond, ◌&&◌, ℕ, ◌+◌, ◌-◌, ◌≤◌, ◌<◌, length, drop, get_or}
 use Rattle.std.proofs.Math.Path.{refl, sym, ap}
-use Rattle.std.proofs.Common.{◌∙◌, arith}
+use Rattle.std.proofs.Common.{◌∙◌, arith, leb, drop-cons, add-one}
+use Rattle.std.proofs.Math.Nat.{lt_of_not-le}
+use Rattle.std.proofs.Math.ListN.{drop_of_length-le}
 use Rattle.std.proofs.Math.Bool.{true, false}
 use mathlib.Core.List.{List, [], ◌∷◌}
 use Rattle.std.proofs.Math.Dec.{eqb}
@@ -14,12 +16,10 @@ use Rattle.block.specs.Questions.{load_no}
 use Rattle.block.specs.Chain.{end_after, chain_cycles, root_of}
 use Rattle.block.specs.computed.Chain.{chain_accepted}
 use Rattle.queue.specs.declared.Waiting.{Waiting}
-use Rattle.queue.specs.declared.TakenOff.{TakenOff}
 use Rattle.queue.specs.declared.Queue.{Queue}
 use Rattle.queue.specs.Queue.{blank, places, blocks_of, waiting}
 use Rattle.queue.specs.computed.Queue.{roots_right, queue_sound}
-use Rattle.queue.specs.computed.Test.{fits, wrong, taken_off, chain_holds}
-use Rattle.queue.specs.laws.Places.{from_place, no_place}
+use Rattle.queue.specs.computed.Test.{fits, taken_off, chain_holds}
 
 module _ (q0 : ℕ) (t : Travel) where
   -- what a block that fits has
@@ -34,37 +34,26 @@ module _ (q0 : ℕ) (t : Travel) where
       let root = both {a = eqb w.root (root_of start w.block)} asked.1 in
       record { asked = eqb-true _ 0 asked.0; root = eqb-true _ _ root.0; enough = leb-true _ count root.1 }
 
-  -- one that would be refused, one with another root, one with too many cycles, and one that fits
+  -- one that would be refused, one with another root, and one that is counted
   module _ (start : Point) (w : Waiting) (count : ℕ) where
-    pub off_refused : {no : ℕ} → no ≡ load_no q0 t true start w.block → (no ≡ 0 → ⊥) → wrong ≡ taken_off q0 t start w count
+    pub off_refused : {no : ℕ} → no ≡ load_no q0 t true start w.block → (no ≡ 0 → ⊥) → None ≡ taken_off q0 t start w count
     unfolding taken_off
     off_refused e some = rw (ne_eqb (load_no q0 t true start w.block) 0 (λ z. some (e ∙ z))) refl
 
     module _ {no : ℕ} (e : no ≡ load_no q0 t true start w.block) (none : no ≡ 0) where
-      pub off_unrooted : {r : Bool} → r ≡ eqb w.root (root_of start w.block) → r ≡ false → wrong ≡ taken_off q0 t start w count
+      pub off_unrooted : {r : Bool} → r ≡ eqb w.root (root_of start w.block) → r ≡ false → None ≡ taken_off q0 t start w count
       unfolding taken_off
       off_unrooted is other = rw (eq-eqb (load_no q0 t true start w.block) 0 (sym e ∙ none), sym is ∙ other) refl
 
-      module _ {r : Bool} (is : r ≡ eqb w.root (root_of start w.block)) (own : r ≡ true) {k : ℕ}
-          (c : k ≡ block_cycles start w.block) where
-        pub off_many : count < k → wrong ≡ taken_off q0 t start w count
-        unfolding taken_off
-        off_many less =
-            rw (
-              eq-eqb (load_no q0 t true start w.block) 0 (sym e ∙ none),
-              sym is ∙ own,
-              lt-leb (block_cycles start w.block) count (rw c at less),
-            ) refl
-
-        pub off_counts : k ≤ count → ◌≡◌ {A = TakenOff} (record { right = true; left = count - k }) (taken_off q0 t start w count)
-        unfolding taken_off
-        off_counts enough =
-            rw (
-              eq-eqb (load_no q0 t true start w.block) 0 (sym e ∙ none),
-              sym is ∙ own,
-              le-leb (block_cycles start w.block) count (rw c at enough),
-              c,
-            ) refl
+      pub off_counts : {r : Bool} → r ≡ eqb w.root (root_of start w.block) → r ≡ true → {k : ℕ} → k ≡ block_cycles start w.block
+          → {rest : Option ℕ} → SomeIff rest (k ≤ count) (count - k) → rest ≡ taken_off q0 t start w count
+      unfolding taken_off
+      off_counts is own {k} c {rest} iff =
+          rw (eq-eqb (load_no q0 t true start w.block) 0 (sym e ∙ none), sym is ∙ own, sym c) (by rest iff)
+        where
+          by : (rest : Option ℕ) → SomeIff rest (k ≤ count) (count - k) → rest ≡ cond (leb k count) (Some (count - k)) None
+          by None many = rw (lt-leb k count (lt_of_not-le many)) refl
+          by (Some n) i = rw (le-leb k count i.0, i.1) refl
 
   -- a queue's list: accepted in turn, each with its root, and so many cycles
   abbrev pub right : (start : Point) (count : ℕ) → List Waiting → Bool
@@ -128,46 +117,44 @@ module _ (q0 : ℕ) (t : Travel) where
   tested from cycles q sixteen most e =
       sym e ∙ holds_is from cycles (places q) ∙ sym (rw (eq-eqb _ 16 sixteen, le-leb _ 16 most) refl)
 
-  pub off_right : (start : Point) (w : Waiting) (count : ℕ) → (taken_off q0 t start w count).right ≡ fits q0 t start w count
-  unfolding taken_off
-  off_right start w count = by (fits q0 t start w count)
-    where
-      by : (b : Bool) → (cond b (record { right = true; left = count - block_cycles start w.block }) wrong).right ≡ b
-      by true = refl
-      by false = refl
+  -- an answer that is none, and one that is some
+  module _ (start : Point) (w : Waiting) (count : ℕ) where
+    pub off_none : None ≡ taken_off q0 t start w count → fits q0 t start w count ≡ false
+    unfolding taken_off
+    off_none e = by (fits q0 t start w count) e
+      where
+        by : (b : Bool) → None ≡ cond b (Some (count - block_cycles start w.block)) None → b ≡ false
+        by true e = cc
+        by false e = refl
 
-  pub off_left : (start : Point) (w : Waiting) (count : ℕ) → fits q0 t start w count ≡ true
-      → (taken_off q0 t start w count).left ≡ count - block_cycles start w.block
-  unfolding taken_off
-  off_left start w count f = rw f refl
+    pub off_some : {rest : ℕ} → Some rest ≡ taken_off q0 t start w count
+        → (fits q0 t start w count ≡ true) × (rest ≡ count - block_cycles start w.block)
+    unfolding taken_off
+    off_some {rest} e = by (fits q0 t start w count) e
+      where
+        by : (b : Bool) → Some rest ≡ cond b (Some (count - block_cycles start w.block)) None
+            → (b ≡ true) × (rest ≡ count - block_cycles start w.block)
+        by true e = (refl, cc)
+        by false e = absurd cc
 
   -- one that is wrong, one that is counted, and none left
-  module _ (start : Point) (count : ℕ) (l : List Waiting) (i n : ℕ) (h : i < n) (long : n ≤ length l) where
+  module _ (start : Point) (count : ℕ) (l : List Waiting) (i : ℕ) (h : i < length l) where
     abbrev one : Waiting
     one = get_or l i blank
 
-    step : chain_holds q0 t start count (drop i (take n l))
-        ≡ (fits q0 t start one count && chain_holds q0 t (end_after start one.block) (count - block_cycles start one.block)
-        (drop (i + 1) (take n l)))
+    step : chain_holds q0 t start count (drop i l)
+        ≡ (fits q0 t start one count && chain_holds q0 t (end_after start one.block) (count - block_cycles start one.block) (drop (i + 1) l))
     unfolding chain_holds
-    step = ap (chain_holds q0 t start count) (from_place l i n h long)
+    step = rw add-one (ap (chain_holds q0 t start count) (drop-cons l i blank h))
 
-    pub wrong_one : {r : TakenOff} → r ≡ taken_off q0 t start one count → r.right ≡ false
-        → chain_holds q0 t start count (drop i (take n l)) ≡ false
-    wrong_one e no_fit = step ∙ rw (sym (off_right start one count) ∙ sym (ap (λ (r : TakenOff). r.right) e) ∙ no_fit) refl
+    pub wrong_one : None ≡ taken_off q0 t start one count → chain_holds q0 t start count (drop i l) ≡ false
+    wrong_one e = step ∙ rw (off_none start one count e) refl
 
-    pub fitting : {r : TakenOff} → r ≡ taken_off q0 t start one count → r.right ≡ true → fits q0 t start one count ≡ true
-    fitting e fit = sym (off_right start one count) ∙ sym (ap (λ (r : TakenOff). r.right) e) ∙ fit
+    pub counted : {rest : ℕ} → Some rest ≡ taken_off q0 t start one count
+        → chain_holds q0 t start count (drop i l) ≡ chain_holds q0 t (end_after start one.block) rest (drop (i + 1) l)
+    counted e = let f = off_some start one count e in step ∙ rw (f.0, f.1) refl
 
-    pub counted : {r : TakenOff} → r ≡ taken_off q0 t start one count → r.right ≡ true
-        → chain_holds q0 t start count (drop i (take n l))
-        ≡ chain_holds q0 t (end_after start one.block) r.left (drop (i + 1) (take n l))
-    counted e fit =
-        step ∙ rw (fitting e fit)
-        (ap (λ (k : ℕ). chain_holds q0 t (end_after start one.block) k (drop (i + 1) (take n l)))
-        (sym (ap (λ (r : TakenOff). r.left) e ∙ off_left start one count (fitting e fit))))
-
-  pub none_left : (start : Point) (count : ℕ) (l : List Waiting) (i n : ℕ) → n ≤ i → n ≤ length l
-      → chain_holds q0 t start count (drop i (take n l)) ≡ eqb count 0
+  pub none_left : (start : Point) (count : ℕ) (l : List Waiting) (i : ℕ) → length l ≤ i
+      → chain_holds q0 t start count (drop i l) ≡ eqb count 0
   unfolding chain_holds
-  none_left start count l i n h long = ap (chain_holds q0 t start count) (no_place l i n h long)
+  none_left start count l i h = ap (chain_holds q0 t start count) (drop_of_length-le l h)

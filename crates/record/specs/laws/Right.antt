@@ -1,5 +1,5 @@
 -- The code's tests pass exactly where the words are those of a sound record.
-use Rattle.std.specs.Prelude.{◌≡◌, Bool, ◌&&◌, eqb, ℤ, pos, take}
+use Rattle.std.specs.Prelude.{◌≡◌, Bool, Some, None, ◌&&◌, eqb, ℤ, pos, take}
 use Rattle.std.proofs.Math.Path.{refl, sym, ap}
 use Rattle.std.proofs.Common.{◌∙◌, drop-cons, SFits}
 use Rattle.std.proofs.Math.Bool.{true, false, cond}
@@ -16,9 +16,8 @@ use Rattle.block.specs.declared.Path.{Path}
 use Rattle.circle.specs.declared.plane.Turn.{Turn}
 use Rattle.block.specs.Block.{block_cycles}
 use Rattle.queue.specs.declared.Waiting.{Waiting}
-use Rattle.queue.specs.declared.TakenOff.{TakenOff}
 use Rattle.queue.specs.computed.Test.{fits, taken_off, chain_holds}
-use Rattle.queue.specs.laws.Test.{sound_with, too_long_lem, tested, off_right, off_left}
+use Rattle.queue.specs.laws.Test.{sound_with, too_long_lem, tested, off_none, off_some}
 use Rattle.encoding.specs.declared.encode.Head.{Head}
 use Rattle.encoding.specs.declared.encode.WorkWords.{WorkWords}
 use Rattle.encoding.specs.Words.{abi, at, word_of, count_of, head_of, work_words_of}
@@ -327,27 +326,22 @@ module _ (q0 : ℕ) (t : Travel) (ws : List ℤ) where
     pub wrong_words : yes ≡ false → row_right q0 t ws start count i (n - i) ≡ false
     wrong_words other = step ∙ rw (sym (ap block_row_right b_is) ∙ sym yes_is ∙ other)
 
-    module _ (own : yes ≡ true) {w : Waiting} (w_is : w ≡ waiting_of b) {r : TakenOff} (r_is : r ≡ taken_off q0 t start w count) where
+    module _ (own : yes ≡ true) {w : Waiting} (w_is : w ≡ waiting_of b) where
       same : w ≡ waiting_in ws i
       same = w_is ∙ ap waiting_of b_is
 
-      off : r ≡ taken_off q0 t start (waiting_in ws i) count
-      off = r_is ∙ ap (λ (v : Waiting). taken_off q0 t start v count) same
+      off : taken_off q0 t start w count ≡ taken_off q0 t start (waiting_in ws i) count
+      off = ap (λ (v : Waiting). taken_off q0 t start v count) same
 
-      fit_is : r.right ≡ fits q0 t start (waiting_in ws i) count
-      fit_is = ap (λ (r : TakenOff). r.right) off ∙ off_right q0 t start (waiting_in ws i) count
+      pub wrong_block : None ≡ taken_off q0 t start w count → row_right q0 t ws start count i (n - i) ≡ false
+      wrong_block e =
+          step ∙ rw (off_none q0 t start (waiting_in ws i) count (e ∙ off), none (block_row_right (block_words_in ws i)))
 
-      pub wrong_block : r.right ≡ false → row_right q0 t ws start count i (n - i) ≡ false
-      wrong_block other = step ∙ rw (sym fit_is ∙ other, none (block_row_right (block_words_in ws i)))
+      module _ {rest : ℕ} (e : Some rest ≡ taken_off q0 t start w count) where
+        pub fitting : fits q0 t start w count ≡ true
+        fitting = (off_some q0 t start w count e).0
 
-      pub fitting : r.right ≡ true → fits q0 t start w count ≡ true
-      fitting fit = ap (λ (v : Waiting). fits q0 t start v count) same ∙ sym fit_is ∙ fit
-
-      pub counted : r.right ≡ true
-          → row_right q0 t ws start count i (n - i) ≡ row_right q0 t ws w.block.end r.left (i + 1) (n - (i + 1))
-      counted fit =
-          step ∙ rw (sym (ap block_row_right b_is) ∙ sym yes_is ∙ own, sym fit_is ∙ fit)
-          (ap (λ (v : Waiting). row_right q0 t ws v.block.end (count - block_cycles start (waiting_in ws i).block) (i + 1) (n - (i + 1)))
-          (sym same)
-          ∙ ap (λ (k : ℕ). row_right q0 t ws w.block.end k (i + 1) (n - (i + 1)))
-          (sym (ap (λ (r : TakenOff). r.left) off ∙ off_left q0 t start (waiting_in ws i) count (sym fit_is ∙ fit))))
+        pub counted : row_right q0 t ws start count i (n - i) ≡ row_right q0 t ws w.block.end rest (i + 1) (n - (i + 1))
+        counted =
+            let o = off_some q0 t start (waiting_in ws i) count (e ∙ off) in
+            step ∙ rw (sym (ap block_row_right b_is) ∙ sym yes_is ∙ own, o.0, o.1, same)

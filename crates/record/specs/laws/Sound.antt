@@ -1,10 +1,9 @@
 -- A sound record's words, by what the code has found out of them.
-use Rattle.std.specs.Prelude.{◌≡◌, Bool, true, false, ◌&&◌, List, ℕ, min, eqb, ℤ, length}
+use Rattle.std.specs.Prelude.{◌≡◌, Bool, true, false, Some, None, ◌&&◌, List, ℕ, min, eqb, ℤ, length}
 use Rattle.std.proofs.Common.{sym, ◌∙◌}
 use Rattle.std.proofs.Math.Path.{ap}
 use Rattle.plane.specs.declared.point.Point.{Point}
 use Rattle.plane.specs.declared.travel.Travel.{Travel}
-use Rattle.queue.specs.declared.TakenOff.{TakenOff}
 use Rattle.queue.specs.laws.Test.{sound_with}
 use Rattle.work.specs.declared.Work.{Work}
 use Rattle.work.specs.Work.{is_nothing, end_of}
@@ -22,8 +21,7 @@ use Rattle.record.specs.laws.Right.{none, record_is}
 
 -- ---- root, figure and queue
 
-module _ (ws : List ℤ) (len q0 : ℕ) (t : Travel) (p : Point) (w : Work) (root left : ℕ) {r : TakenOff}
-    (e : r ≡ work_off p w root left) where
+module _ (ws : List ℤ) (len q0 : ℕ) (t : Travel) (p : Point) (w : Work) (root left : ℕ) where
   -- the words of those that wait, and what waits
   abbrev right : Bool
   right = are_blocks ws 0 (min len 16) && waiting_right q0 t p w root left (queue_in ws len)
@@ -31,22 +29,22 @@ module _ (ws : List ℤ) (len q0 : ℕ) (t : Travel) (p : Point) (w : Work) (roo
   not_right : waiting_right q0 t p w root left (queue_in ws len) ≡ false → right ≡ false
   not_right other = rw other (none (are_blocks ws 0 (min len 16)))
 
-  pub work_wrong : r.right ≡ false → right ≡ false
-  work_wrong other = not_right (wrong_work q0 t p w root left (queue_in ws len) e other)
+  pub work_wrong : None ≡ work_off p w root left → right ≡ false
+  work_wrong e = not_right (wrong_work q0 t p w root left (queue_in ws len) e)
 
-  module _ (yes : r.right ≡ true) where
-    pub none_right : len ≡ 0 → eqb r.left 0 ≡ right
+  module _ {rest : ℕ} (e : Some rest ≡ work_off p w root left) where
+    pub none_right : len ≡ 0 → eqb rest 0 ≡ right
     unfolding are_blocks
     none_right zero =
-        none_waiting q0 t p w root left (queue_in ws len) e yes (queue_sixteen ws len) zero
+        none_waiting q0 t p w root left (queue_in ws len) e (queue_sixteen ws len) zero
         ∙ ap (λ (n : ℕ). are_blocks ws 0 (min n 16) && waiting_right q0 t p w root left (queue_in ws len)) (sym zero)
 
     pub idle_wrong : (len ≡ 0 → ⊥) → is_nothing w ≡ true → right ≡ false
-    idle_wrong some idle = not_right (idle_waiting q0 t p w root left (queue_in ws len) e yes some idle)
+    idle_wrong some idle = not_right (idle_waiting q0 t p w root left (queue_in ws len) e some idle)
 
     pub busy_right : is_nothing w ≡ false
-        → (are_blocks ws 0 (min len 16) && sound_with q0 t (end_of p w) r.left (queue_in ws len)) ≡ right
-    busy_right busy = ap (λ (b : Bool). are_blocks ws 0 (min len 16) && b) (busy_waiting q0 t p w root left (queue_in ws len) e yes busy)
+        → (are_blocks ws 0 (min len 16) && sound_with q0 t (end_of p w) rest (queue_in ws len)) ≡ right
+    busy_right busy = ap (λ (b : Bool). are_blocks ws 0 (min len 16) && b) (busy_waiting q0 t p w root left (queue_in ws len) e busy)
 
 -- ---- all of it
 
