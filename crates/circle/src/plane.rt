@@ -4,8 +4,6 @@ ghost use Rattle.circle.specs.Circle.{largest_n, circle_test, on_circle};
 ghost use Rattle.circle.specs.computed.Kind.{kind_of, TurnOfKind};
 ghost use Rattle.circle.specs.computed.Step.{seen};
 
-use whole::sign::part;
-
 const LARGEST_N: u64 = 2_000_000_000_000;
 
 // A point seen from the centre, in pulses.
@@ -51,45 +49,25 @@ impl From<Turn> for u64 {
     }
 }
 
-fn larger(a: u64, b: u64) -> u64
-    ensures { result ≡ max a b }
-{
-    if a < b { b } else { a }
-}
-
 // -m <= F < m without signs: F is a * a + b * b - n.
 fn near_circle(n: u64, a: u64, b: u64) -> bool
     requires { (n ≤ largest_n) × (a ≤ 2000000) × (b ≤ 2000000) }
     ensures { result ≡ circle_test n a b }
 {
-    let m = larger(a, b);
+    let m = a.max(b);
     let s = a * a + b * b;
-    if n + m <= s {
-        return false;
-    }
-    n <= s + m
+    s < n + m && n <= s + m
 }
 
 // Whether n is in 1..2,000,000,000,000 and p a circle point of n, for any values.
 // Coordinates beyond 2,000,000 are refused before they are squared; those of a circle point are at most 1,414,214.
+#[tactic(auto, using(crate::proofs::laws::Circle::not_on_circle), unfolding(crate::specs::Circle::on_circle))]
 pub fn on_circle(n: u64, p: Offset) -> bool
     ensures { result ≡ on_circle n p }
 {
-    if n < 1 {
-        return false;
-    }
-    if LARGEST_N < n {
-        return false;
-    }
-    let x = part(p.x);
-    let y = part(p.y);
-    if 2_000_000 < x.magnitude {
-        return false;
-    }
-    if 2_000_000 < y.magnitude {
-        return false;
-    }
-    near_circle(n, x.magnitude, y.magnitude)
+    let a = p.x.unsigned_abs();
+    let b = p.y.unsigned_abs();
+    (1..=LARGEST_N).contains(&n) && a <= 2_000_000 && b <= 2_000_000 && near_circle(n, a, b)
 }
 
 // Clockwise is counterclockwise in a mirror. The least i64 has no mirror image.
@@ -98,7 +76,7 @@ pub fn seen_from(turn: Turn, p: Offset) -> Offset
     ensures { result ≡ seen turn p }
 {
     match turn {
-        Turn::Clockwise => Offset { x: p.x, y: 0 - p.y },
+        Turn::Clockwise => Offset { y: -p.y, ..p },
         Turn::Counterclockwise => p,
     }
 }

@@ -66,19 +66,12 @@ pub fn turned_by(k: u64, p: Offset) -> Offset
     requires { (k < 4) × (nat_abs p.x < 2 ^ 63) × (nat_abs p.y < 2 ^ 63) }
     ensures { result ≡ turned k p }
 {
-    if k == 0 {
-        return p;
+    match k {
+        0 => p,
+        1 => Offset { x: -p.y, y: p.x },
+        2 => Offset { x: -p.x, y: -p.y },
+        _ => Offset { x: p.y, y: -p.x },
     }
-    if k == 1 {
-        return Offset { x: 0 - p.y, y: p.x };
-    }
-    if k == 2 {
-        return Offset {
-            x: 0 - p.x,
-            y: 0 - p.y,
-        };
-    }
-    Offset { x: p.y, y: 0 - p.x }
 }
 
 pub fn point_of(q: Place) -> Offset

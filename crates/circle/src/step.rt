@@ -102,28 +102,22 @@ impl Stepper {
         requires { Movable m self }
         ensures { result ≡ moved m self }
     {
-        let turn = self.turn;
         match m {
             Move::Rise => Stepper {
-                turn,
-                quadrant: self.quadrant,
-                along: self.along,
                 across: self.across + 1,
                 excess: self.excess + 2 * self.across + 1,
+                ..self
             },
             Move::Slant => Stepper {
-                turn,
-                quadrant: self.quadrant,
                 along: self.along - 1,
                 across: self.across + 1,
                 excess: self.excess + 2 * self.across + 2 - 2 * self.along,
+                ..self
             },
             Move::Fall => Stepper {
-                turn,
-                quadrant: self.quadrant,
                 along: self.along - 1,
-                across: self.across,
                 excess: self.excess + 1 - 2 * self.along,
+                ..self
             },
         }
     }
@@ -133,14 +127,12 @@ impl Stepper {
         requires { self.quadrant < 4 }
         ensures { result ≡ brought_on self }
     {
-        let turn = self.turn;
         if self.along == 0 {
             return Stepper {
-                turn,
                 quadrant: next_quadrant(self.quadrant),
                 along: self.across,
                 across: 0,
-                excess: self.excess,
+                ..self
             };
         }
         self
@@ -151,8 +143,7 @@ impl Stepper {
         requires { Entered self × (m ≡ move_of self) }
         ensures { result ≡ advanced_by self }
     {
-        let s = self.moved_by(m);
-        s.settle()
+        self.moved_by(m).settle()
     }
 
     // One cycle onward. The move gives its pulses, without leaving quadrant form.
@@ -160,11 +151,10 @@ impl Stepper {
         requires { Entered self }
         ensures { result ≡ cycled_of self }
     {
-        let m = self.next_move();
-        let s = self.moved_by(m);
+        let made = self.next_move();
         Cycled {
-            stepper: s.settle(),
-            made: m,
+            stepper: self.advance(made),
+            made,
         }
     }
 
@@ -177,8 +167,7 @@ impl Stepper {
             along: self.along,
             across: self.across,
         });
-        let turn = self.turn;
-        seen_from(turn, p)
+        seen_from(self.turn, p)
     }
 }
 
@@ -187,10 +176,7 @@ pub fn step(n: u64, turn: Turn, p: Offset) -> Offset
     requires { on_circle n p ≡ true }
     ensures { result ≡ step_of n turn p }
 {
-    let s = Stepper::enter(n, turn, p);
-    let c = s.cycle();
-    let t = c.stepper;
-    t.leave()
+    Stepper::enter(n, turn, p).cycle().stepper.leave()
 }
 
 // What the step to the next point is charged.
@@ -198,6 +184,5 @@ pub fn charge(n: u64, turn: Turn, p: Offset) -> u64
     requires { on_circle n p ≡ true }
     ensures { result ≡ step_charge n turn p }
 {
-    let s = Stepper::enter(n, turn, p);
-    move_charge(s.next_move())
+    move_charge(Stepper::enter(n, turn, p).next_move())
 }

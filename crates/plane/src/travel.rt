@@ -16,16 +16,16 @@ pub struct Travel {
     pub y: Range,
 }
 
+#[tactic(auto, unfolding(crate::specs::Travel::within_of))]
 pub fn within(range: Range, at: i64) -> bool
     ensures { result ≡ within_of range at }
 {
-    range.lower <= at && at <= range.upper
+    (range.lower..=range.upper).contains(&at)
 }
 
+#[tactic(auto, unfolding(crate::specs::Travel::inside_of))]
 pub fn inside(travel: Travel, at: Point) -> bool
     ensures { result ≡ inside_of travel at }
 {
-    let x = travel.x;
-    let y = travel.y;
-    within(x, at.x) && within(y, at.y)
+    within(travel.x, at.x) && within(travel.y, at.y)
 }

@@ -3,9 +3,9 @@
 
 ghost use Rattle.std.specs.Prelude.{◌≡◌};
 ghost use Rattle.settings.specs.Settings.{capacity_of, standard_settings};
-ghost use Rattle.settings.specs.computed.Settings.{in_range, axis_right, travel_right, settings_no};
+ghost use Rattle.settings.specs.computed.Settings.{axis_right, travel_right, settings_no};
 
-use plane::travel::{Range, Travel, within};
+use plane::travel::{Range, Travel};
 
 #[derive(Clone, Copy)]
 pub struct Settings {
@@ -16,55 +16,32 @@ pub struct Settings {
     pub travel: Travel,
 }
 
+#[tactic(auto, unfolding(crate::specs::computed::Settings::axis_right, plane::specs::Travel::within_of))]
 fn axis_right(axis: Range) -> bool
     ensures { result ≡ axis_right axis }
 {
-    let lowers = Range {
-        lower: -1_000_000,
-        upper: 0,
-    };
-    let uppers = Range {
-        lower: 0,
-        upper: 1_000_000,
-    };
-    if !within(lowers, axis.lower) {
-        return false;
-    }
-    within(uppers, axis.upper)
+    (-1_000_000..=0).contains(&axis.lower) && (0..=1_000_000).contains(&axis.upper)
 }
 
+#[tactic(auto, unfolding(crate::specs::computed::Settings::travel_right))]
 fn travel_right(travel: Travel) -> bool
     ensures { result ≡ travel_right travel }
 {
-    let x = travel.x;
-    let y = travel.y;
-    if !axis_right(x) {
-        return false;
-    }
-    axis_right(y)
-}
-
-fn in_range(low: u64, high: u64, v: u64) -> bool
-    ensures { result ≡ in_range low high v }
-{
-    if v < low {
-        return false;
-    }
-    v <= high
+    axis_right(travel.x) && axis_right(travel.y)
 }
 
 // The number of the first "no", or 0.
+#[tactic(auto, unfolding(crate::specs::computed::Settings::settings_no))]
 pub fn settings_no(s: Settings) -> u64
     ensures { result ≡ settings_no s }
 {
-    if !in_range(1, 1_000, s.scale) {
+    if !(1..=1_000).contains(&s.scale) {
         return 1;
     }
-    if !in_range(1_000, 20_000, s.clock) {
+    if !(1_000..=20_000).contains(&s.clock) {
         return 2;
     }
-    let travel = s.travel;
-    if !travel_right(travel) {
+    if !travel_right(s.travel) {
         return 3;
     }
     0
@@ -89,10 +66,9 @@ pub fn standard() -> Settings
         lower: -1_000_000,
         upper: 1_000_000,
     };
-    let travel = Travel { x: axis, y: axis };
     Settings {
         scale: 50,
         clock: 5_000,
-        travel: travel,
+        travel: Travel { x: axis, y: axis },
     }
 }
