@@ -1,61 +1,38 @@
 // How a program ends that cannot read or write: with a line on standard error, which is made in memory of a fixed size, and status 0, since
 // whoever runs it sees by what it wrote that it is not whole. Where nobody reads any more what it writes, it ends in silence, and with the
 // status of a program that the signal of a broken pipe ended.
-ghost use Rattle.std.specs.Prelude.{◌≡◌, ◌≢◌, ◌≤◌, length};
+ghost use Rattle.std.specs.Prelude.{◌≡◌, ◌≢◌, ◌-◌, ◌++◌, take};
+ghost use Rattle.std.specs.Io.{StartsWith};
+ghost use Rattle.arrayvec.specs.ArrayVec.{array_vec_len};
 ghost use Rattle.std.specs.IoError.{error_kind};
 ghost use Rattle.std.specs.Process.{exit_status};
 
-use std::fmt::Write;
-use std::io::{Error, ErrorKind, Stderr};
+use arrayvec::ArrayVec;
+use std::io::{Error, ErrorKind, Stderr, Write};
 use std::process::ExitCode;
-use std::{fmt, io};
 
 // Bytes of the line: what does not fit is left out.
 const ROOM: usize = 320;
 
-#[derive(Drop)]
-struct Message {
-    bytes: [u8; ROOM],
-    len: usize,
-    ghost fits: { len ≤ 320 },
-}
+// The line, or the part of it that says why. What is written where no room is left is left out, and no write fails.
+type Message = ArrayVec<u8, ROOM>;
 
-impl Message {
-    fn new() -> Message {
-        Message {
-            bytes: [0; ROOM],
-            len: 0,
-        }
-    }
-
-    fn add(&mut self, bytes: &[u8]) {
-        for b in bytes {
-            if self.len < ROOM {
-                self.bytes[self.len] = *b;
-                self.len += 1;
-            }
-        }
-    }
-}
-
-impl Write for Message {
-    fn write_str(&mut self, s: &str) -> fmt::Result {
-        self.add(s.as_bytes());
-        Ok(())
-    }
-}
-
-// Where the text before the last opening bracket ends, or all of it: `No space left on device (os error 28)` is told without the number.
-fn told(text: &[u8]) -> usize
-    ensures { result ≤ length text.now }
+// Puts as many of the bytes at the message's end as there is room for.
+fn add(to: &mut Message, bytes: &[u8])
+    ensures { to.new.items ≡ to.old.items ++ take (320 - array_vec_len to.old) bytes.now }
 {
-    let mut end = text.len();
-    for (i, b) in text.iter().enumerate() {
-        if *b == b'(' && 0 < i {
-            end = i - 1;
-        }
+    let room = to.remaining_capacity().min(bytes.len());
+    let _ = to.try_extend_from_slice(&bytes[..room]);
+}
+
+// The text before the last opening bracket, or all of it: `No space left on device (os error 28)` is told without the number.
+fn told(text: &[u8]) -> &[u8]
+    ensures { StartsWith text.now result.now }
+{
+    match text.iter().rposition(|b| *b == b'(') {
+        Some(at) if 0 < at => &text[..at - 1],
+        _ => text,
     }
-    end
 }
 
 // Says what a program cannot do and why, and answers the status to end with, 0.
@@ -63,13 +40,12 @@ pub fn fail(to: &mut Stderr, what: &[u8], error: Error) -> ExitCode
     ensures { exit_status result ≡ 0 }
 {
     let mut why = Message::new();
-    let written = write!(why, "{error}");
+    // Where the message is full, the rest of the text is left out.
+    let _ = write!(why, "{error}");
     let mut line = Message::new();
-    line.add(what);
-    if written.is_ok() {
-        line.add(b": ");
-        line.add(&why.bytes[..told(&why.bytes[..why.len])]);
-    }
+    add(&mut line, what);
+    add(&mut line, b": ");
+    add(&mut line, told(why.as_slice()));
     end(to, line)
 }
 
@@ -92,15 +68,15 @@ pub fn refuse(to: &mut Stderr, what: &[u8]) -> ExitCode
     ensures { exit_status result ≡ 0 }
 {
     let mut line = Message::new();
-    line.add(what);
+    add(&mut line, what);
     end(to, line)
 }
 
 fn end(to: &mut Stderr, mut line: Message) -> ExitCode
     ensures { exit_status result ≡ 0 }
 {
-    line.add(b"\n");
+    add(&mut line, b"\n");
     // Where it cannot be written, nothing is left to tell it to.
-    let _ = io::Write::write_all(to, &line.bytes[..line.len]);
+    let _ = to.write_all(line.as_slice());
     ExitCode::SUCCESS
 }

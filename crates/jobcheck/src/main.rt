@@ -5,7 +5,7 @@ ghost use Rattle.settings.specs.Settings.{standard_settings};
 ghost use Rattle.job.specs.computed.Check.{Lists};
 
 use bench::Bench;
-use input::{Input, fail, unwritten};
+use input::{fail, unwritten};
 use job::Check;
 use reader::LONGEST_TEXT;
 use settings::standard;
@@ -17,9 +17,7 @@ use std::process::ExitCode;
 fn start() -> Check
     ensures { Lists standard_settings result }
 {
-    let made = Bench::make(standard());
-    let bench = made.bench;
-    Check::start(bench)
+    Check::start(Bench::make(standard()).bench)
 }
 
 // Writes the listing in pieces. What fill promises makes them the listing, each in its turn. All of it is written, or it is an error. For a
@@ -40,9 +38,8 @@ fn write_listing(to: &mut Stdout, text: &[u8]) -> io::Result<()> {
 fn main(rt: HostRuntime) -> ExitCode {
     // One byte more than a text may have, so that a longer one is seen to be longer.
     let mut text = [0u8; LONGEST_TEXT + 1];
-    let input = input::read(&mut rt.stdin(), &mut text);
-    match input {
-        Input::Bytes(len) => match write_listing(&mut rt.stdout(), &text[..len]) {
+    match input::read(&mut rt.stdin(), &mut text) {
+        Ok(len) => match write_listing(&mut rt.stdout(), &text[..len]) {
             Ok(()) => ExitCode::SUCCESS,
             Err(error) => unwritten(
                 &mut rt.stderr(),
@@ -50,6 +47,6 @@ fn main(rt: HostRuntime) -> ExitCode {
                 error,
             ),
         },
-        Input::Failed(error) => fail(&mut rt.stderr(), b"jobcheck: cannot read the job", error),
+        Err(error) => fail(&mut rt.stderr(), b"jobcheck: cannot read the job", error),
     }
 }

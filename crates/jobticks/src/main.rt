@@ -5,7 +5,7 @@ ghost use Rattle.settings.specs.Settings.{standard_settings};
 ghost use Rattle.stream.specs.computed.Stream.{Tells};
 
 use bench::Bench;
-use input::{Input, fail, unwritten};
+use input::{fail, unwritten};
 use reader::LONGEST_TEXT;
 use settings::standard;
 use std::io;
@@ -17,9 +17,7 @@ use stream::Stream;
 fn start() -> Stream
     ensures { Tells standard_settings result }
 {
-    let made = Bench::make(standard());
-    let bench = made.bench;
-    Stream::start(bench)
+    Stream::start(Bench::make(standard()).bench)
 }
 
 // Writes them in large pieces. What fill promises makes the pieces the tick bytes, each in its turn. All are written, or it is an error.
@@ -39,9 +37,8 @@ fn write_ticks(to: &mut Stdout, text: &[u8]) -> io::Result<()> {
 fn main(rt: HostRuntime) -> ExitCode {
     // One byte more than a text may have, so that a longer one is seen to be longer.
     let mut text = [0u8; LONGEST_TEXT + 1];
-    let input = input::read(&mut rt.stdin(), &mut text);
-    match input {
-        Input::Bytes(len) => match write_ticks(&mut rt.stdout(), &text[..len]) {
+    match input::read(&mut rt.stdin(), &mut text) {
+        Ok(len) => match write_ticks(&mut rt.stdout(), &text[..len]) {
             Ok(()) => ExitCode::SUCCESS,
             Err(error) => unwritten(
                 &mut rt.stderr(),
@@ -49,6 +46,6 @@ fn main(rt: HostRuntime) -> ExitCode {
                 error,
             ),
         },
-        Input::Failed(error) => fail(&mut rt.stderr(), b"jobticks: cannot read the job", error),
+        Err(error) => fail(&mut rt.stderr(), b"jobticks: cannot read the job", error),
     }
 }

@@ -12,11 +12,10 @@ ghost use Rattle.row.specs.computed.Numbers.{buffer_with, place_with};
 ghost use Rattle.row.specs.computed.Numbers.{EndsIn};
 ghost use Rattle.jobwhere.specs.computed.Asked.{digit_pushed, ticks_asked};
 ghost use Rattle.jobwhere.specs.computed.Row.{found_word, row_of};
-ghost use Rattle.jobwhere.specs.computed.Row.{standing_of, row_with};
 
-use encoding::encode::{WorkWords, work_words};
+use encoding::encode::work_words;
 use encoding::number::{refusal, word};
-use input::{Input, fail, refuse, unwritten};
+use input::{fail, refuse, unwritten};
 use reader::LONGEST_TEXT;
 use row::lines::Place;
 use row::numbers;
@@ -26,69 +25,41 @@ use std::io;
 use std::io::{ErrorKind, Write};
 use std::process::ExitCode;
 
-const LF: u8 = 10;
-
 // The largest i64.
 const MOST_ASKED: u64 = 9_223_372_036_854_775_807;
 
 // It has no more digits.
 const MOST_DIGITS: usize = 19;
 
-// The ticks asked for and where the job begins, or that the first line is no such number.
-#[derive(Drop)]
-enum Asked {
-    Ticks(u64, usize),
-    Nothing,
-}
-
-// A number with a digit more, or that the byte is none or that the number is too large.
-#[derive(Drop)]
-enum Pushed {
-    Number(u64),
-    Nothing,
-}
-
-fn push(n: u64, b: u8) -> Pushed
+// A number with a digit more; none where the byte is no digit or the number is too large.
+fn push(n: u64, b: u8) -> Option<u64>
     ensures { result ≡ digit_pushed n b }
 {
-    if b < b'0' {
-        return Pushed::Nothing;
-    }
-    if b'9' < b {
-        return Pushed::Nothing;
+    if !b.is_ascii_digit() {
+        return None;
     }
     let digit = (b - b'0') as u64;
     if (MOST_ASKED - digit) / 10 < n {
-        return Pushed::Nothing;
+        return None;
     }
-    Pushed::Number(n * 10 + digit)
+    Some(n * 10 + digit)
 }
 
-fn ask(text: &[u8]) -> Asked
+// The ticks asked for and where the job begins; none where the first line is no such number.
+fn ask(text: &[u8]) -> Option<(u64, usize)>
     ensures { result ≡ ticks_asked text.now }
 {
     let mut n = 0;
-    let mut at = 0;
-    while at < text.len() {
-        if text[at] == LF {
-            if at == 0 {
-                return Asked::Nothing;
-            }
-            return Asked::Ticks(n, at + 1);
+    for (at, b) in text.iter().enumerate() {
+        if *b == b'\n' {
+            return if at == 0 { None } else { Some((n, at + 1)) };
         }
         if at == MOST_DIGITS {
-            return Asked::Nothing;
+            return None;
         }
-        let pushed = push(n, text[at]);
-        match pushed {
-            Pushed::Nothing => return Asked::Nothing,
-            Pushed::Number(more) => {
-                n = more;
-            }
-        }
-        at += 1;
+        n = push(n, *b)?;
     }
-    Asked::Nothing
+    None
 }
 
 // With the check program's settings.
@@ -108,49 +79,20 @@ fn found_word(found: Found) -> i64
     }
 }
 
-// The row but for what is in work.
-#[derive(Drop)]
-struct Standing {
-    found: i64,
-    block: i64,
-    line: i64,
-    ticks: i64,
-    left: i64,
-    x: i64,
-    y: i64,
-    remainder: i64,
-}
-
-fn stands(s: Sought) -> Standing
-    ensures { result ≡ standing_of s }
+fn row(s: Sought) -> [i64; 16]
+    ensures { result ≡ row_of s }
 {
-    let found = s.found;
     let bench = s.bench;
-    let at = bench.at;
-    Standing {
-        found: found_word(found),
-        block: word(s.block),
-        line: word(s.line),
-        ticks: word(s.ticks),
-        left: word(s.left),
-        x: at.x,
-        y: at.y,
-        remainder: word(bench.remainder),
-    }
-}
-
-fn join(s: Standing, w: WorkWords) -> [i64; 16]
-    ensures { result ≡ row_with s w }
-{
+    let w = work_words(bench.work);
     [
-        s.found,
-        s.block,
-        s.line,
-        s.ticks,
-        s.left,
-        s.x,
-        s.y,
-        s.remainder,
+        found_word(s.found),
+        word(s.block),
+        word(s.line),
+        word(s.ticks),
+        word(s.left),
+        bench.at.x,
+        bench.at.y,
+        word(bench.remainder),
         w.kind,
         w.a,
         w.b,
@@ -160,15 +102,6 @@ fn join(s: Standing, w: WorkWords) -> [i64; 16]
         w.f,
         w.g,
     ]
-}
-
-fn row(s: Sought) -> [i64; 16]
-    ensures { result ≡ row_of s }
-{
-    let bench = s.bench;
-    let work = bench.work;
-    let standing = stands(s);
-    join(standing, work_words(work))
 }
 
 // The row in bytes.
@@ -193,19 +126,18 @@ fn write_row(to: &mut io::Stdout, s: Sought) -> io::Result<()> {
 }
 
 fn answer(rt: &HostRuntime, text: &[u8]) -> ExitCode {
-    let asked = ask(text);
-    match asked {
-        Asked::Ticks(ticks, at) => match write_row(&mut rt.stdout(), find(&text[at..], ticks)) {
-            Ok(()) => ExitCode::SUCCESS,
-            Err(error) => unwritten(
-                &mut rt.stderr(),
-                b"jobwhere: cannot write where the job stands",
-                error,
-            ),
-        },
-        Asked::Nothing => refuse(
+    let Some((ticks, at)) = ask(text) else {
+        return refuse(
             &mut rt.stderr(),
             b"jobwhere: the first line is no number of ticks: Success",
+        );
+    };
+    match write_row(&mut rt.stdout(), find(&text[at..], ticks)) {
+        Ok(()) => ExitCode::SUCCESS,
+        Err(error) => unwritten(
+            &mut rt.stderr(),
+            b"jobwhere: cannot write where the job stands",
+            error,
         ),
     }
 }
@@ -214,9 +146,8 @@ fn answer(rt: &HostRuntime, text: &[u8]) -> ExitCode {
 fn main(rt: HostRuntime) -> ExitCode {
     // The digits, their LF, and one byte more than a text may have, so that a longer one is seen to be longer.
     let mut text = [0u8; MOST_DIGITS + 1 + LONGEST_TEXT + 1];
-    let input = input::read(&mut rt.stdin(), &mut text);
-    match input {
-        Input::Bytes(len) => answer(&rt, &text[..len]),
-        Input::Failed(error) => fail(&mut rt.stderr(), b"jobwhere: cannot read the job", error),
+    match input::read(&mut rt.stdin(), &mut text) {
+        Ok(len) => answer(&rt, &text[..len]),
+        Err(error) => fail(&mut rt.stderr(), b"jobwhere: cannot read the job", error),
     }
 }

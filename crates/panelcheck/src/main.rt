@@ -8,7 +8,7 @@ ghost use Rattle.panelcheck.specs.computed.Rows.{used_up, ReadsBehind, RoomLeft}
 ghost use Rattle.std.specs.Process.{exit_status};
 
 use bench::Bench;
-use input::{ENDED_BY_PIPE, Input, read_some};
+use input::{ENDED_BY_PIPE, read_some};
 use panel::{PanelCheck, PieceRead, SCRATCH};
 use row::lines::has_room;
 use settings::standard;
@@ -22,38 +22,32 @@ const PIECE: usize = 1024;
 
 const ROWS: usize = 1792;
 
-// How many bytes of rows wait to be written, or that they cannot be written.
+// Why a listing is not whole.
 #[derive(Drop)]
-enum Rows {
-    Waiting(usize),
+enum Failed {
+    Unread,
     Unwritten(Error),
 }
 
-// How a listing ended: with its last row, or before it.
-#[derive(Drop)]
-enum Listing {
-    Whole,
-    Unread,
-    Unwritten(Error),
+// Only a write passes its error on.
+impl From<Error> for Failed {
+    fn from(error: Error) -> Failed {
+        Failed::Unwritten(error)
+    }
 }
 
 // What the check has to hand out is the panel's listing, whatever the text.
 fn start() -> PanelCheck
     ensures { Lists standard_settings result }
 {
-    let made = Bench::make(standard());
-    let bench = made.bench;
-    PanelCheck::start(bench)
+    PanelCheck::start(Bench::make(standard()).bench)
 }
 
 // Whether the next piece is to be read first.
 fn used_up(from: usize, len: usize, last: bool) -> bool
     ensures { result ≡ used_up from len last }
 {
-    if last {
-        return false;
-    }
-    from == len
+    !last && from == len
 }
 
 // One call of the check. Its row goes behind those that wait.
@@ -73,36 +67,32 @@ fn read(
 
 // Writes all of the bytes, or stops at the first write that takes nothing or fails.
 fn put<W: Write>(to: &mut W, bytes: &[u8]) -> io::Result<()> {
-    let mut done = 0;
-    while done < bytes.len() {
-        let more = to.write(&bytes[done..])?;
-        if more == 0 {
+    let mut rest = bytes;
+    while !rest.is_empty() {
+        let taken = to.write(rest)?;
+        if taken == 0 {
             return Err(Error::from(ErrorKind::WriteZero));
         }
-        done += more;
+        rest = &rest[taken..];
     }
     Ok(())
 }
 
-// Writes the rows that wait, if all shall go or no further one surely fits.
-fn write(to: &mut Stdout, rows: &[u8], waiting: usize, all: bool) -> Rows
+// Writes the rows that wait, if all shall go or no further one surely fits; answers how many bytes of rows wait then.
+fn write(to: &mut Stdout, rows: &[u8], waiting: usize, all: bool) -> io::Result<usize>
     requires { waiting ≤ length rows.now }
     ensures { RoomLeft result (length rows.now) }
 {
-    if !all {
-        if has_room(rows.len(), waiting) {
-            return Rows::Waiting(waiting);
-        }
+    if !all && has_room(rows.len(), waiting) {
+        return Ok(waiting);
     }
-    match put(to, &rows[..waiting]) {
-        Ok(()) => Rows::Waiting(0),
-        Err(error) => Rows::Unwritten(error),
-    }
+    put(to, &rows[..waiting])?;
+    Ok(0)
 }
 
 // Hands the text to the check piece after piece, and writes the rows, all of them before it gets the next piece, for which it may have to
 // wait. What the check promises makes them the listing, each in its turn.
-fn list(from_in: &mut Stdin, to: &mut Stdout) -> Listing {
+fn list(from_in: &mut Stdin, to: &mut Stdout) -> Result<(), Failed> {
     let mut scratch = [0u8; SCRATCH];
     let mut piece = [0u8; PIECE];
     let mut rows = [0u8; ROWS];
@@ -113,9 +103,8 @@ fn list(from_in: &mut Stdin, to: &mut Stdout) -> Listing {
     let mut waiting = 0;
     while !check.is_over() {
         if used_up(from, len, last) {
-            let input = read_some(from_in, &mut piece);
-            let Input::Bytes(got) = input else {
-                return Listing::Unread;
+            let Ok(got) = read_some(from_in, &mut piece) else {
+                return Err(Failed::Unread);
             };
             from = 0;
             len = got;
@@ -132,19 +121,10 @@ fn list(from_in: &mut Stdin, to: &mut Stdout) -> Listing {
         );
         check = done.check;
         from += done.took;
-        let written = write(to, &rows, waiting + done.wrote, from == len);
-        match written {
-            Rows::Unwritten(error) => return Listing::Unwritten(error),
-            Rows::Waiting(still) => {
-                waiting = still;
-            }
-        }
+        waiting = write(to, &rows, waiting + done.wrote, from == len)?;
     }
-    let written = write(to, &rows, waiting, true);
-    match written {
-        Rows::Waiting(_) => Listing::Whole,
-        Rows::Unwritten(error) => Listing::Unwritten(error),
-    }
+    write(to, &rows, waiting, true)?;
+    Ok(())
 }
 
 // Why a listing is not whole; the status says nothing of it.
@@ -159,11 +139,10 @@ fn tell(to: &mut Stderr, why: &[u8]) -> ExitCode
 // A job that cannot be read to its end has no last row: half of it is another job. (`input::fail` would tell the error too, and takes more
 // memory than there is.)
 fn main(rt: HostRuntime) -> ExitCode {
-    let listing = list(&mut rt.stdin(), &mut rt.stdout());
-    match listing {
-        Listing::Whole => ExitCode::SUCCESS,
-        Listing::Unread => tell(&mut rt.stderr(), b"panelcheck: cannot read the job\n"),
-        Listing::Unwritten(error) => {
+    match list(&mut rt.stdin(), &mut rt.stdout()) {
+        Ok(()) => ExitCode::SUCCESS,
+        Err(Failed::Unread) => tell(&mut rt.stderr(), b"panelcheck: cannot read the job\n"),
+        Err(Failed::Unwritten(error)) => {
             if error.kind() == ErrorKind::BrokenPipe {
                 return ExitCode::from(ENDED_BY_PIPE);
             }

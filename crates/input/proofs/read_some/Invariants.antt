@@ -1,9 +1,7 @@
--- it ends because each interruption takes off one
-use Rattle.std.proofs.Common.{◌<◌}
+-- A read that was interrupted took nothing.
+use Rattle.std.proofs.Common.{◌≡◌, length}
+use Rattle.std.specs.Io.KnownBytes.{Keeps}
 use Rattle.input.proofs.read_some.Given as goal
 
-abbrev pub invariant-loop-error : goal.invariant-loop-error
-invariant-loop-error g l = 0 < l.left
-
-abbrev pub decreases-loop-error : goal.decreases-loop-error
-decreases-loop-error g l = l.left
+abbrev pub invariant-loop : goal.invariant-loop
+invariant-loop g l = (length l.buf ≡ length l.initial.buf) × Keeps (g.R.Read.remaining l.initial.source) (g.R.Read.remaining l.source)

@@ -3,9 +3,6 @@ use Rattle.std.specs.Prelude.{List, [], ◌∷◌, ℤ, pos}
 use Rattle.encoding.specs.Words.{word_of, refusal_of, work_words_of}
 use Rattle.seek.specs.declared.Found.{Found}
 use Rattle.seek.specs.declared.Sought.{Sought}
-use Rattle.encoding.specs.declared.encode.WorkWords.{WorkWords}
-use Rattle.encoding.specs.Words.{word_of}
-use Rattle.jobwhere.specs.declared.Standing.{Standing}
 
 -- 1 a block is in work, 0 the job is over; a refusal is minus the number of the question, as the calls from C have it
 abbrev pub found_word : Found → ℤ
@@ -20,22 +17,4 @@ row_of a =
     let w = work_words_of m.work in
     found_word a.found ∷ word_of a.block ∷ word_of a.line ∷ word_of a.ticks ∷ word_of a.left
     ∷ m.at.x ∷ m.at.y ∷ word_of m.remainder
-    ∷ w.kind ∷ w.a ∷ w.b ∷ w.c ∷ w.d ∷ w.e ∷ w.f ∷ w.g ∷ []
-
-abbrev pub standing_of : Sought → Standing
-standing_of a =
-    record {
-      found = found_word a.found;
-      block = word_of a.block;
-      line = word_of a.line;
-      ticks = word_of a.ticks;
-      left = word_of a.left;
-      x = a.bench.at.x;
-      y = a.bench.at.y;
-      remainder = word_of a.bench.remainder;
-    }
-
-abbrev pub row_with : Standing → WorkWords → List ℤ
-row_with s w =
-    s.found ∷ s.block ∷ s.line ∷ s.ticks ∷ s.left ∷ s.x ∷ s.y ∷ s.remainder
     ∷ w.kind ∷ w.a ∷ w.b ∷ w.c ∷ w.d ∷ w.e ∷ w.f ∷ w.g ∷ []

@@ -9,7 +9,7 @@ part from len piece = omega (arith, length-take (len - from) (drop from piece))
 pub loop-scratch-smaller-then-used_up : goal.loop-scratch-smaller-then-used_up
 loop-scratch-smaller-then-used_up c =
     let l = c.loop-scratch in
-    turn_input l.check l.from l.len c.in-Bytes.got l.last (sym c.used_up.ensures ∙ c.if-used_up.true)
+    turn_input l.check l.from l.len c.in-Ok.got l.last (sym c.used_up.ensures ∙ c.if-used_up.true)
 
 pub loop-scratch-preserved-then-used_up : goal.loop-scratch-preserved-then-used_up
 loop-scratch-preserved-then-used_up c =
@@ -19,7 +19,7 @@ loop-scratch-preserved-then-used_up c =
       piece_size = search rules;
       rows_size = i.rows_size;
       ordered = omega arith;
-      within = omega (arith, c.in-Bytes.ensures, i.piece_size);
+      within = omega (arith, c.in-Ok.ensures, i.piece_size);
       room = i.room;
     }
 
@@ -37,7 +37,7 @@ loop-scratch-preserved c =
     let l = c.loop-scratch in
     let i = l.invariant in
     let rows : 1792 ≡ length c.read-done.new.rows = search rules in
-    let room = c.in-Waiting.ensures in
+    let room = c.in_ok-waiting.ensures in
     record {
       scratch_size = search rules;
       piece_size = i.piece_size;

@@ -1,9 +1,6 @@
--- Each turn writes some of the bytes, and stays within them because each write does.
-use Rattle.std.proofs.Common.{length, ◌-◌, ◌≤◌}
+-- Each turn writes some of the bytes.
+use Rattle.std.proofs.Common.{length}
 use Rattle.panelcheck.proofs.put.Given as goal
 
-abbrev pub invariant-loop-done : goal.invariant-loop-done
-invariant-loop-done g l = l.done ≤ length l.bytes
-
-abbrev pub decreases-loop-done : goal.decreases-loop-done
-decreases-loop-done g l = length l.bytes - l.done
+abbrev pub decreases-loop-rest : goal.decreases-loop-rest
+decreases-loop-rest g l = length l.rest

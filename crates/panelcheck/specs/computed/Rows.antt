@@ -1,12 +1,12 @@
 -- What the program's loop needs of a call and of a write: they stay within the buffers, and calls come to an end.
-use Rattle.std.specs.Prelude.{◌≡◌, Bool, true, false, cond, List, ℕ, ◌+◌, ◌*◌, ◌≤◌, ◌<◌, eqb, length}
+use Rattle.std.specs.Prelude.{◌≡◌, Bool, true, false, cond, List, ℕ, ◌+◌, ◌*◌, ◌≤◌, ◌<◌, eqb, length, IfOk}
+use Rattle.std.specs.declared.result.Result.{Result}
 use Rattle.row.specs.computed.Buffer.{line_room}
 use Rattle.panel.specs.declared.PanelCheck.{PanelCheck}
 use Rattle.panel.specs.declared.PieceRead.{PieceRead}
 use Rattle.panel.specs.computed.Over.{is_over}
 use Rattle.panel.specs.computed.Piece.{scratch_bytes}
 use Rattle.panel.specs.computed.Rest.{calls_left}
-use Rattle.panelcheck.specs.declared.Rows.{Rows}
 
 -- of a piece bytes from .. len are left, and more of the text may come
 abbrev pub used_up : (from len : ℕ) (last : Bool) → Bool
@@ -24,6 +24,5 @@ pub record ReadsBehind (c : PanelCheck) (scratch piece : List ℕ) (last : Bool)
       → calls_left f.check < calls_left c
 
 -- where the buffer holds a row, it has room for one
-abbrev pub RoomLeft : Rows → (size : ℕ) → Type 0
-RoomLeft (Rows.Waiting waiting) size = line_room ≤ size → waiting + line_room ≤ size
-RoomLeft (Rows.Unwritten e) size = Unit {0}
+abbrev pub RoomLeft : {E : Type 0} → Result ℕ E → (size : ℕ) → Type 0
+RoomLeft r size = IfOk r (λ waiting. line_room ≤ size → waiting + line_room ≤ size)
