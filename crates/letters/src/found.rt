@@ -3,7 +3,7 @@
 ghost use Rattle.std.specs.Prelude.{◌≡◌, cond, ◌^◌, eqb, get_or};
 ghost use Rattle.letters.specs.computed.Found.{index_of, has_of, nothing_found, add_of, magnitude_after, word_in, words_in};
 
-use crate::letter::{Letter, index};
+use crate::letter::Letter;
 use crate::word::{Word, Words};
 
 // Sets of letters: the bit of a letter is 2 to the power of its index.
@@ -23,26 +23,20 @@ const ALL: u64 = 127;
 fn bit(l: Letter) -> u64
     ensures { result ≡ 2 ^ index_of l }
 {
-    1 << index(l)
-}
-
-fn bit_if(wanted: bool, one: u64) -> u64
-    ensures { result ≡ cond wanted one 0 }
-{
-    if wanted { one } else { 0 }
+    1 << l.index()
 }
 
 fn has(set: u64, l: Letter) -> bool
     ensures { result ≡ has_of set l }
 {
-    (set >> index(l)) % 2 == 1
+    (set >> l.index()) % 2 == 1
 }
 
 // What stands at a place, and 0 past the end.
 fn entry(numbers: &[u64], at: usize) -> u64
     ensures { result ≡ get_or numbers.now at 0 }
 {
-    if at < numbers.len() { numbers[at] } else { 0 }
+    numbers.get(at).copied().unwrap_or(0)
 }
 
 // Before the first word of a line.
@@ -64,16 +58,16 @@ impl Found {
         let one = bit(l);
         if has(self.stands, l) {
             return Found {
-                stands: self.stands,
                 twice: self.twice | one,
                 negative: self.negative & (ALL - one),
+                ..self
             };
         }
-        let minus = bit_if(negative, one);
+        let minus = if negative { one } else { 0 };
         Found {
             stands: self.stands | one,
-            twice: self.twice,
             negative: self.negative | minus,
+            ..self
         }
     }
 
@@ -91,7 +85,7 @@ impl Found {
             stands: has(self.stands, l),
             twice: has(self.twice, l),
             negative: has(self.negative, l),
-            magnitude: entry(magnitudes, index(l)),
+            magnitude: entry(magnitudes, l.index()),
         }
     }
 

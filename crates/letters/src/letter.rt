@@ -15,67 +15,42 @@ pub enum Letter {
     J,
 }
 
-pub fn takes_sign(l: Letter) -> bool
-    ensures { result ≡ takes_sign l }
-{
-    match l {
-        Letter::N => false,
-        Letter::G => false,
-        Letter::F => false,
-        Letter::X => true,
-        Letter::Y => true,
-        Letter::I => true,
-        Letter::J => true,
+impl Letter {
+    // The letter of a byte.
+    pub fn of_byte(b: u8) -> Option<Letter>
+        ensures { result ≡ letter_of b }
+    {
+        match b {
+            b'N' => Some(Letter::N),
+            b'G' => Some(Letter::G),
+            b'F' => Some(Letter::F),
+            b'X' => Some(Letter::X),
+            b'Y' => Some(Letter::Y),
+            b'I' => Some(Letter::I),
+            b'J' => Some(Letter::J),
+            _ => None,
+        }
     }
-}
 
-pub fn takes_point(l: Letter) -> bool
-    ensures { result ≡ takes_point l }
-{
-    match l {
-        Letter::N => false,
-        Letter::G => false,
-        Letter::F => true,
-        Letter::X => true,
-        Letter::Y => true,
-        Letter::I => true,
-        Letter::J => true,
+    pub fn takes_sign(self) -> bool
+        ensures { result ≡ takes_sign self }
+    {
+        matches!(self, Letter::X | Letter::Y | Letter::I | Letter::J)
     }
-}
 
-// The letter of a byte.
-#[derive(Drop)]
-pub enum Named {
-    Is(Letter),
-    Other,
-}
-
-pub fn of_byte(b: u8) -> Named
-    ensures { result ≡ letter_of b }
-{
-    match b {
-        b'N' => Named::Is(Letter::N),
-        b'G' => Named::Is(Letter::G),
-        b'F' => Named::Is(Letter::F),
-        b'X' => Named::Is(Letter::X),
-        b'Y' => Named::Is(Letter::Y),
-        b'I' => Named::Is(Letter::I),
-        b'J' => Named::Is(Letter::J),
-        _ => Named::Other,
+    pub fn takes_point(self) -> bool
+        ensures { result ≡ takes_point self }
+    {
+        matches!(
+            self,
+            Letter::F | Letter::X | Letter::Y | Letter::I | Letter::J
+        )
     }
-}
 
-// The letter's index in whatever has a place for each letter.
-pub fn index(l: Letter) -> usize
-    ensures { result ≡ index_of l }
-{
-    match l {
-        Letter::N => 0,
-        Letter::G => 1,
-        Letter::F => 2,
-        Letter::X => 3,
-        Letter::Y => 4,
-        Letter::I => 5,
-        Letter::J => 6,
+    // The letter's index in whatever has a place for each letter.
+    pub fn index(self) -> usize
+        ensures { result ≡ index_of self }
+    {
+        self as usize
     }
 }

@@ -5,6 +5,7 @@ ghost use Rattle.letters.specs.computed.Scan.{no_words};
 
 // A letter's word. The magnitude is in thousandths for a letter that takes a point (below 10^10), else a plain number (below 10^7).
 // A letter that does not stand, or stands twice, has no value: plus 0.
+// No enum: `OnPulse` and `path_of` ask the magnitude of any word, also of a missing one, and `Found::word` makes all seven without a jump.
 #[derive(Clone, Copy)]
 pub struct Word {
     pub stands: bool,

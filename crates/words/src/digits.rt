@@ -1,5 +1,5 @@
-// The digits from a place of a line on.
-ghost use Rattle.std.specs.Prelude.{◌≡◌, ◌≤◌, ◌<◌, length, drop};
+// The digits that the rest of a line begins with.
+ghost use Rattle.std.specs.Prelude.{◌≡◌, ◌≤◌, ◌<◌};
 ghost use Rattle.words.specs.computed.Scan.{first_byte, is_digit, digits_of, Sized};
 
 // What was read: the number that the digits write, after those that stood before, and how many of them there are.
@@ -10,36 +10,27 @@ pub struct Digits {
 }
 
 // After its last byte a line has a blank more: it ends the last number and changes nothing else.
-pub fn byte_at(s: &[u8], i: usize) -> u8
-    requires { i ≤ length s.now }
-    ensures { result ≡ first_byte (drop i s.now) }
+pub fn first_byte(rest: &[u8]) -> u8
+    ensures { result ≡ first_byte rest.now }
 {
-    if i < s.len() { s[i] } else { b' ' }
+    rest.first().copied().unwrap_or(b' ')
 }
 
 fn is_digit(b: u8) -> bool
     ensures { result ≡ is_digit b }
 {
-    if b < b'0' {
-        return false;
-    }
-    b <= b'9'
+    b'0' <= b && b <= b'9'
 }
 
 // At most so many digits, which go on after those that wrote `value`. Seven digits after seven stay far below 2^64.
-pub fn read(s: &[u8], from: usize, most: usize, value: u64) -> Digits
-    requires from_in_bounds { from ≤ length s.now }
+pub fn read(rest: &[u8], most: usize, value: u64) -> Digits
     requires most_bound { most ≤ 7 }
     requires value_bound { value < 10_000_000 }
-    ensures value { result ≡ digits_of most value (drop from s.now) }
-    ensures sized { Sized s.now from most value result }
+    ensures value { result ≡ digits_of most value rest.now }
+    ensures sized { Sized rest.now most value result }
 {
-    let mut d = Digits {
-        value: value,
-        count: 0,
-    };
-    while d.count < most {
-        let b = byte_at(s, from + d.count);
+    let mut d = Digits { value, count: 0 };
+    for &b in &rest[..most.min(rest.len())] {
         if !is_digit(b) {
             return d;
         }

@@ -1,6 +1,6 @@
 // The scan of a line: blanks are skipped, and a letter with its number is a word, which goes to its letter's place. One pass finds the
 // words and the line's end.
-ghost use Rattle.std.specs.Prelude.{◌≡◌, true, ◌+◌, length, drop};
+ghost use Rattle.std.specs.Prelude.{◌≡◌, true, ◌+◌, ◌≤◌, length, drop};
 ghost use Rattle.letters.specs.computed.Found.{words_in};
 ghost use Rattle.letters.specs.computed.Put.{Gathered};
 ghost use Rattle.words.specs.Meaning.{answer_of, not_words};
@@ -10,11 +10,12 @@ ghost use Rattle.words.specs.computed.Scan.{first_line};
 use crate::number;
 use crate::text::{end_of_line, in_line};
 use letters::found::Found;
-use letters::letter::Named;
+use letters::letter::Letter;
 use letters::word::Words;
-use letters::{found, letter, word};
+use letters::{found, word};
 
 // The answer about a line. Where it is not formed, the rest is as of an empty line.
+// No `Option<Words>`: `word_questions` and `LinesMean` of crate demands put questions and G and F to the words of any line, formed or not.
 #[derive(Clone, Copy)]
 pub struct Line {
     // Question 32: "Is it made of zero or more words ..?"
@@ -54,12 +55,13 @@ fn formed(found: Found, magnitudes: &[u64]) -> Line
 
 // No line of words, seen before its end: that is still to be found.
 fn refused(s: &[u8], from: usize) -> First
+    requires { from ≤ length s.now }
     ensures line_value { result.line ≡ not_words }
     ensures bytes_value { result.bytes ≡ from + length (first_line (drop from s.now)) }
 {
     First {
         line: not_words(),
-        bytes: end_of_line(s, from),
+        bytes: from + end_of_line(&s[from..]),
     }
 }
 
@@ -70,22 +72,20 @@ pub fn read_first(s: &[u8]) -> First
 {
     let mut found = found::nothing();
     let mut magnitudes = [0u64; 7];
+    // A word takes several bytes at once, so no `for` goes over them.
     let mut i = 0;
     while in_line(s, i) {
         let b = s[i];
         i += 1;
         if b != b' ' {
-            let named = letter::of_byte(b);
-            let Named::Is(l) = named else {
+            let Some(l) = Letter::of_byte(b) else {
                 return refused(s, i);
             };
-            let n = number::read(s, i, l);
-            if !n.right {
+            let Some(n) = number::read(&s[i..], l) else {
                 return refused(s, i);
-            }
+            };
             i += n.bytes;
-            let place = letter::index(l);
-            magnitudes[place] = found.magnitude(l, n.magnitude);
+            magnitudes[l.index()] = found.magnitude(l, n.magnitude);
             found = found.add(l, n.negative);
         }
     }

@@ -1,5 +1,5 @@
 // The lines of a job text: LF, byte 10, ends a line, and the last may lack it.
-ghost use Rattle.std.specs.Prelude.{◌≡◌, ◌+◌, ltb, length, drop};
+ghost use Rattle.std.specs.Prelude.{◌≡◌, ltb, length, drop};
 ghost use Rattle.words.specs.computed.Scan.{first_line};
 
 const LF: u8 = 10;
@@ -8,19 +8,12 @@ const LF: u8 = 10;
 pub fn in_line(text: &[u8], at: usize) -> bool
     ensures { result ≡ ltb 0 (length (first_line (drop at text.now))) }
 {
-    if text.len() <= at {
-        return false;
-    }
-    text[at] != LF
+    at < text.len() && text[at] != LF
 }
 
-// Where the line that begins here ends: at its LF, or at the end of the text.
-pub fn end_of_line(text: &[u8], from: usize) -> usize
-    ensures { result ≡ from + length (first_line (drop from text.now)) }
+// Where the text's first line ends: at its LF, or at the end of the text.
+pub fn end_of_line(text: &[u8]) -> usize
+    ensures { result ≡ length (first_line text.now) }
 {
-    let mut end = from;
-    while in_line(text, end) {
-        end += 1;
-    }
-    end
+    text.iter().position(|b| *b == LF).unwrap_or(text.len())
 }

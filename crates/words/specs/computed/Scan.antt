@@ -1,9 +1,7 @@
 -- The scan that the code is. Nothing here is to be believed: `Reading` proves that its answer is what `Meaning` asks.
 use Rattle.std.specs.Prelude.{ℕ, zero, suc, ◌+◌, ◌-◌, ◌*◌, ◌^◌, ◌≤◌, ◌<◌, List, [], ◌∷◌, Bool, true, false, cond, ◌&&◌, ltb, leb, eqb}
-use Rattle.std.specs.Prelude.{length, drop}
+use Rattle.std.specs.Prelude.{length, drop, Option, Some, None}
 use Rattle.letters.specs.declared.letter.Letter.{Letter}
-use Rattle.letters.specs.declared.letter.Named.{Named}
-use Rattle.letters.specs.declared.letter.Named.TheVariants.{Is, Other}
 use Rattle.letters.specs.declared.word.Words.{Words}
 use Rattle.letters.specs.Letter.{takes_sign, takes_point}
 use Rattle.letters.specs.Word.{one_word}
@@ -48,32 +46,34 @@ sign n k = record { negative = n; bytes = k }
 abbrev pub sign_of : (takes : Bool) → ℕ → Sign
 sign_of takes b = cond takes (cond (eqb b 45) (sign true 1) (cond (eqb b 43) (sign false 1) (sign false 0))) (sign false 0)
 
-abbrev pub amount : (right : Bool) (value bytes : ℕ) → Amount
-amount r v k = record { right = r; value = v; bytes = k }
+abbrev pub amount : (value bytes : ℕ) → Option Amount
+amount v k = Some (record { value = v; bytes = k })
 
 -- the digits w, a point, and the digits d
-abbrev pub pointed_of : (w d : Digits) → Amount
-pointed_of w d = amount (leb 1 d.count) (d.value * 10 ^ (3 - d.count)) (w.count + 1 + d.count)
+abbrev pub pointed_of : (w d : Digits) → Option Amount
+pointed_of w d = cond (ltb d.count 1) None (amount (d.value * 10 ^ (3 - d.count)) (w.count + 1 + d.count))
 
 -- fine: in thousandths, with a point or without
-abbrev pub amount_after : (fine : Bool) → Digits → (rest : List ℕ) → Amount
-amount_after false w s = amount true w.value w.count
+abbrev pub amount_after : (fine : Bool) → Digits → (rest : List ℕ) → Option Amount
+amount_after false w s = amount w.value w.count
 amount_after true w s =
-    cond (eqb (first_byte s) 46) (pointed_of w (digits_of 3 w.value (drop 1 s))) (amount true (w.value * 1000) w.count)
+    cond (eqb (first_byte s) 46) (pointed_of w (digits_of 3 w.value (drop 1 s))) (amount (w.value * 1000) w.count)
 
-abbrev pub amount_with : (fine : Bool) → Digits → List ℕ → Amount
-amount_with fine w s = cond (ltb w.count 1) (amount false 0 0) (amount_after fine w (drop w.count s))
+abbrev pub amount_with : (fine : Bool) → Digits → List ℕ → Option Amount
+amount_with fine w s = cond (ltb w.count 1) None (amount_after fine w (drop w.count s))
 
-abbrev pub amount_of : (fine : Bool) → List ℕ → Amount
+abbrev pub amount_of : (fine : Bool) → List ℕ → Option Amount
 amount_of fine s = amount_with fine (digits_of 7 0 s) s
 
-abbrev pub with_sign : Sign → Amount → Number
-with_sign g m = record { right = m.right; negative = g.negative; magnitude = m.value; bytes = g.bytes + m.bytes }
+abbrev pub with_sign : Sign → Option Amount → Option Number
+with_sign g None = None
+with_sign g (Some m) = Some (record { negative = g.negative; magnitude = m.value; bytes = g.bytes + m.bytes })
 
-abbrev pub number_after : (fine : Bool) → Sign → List ℕ → Number
+abbrev pub number_after : (fine : Bool) → Sign → List ℕ → Option Number
 number_after fine g s = with_sign g (amount_of fine (drop g.bytes s))
 
-abbrev pub number_of : Letter → List ℕ → Number
+-- none where the bytes begin with no number
+abbrev pub number_of : Letter → List ℕ → Option Number
 number_of l s = number_after (takes_point l) (sign_of (takes_sign l) (first_byte s)) s
 
 -- ---- a line
@@ -83,12 +83,13 @@ pub data NextItem : Type 0 where
   on : (skip : ℕ) → Words → NextItem
   stop : NextItem
 
-abbrev pub number_next : Words → Letter → Number → NextItem
-number_next ws l n = cond n.right (on n.bytes (put_of ws l (one_word n.negative n.magnitude))) stop
+abbrev pub number_next : Words → Letter → Option Number → NextItem
+number_next ws l None = stop
+number_next ws l (Some n) = on n.bytes (put_of ws l (one_word n.negative n.magnitude))
 
-abbrev pub letter_next : Words → Named → List ℕ → NextItem
-letter_next ws (Is l) s = number_next ws l (number_of l s)
-letter_next ws Other s = stop
+abbrev pub letter_next : Words → Option Letter → List ℕ → NextItem
+letter_next ws None s = stop
+letter_next ws (Some l) s = number_next ws l (number_of l s)
 
 abbrev pub next_item : Words → ℕ → List ℕ → NextItem
 next_item ws b s = cond (eqb b 32) (on 0 ws) (letter_next ws (letter_of b) s)
@@ -118,8 +119,8 @@ first_line (b ∷ s) = until_lf (eqb b 10) b (first_line s)
 
 -- ---- what keeps the numbers in range
 
--- digits read from a place on, after those that wrote the value: each makes the number at most ten times as large
-pub record Sized (s : List ℕ) (from most value : ℕ) (d : Digits) : Type 0 where
-  pub within : from + d.count ≤ length s
+-- digits read after those that wrote the value: each makes the number at most ten times as large
+pub record Sized (s : List ℕ) (most value : ℕ) (d : Digits) : Type 0 where
+  pub within : d.count ≤ length s
   pub few : d.count ≤ most
   pub low : d.value < (value + 1) * 10 ^ d.count

@@ -1,6 +1,7 @@
 -- The first line of a text, byte by byte; and a number, which no more than its line can have a part in.
-use Rattle.std.specs.Prelude.{◌≡◌, refl, Bool, true, false, cond, not, ◌&&◌, List, [], ◌∷◌, ℕ, zero, suc, ◌+◌, ◌*◌, ◌≤◌, ◌<◌, eqb, ltb}
-use Rattle.std.specs.Prelude.{length, drop, get_or}
+use Rattle.std.specs.Prelude.{◌≡◌, refl, Bool, true, false, cond, not, ◌&&◌, List, [], ◌∷◌, ℕ, zero, suc, ◌+◌, ◌-◌, ◌*◌, ◌^◌, ◌≤◌, ◌<◌, eqb, ltb}
+use Rattle.std.specs.Prelude.{length, drop, get_or, Option, Some, None, IfSome, unwrap_or}
+use Rattle.std.specs.List.{position_or_len}
 use Rattle.std.proofs.Common.{sym, ap, ◌∙◌, arith, add-one, length-drop, drop_of_length-le}
 use Rattle.std.proofs.Math.Seq.{drop-cons}
 use borrow.Author.Tests.{eqb-true, eqb-false, eq-eqb, ne_eqb, ltb-true, ltb-false, lt-ltb}
@@ -11,7 +12,7 @@ use Rattle.words.specs.declared.number.Sign.{Sign}
 use Rattle.words.specs.declared.number.Amount.{Amount}
 use Rattle.words.specs.computed.Scan.{until_lf, first_line}
 use Rattle.words.specs.computed.Scan.{first_byte, is_digit, digits, push_of, more_digits, digits_of}
-use Rattle.words.specs.computed.Scan.{sign, sign_of, amount, pointed_of, amount_after, amount_with, amount_of, with_sign, number_after}
+use Rattle.words.specs.computed.Scan.{sign, sign_of, amount, amount_after, amount_with, amount_of, with_sign, number_after}
 use Rattle.words.specs.computed.Scan.{number_of}
 
 -- ---- its bytes
@@ -73,6 +74,25 @@ in_text s i e = by (ltb i (length s)) refl (ltb-true 0 (length (first_line (drop
 pub at_end_lem : (s : List ℕ) (i : ℕ) → ltb 0 (length (first_line (drop i s))) ≡ false → length (first_line (drop i s)) ≡ 0
 at_end_lem s i e = omega (arith, ltb-false 0 (length (first_line (drop i s))) e)
 
+-- the place of the first LF, or the text's end
+pub first_lf : (s : List ℕ) → position_or_len (λ b. eqb b 10) s ≡ length (first_line s)
+unfolding first_line
+first_lf [] = refl
+first_lf (b ∷ s) = by (eqb b 10) (first_lf s)
+  where
+    by : (lf : Bool) → position_or_len (λ b. eqb b 10) s ≡ length (first_line s)
+        → cond (not lf) (1 + position_or_len (λ b. eqb b 10) s) 0 ≡ length (until_lf lf b (first_line s))
+    by true e = refl
+    by false e = omega (arith, e)
+
+-- as `position` tells it
+pub place_or_end : (place end : ℕ) → place ≤ end → unwrap_or (cond (ltb place end) (Some place) None) end ≡ place
+place_or_end place end h = by (ltb place end) refl
+  where
+    by : (b : Bool) → ltb place end ≡ b → unwrap_or (cond b (Some place) None) end ≡ place
+    by true e = refl
+    by false e = omega (arith, ltb-false place end e)
+
 -- ---- a number ends with its line
 
 digits_first : (most : ℕ) (d : Digits) (s : List ℕ) → more_digits most d s ≡ more_digits most d (first_line s)
@@ -111,7 +131,7 @@ amount_first fine s =
     let rest : amount_after fine w (drop w.count s) ≡ amount_after fine w (drop w.count (first_line s)) =
     after_first fine w (drop w.count s) ∙ ap (amount_after fine w) (sym (first_drop w.count s few)) in
     ap (λ (d : Digits). amount_with fine d s) (digits_first 7 (digits 0 0) s)
-    ∙ ap (λ (a : Amount). cond (ltb w.count 1) (amount false 0 0) a) rest
+    ∙ ap (λ (a : Option Amount). cond (ltb w.count 1) None a) rest
 
 sign_first : (takes : Bool) (s : List ℕ) → sign_of takes (first_byte s) ≡ sign_of takes (first_byte (first_line s))
 unfolding first_line
@@ -125,26 +145,35 @@ sign_first takes (b ∷ s) = by (eqb b 10) refl takes
 
 -- ---- nor is it longer
 
-after_short : (fine : Bool) (w : Digits) (s : List ℕ) → (amount_after fine w s).bytes ≤ w.count + length s
+-- what was read of so many bytes or fewer
+abbrev Within : ℕ → Option Amount → Type 0
+Within k None = Unit
+Within k (Some m) = m.bytes ≤ k
+
+after_short : (fine : Bool) (w : Digits) (s : List ℕ) → Within (w.count + length s) (amount_after fine w s)
 after_short false w s = omega arith
 after_short true w [] = omega arith
-after_short true w (b ∷ s) = by (eqb b 46) (digits_short 3 (digits w.value 0) s)
+after_short true w (b ∷ s) = by (eqb b 46) (ltb (digits_of 3 w.value s).count 1) (digits_short 3 (digits w.value 0) s)
   where
-    by : (point : Bool) → (digits_of 3 w.value s).count ≤ 0 + length s
-        → (cond point (pointed_of w (digits_of 3 w.value s)) (amount true (w.value * 1000) w.count)).bytes ≤ w.count + suc (length s)
-    by true h = omega (arith, h)
-    by false h = omega arith
+    by : (point none : Bool) → (digits_of 3 w.value s).count ≤ 0 + length s
+        → Within (w.count + suc (length s))
+        (cond point (cond none None (amount ((digits_of 3 w.value s).value * 10 ^ (3 - (digits_of 3 w.value s).count))
+        (w.count + 1 + (digits_of 3 w.value s).count))) (amount (w.value * 1000) w.count))
+    by true true h = tt
+    by true false h = omega (arith, h)
+    by false none h = omega arith
 
-amount_short : (fine : Bool) (s : List ℕ) → (amount_of fine s).bytes ≤ length s
-amount_short fine s = by (ltb w.count 1) (digits_short 7 (digits 0 0) s) (after_short fine w (drop w.count s))
+amount_short : (fine : Bool) (s : List ℕ) → Within (length s) (amount_of fine s)
+amount_short fine s = by (ltb w.count 1) (digits_short 7 (digits 0 0) s) (amount_after fine w (drop w.count s)) (after_short fine w (drop w.count s))
   where
     w : Digits
     w = digits_of 7 0 s
 
-    by : (none : Bool) → w.count ≤ 0 + length s → (amount_after fine w (drop w.count s)).bytes ≤ w.count + length (drop w.count s)
-        → (cond none (amount false 0 0) (amount_after fine w (drop w.count s))).bytes ≤ length s
-    by true few h = omega arith
-    by false few h = omega (arith, h, few, length-drop w.count s)
+    by : (none : Bool) → w.count ≤ 0 + length s → (m : Option Amount) → Within (w.count + length (drop w.count s)) m
+        → Within (length s) (cond none None m)
+    by true few m h = tt
+    by false few None h = tt
+    by false few (Some m) h = omega (arith, h, few, length-drop w.count s)
 
 pub sign_short : (takes : Bool) (s : List ℕ) → (sign_of takes (first_byte s)).bytes ≤ length s
 sign_short false s = omega arith
@@ -156,10 +185,16 @@ sign_short true (b ∷ s) = by (eqb b 45) (eqb b 43)
     by false true = omega arith
     by false false = omega arith
 
-pub number_short : (l : Letter) (s : List ℕ) → (number_of l s).bytes ≤ length s
+pub number_short : (l : Letter) (s : List ℕ) → IfSome (number_of l s) (λ n. n.bytes ≤ length s)
 number_short l s =
-    let g = sign_of (takes_sign l) (first_byte s) in
-    omega (arith, sign_short (takes_sign l) s, amount_short (takes_point l) (drop g.bytes s), length-drop g.bytes s)
+    by (amount_of (takes_point l) (drop g.bytes s)) (amount_short (takes_point l) (drop g.bytes s))
+  where
+    g : Sign
+    g = sign_of (takes_sign l) (first_byte s)
+
+    by : (m : Option Amount) → Within (length (drop g.bytes s)) m → IfSome (with_sign g m) (λ n. n.bytes ≤ length s)
+    by None h = tt
+    by (Some m) h = omega (arith, sign_short (takes_sign l) s, h, length-drop g.bytes s)
 
 pub number_first : (l : Letter) (s : List ℕ) → number_of l s ≡ number_of l (first_line s)
 number_first l s =

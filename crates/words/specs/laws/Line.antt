@@ -1,11 +1,9 @@
 -- The scan of a line: the text of right items is read and their words are found; bytes that it accepts are the text of right items.
-use Rattle.std.specs.Prelude.{ℕ, zero, suc, ◌≡◌, refl, ◌⊎◌, List, [], ◌∷◌, ◌++◌, Bool, true, false, eqb, length, drop}
+use Rattle.std.specs.Prelude.{ℕ, zero, suc, ◌≡◌, refl, ◌⊎◌, List, [], ◌∷◌, ◌++◌, Bool, true, false, Option, Some, None, eqb, length, drop}
 use Rattle.std.proofs.Common.{ap, ◌∙◌, inl, inr, eqb-true}
 use Rattle.std.proofs.Math.Seq.{drop-append_seam}
 use Rattle.letters.specs.declared.letter.Letter.{Letter}
 use Rattle.letters.specs.declared.letter.Letter.TheVariants.{N, G, F, X, Y, I, J}
-use Rattle.letters.specs.declared.letter.Named.{Named}
-use Rattle.letters.specs.declared.letter.Named.TheVariants.{Is, Other}
 use Rattle.letters.specs.declared.word.Words.{Words}
 use Rattle.letters.specs.Letter.{letter_byte}
 use Rattle.letters.specs.Word.{one_word}
@@ -13,6 +11,7 @@ use Rattle.letters.specs.computed.Scan.{letter_of}
 use Rattle.letters.specs.laws.Scan.{put_of}
 use Rattle.letters.specs.laws.Letter.{letter_of_lem, letter_byte_lem}
 use Rattle.words.specs.declared.line.Line.{Line}
+use Rattle.words.specs.declared.number.Number.{Number}
 use Rattle.words.specs.Grammar.{Item, blank, word, line_text, RightLine, LineOfWords}
 use Rattle.words.specs.Meaning.{is_minus, magnitude_of, answer_of, not_words}
 use Rattle.words.specs.computed.Scan.{number_of, NextItem, on, next_item, number_next, follow, scan_of}
@@ -82,10 +81,10 @@ empty = record { items = []; right = tt; text = refl }
 more_blank : (s : List ℕ) → LineOfWords s → LineOfWords (32 ∷ s)
 more_blank s r = record { items = blank ∷ r.items; right = (tt, r.right); text = ap (λ (v : List ℕ). 32 ∷ v) r.text }
 
-more_word : (l : Letter) (s : List ℕ) → (number_of l s).right ≡ true → LineOfWords (drop (number_of l s).bytes s)
+more_word : (l : Letter) (m : Number) (s : List ℕ) → number_of l s ≡ Some m → LineOfWords (drop m.bytes s)
     → LineOfWords (letter_byte l ∷ s)
-more_word l s h r =
-    let n = number_in l s h in
+more_word l m s h r =
+    let n = number_in l m s h in
     record {
       items = word l n.sg n.w n.f ∷ r.items;
       right = (n.right, r.right);
@@ -93,14 +92,13 @@ more_word l s h r =
     }
 
 module _ (ws : Words) (b : ℕ) (s : List ℕ) (known : (k : ℕ) (v : Words) → Answered (drop k s) (scan_of k v s)) where
-  word_answered : (l : Letter) (right : Bool) → (number_of l s).right ≡ right
-      → Answered (letter_byte l ∷ s) (go_on s (number_next ws l (number_of l s)))
-  word_answered l true e = rw e (with_more (more_word l s e) (known _ _))
-  word_answered l false e = inr (rw e)
+  word_answered : (l : Letter) (n : Option Number) → number_of l s ≡ n → Answered (letter_byte l ∷ s) (go_on s (number_next ws l n))
+  word_answered l None e = inr refl
+  word_answered l (Some n) e = with_more (more_word l n s e) (known _ _)
 
-  named_answered : (n : Named) → letter_of b ≡ n → eqb b 32 ≡ false → Answered (b ∷ s) (go_on s (next_item ws b s))
-  named_answered (Is l) e g = rw (g, e) (rw (letter_byte_lem b l e) (word_answered l (number_of l s).right refl))
-  named_answered Other e g = inr (rw (g, e))
+  named_answered : (n : Option Letter) → letter_of b ≡ n → eqb b 32 ≡ false → Answered (b ∷ s) (go_on s (next_item ws b s))
+  named_answered None e g = inr (rw (g, e))
+  named_answered (Some l) e g = rw (g, e) (rw (letter_byte_lem b l e) (word_answered l (number_of l s) refl))
 
   next_answered : (x : Bool) → eqb b 32 ≡ x → Answered (b ∷ s) (go_on s (next_item ws b s))
   next_answered true e = rw e (rw (eqb-true b 32 e) (with_more (more_blank s) (known 0 ws)))

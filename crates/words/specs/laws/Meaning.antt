@@ -1,9 +1,8 @@
 -- `meaning_of` is the answer that `Means` allows, the scan gives it, and how large its numbers are.
-use Rattle.std.specs.Prelude.{ℕ, ◌*◌, ◌^◌, ◌<◌, ◌≡◌, refl, List, [], ◌∷◌, Bool, true, false, cond, length}
+use Rattle.std.specs.Prelude.{ℕ, ◌*◌, ◌^◌, ◌<◌, ◌≡◌, refl, List, [], ◌∷◌, Bool, true, false, Some, cond, length}
 use Rattle.std.proofs.Common.{sym, ap, ◌∙◌, true≢false, arith, eqb-true}
 use Rattle.std.proofs.lemmas.Bool.{false≢true}
 use Rattle.letters.specs.declared.letter.Letter.{Letter}
-use Rattle.letters.specs.declared.letter.Named.TheVariants.{Is}
 use Rattle.letters.specs.Letter.{letter_byte, takes_point, unit_of, same}
 use Rattle.letters.specs.Word.{missing_word, word_at}
 use Rattle.letters.specs.computed.Scan.{letter_of}
@@ -40,7 +39,7 @@ scan_means s = means_unique s (scan_line s) (meaning_of s) (line_means s) (meani
 
 same_letter : (k l : Letter) → same k l ≡ true → k ≡ l
 same_letter k l h =
-    let e : Is k ≡ Is l = sym (letter_of_lem k) ∙ ap letter_of (eqb-true (letter_byte k) (letter_byte l) h) ∙ letter_of_lem l in
+    let e : Some k ≡ Some l = sym (letter_of_lem k) ∙ ap letter_of (eqb-true (letter_byte k) (letter_byte l) h) ∙ letter_of_lem l in
     cc
 
 abbrev Below : ℕ → Value → Type 0

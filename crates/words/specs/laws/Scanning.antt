@@ -1,9 +1,8 @@
 -- How far the loop of `line::read_first` has come: in the text it is where the scan of the text's first line is.
 use Rattle.std.specs.Prelude.{ℕ, zero, suc, ◌+◌, ◌≤◌, ◌<◌, ◌≡◌, refl, List, [], ◌∷◌, Bool, true, false, cond, eqb, length, drop, get_or}
-use Rattle.std.proofs.Common.{sym, ap, subst, ◌∙◌, arith, length-drop, get_or-drop, eqb-true}
+use Rattle.std.specs.Prelude.{Option, Some, None, IfSome}
+use Rattle.std.proofs.Common.{sym, ap, ◌∙◌, arith, length-drop, get_or-drop, eqb-true}
 use Rattle.letters.specs.declared.letter.Letter.{Letter}
-use Rattle.letters.specs.declared.letter.Named.{Named}
-use Rattle.letters.specs.declared.letter.Named.TheVariants.{Is, Other}
 use Rattle.letters.specs.declared.word.Words.{Words}
 use Rattle.letters.specs.declared.found.Found.{Found}
 use Rattle.letters.specs.computed.Scan.{letter_of, no_words}
@@ -54,23 +53,24 @@ module _ (s : List ℕ) {ws : Words} {i : ℕ} (r : Scanned (first_line s) ws i)
       letter : get_or (first_line s) i 0 ≡ 32 → ⊥
       letter e = g (sym byte ∙ e)
 
-      pub line_other : letter_of (get_or s i 0) ≡ Other → not_words ≡ scan_line (first_line s)
+      pub line_other : letter_of (get_or s i 0) ≡ None → not_words ≡ scan_line (first_line s)
       line_other e = scanned_other r inside letter (ap letter_of byte ∙ e)
 
-      module _ (l : Letter) (e : letter_of (get_or s i 0) ≡ Is l) (n : Number) (q : n ≡ number_of l (drop (i + 1) s)) where
-        number : n ≡ number_of l (drop (i + 1) (first_line s))
-        number = q ∙ number_first l (drop (i + 1) s) ∙ ap (number_of l) (sym (first_drop (i + 1) s (omega (arith, inside))))
+      module _ (l : Letter) (e : letter_of (get_or s i 0) ≡ Some l) where
+        number : number_of l (drop (i + 1) (first_line s)) ≡ number_of l (drop (i + 1) s)
+        number = ap (number_of l) (first_drop (i + 1) s (omega (arith, inside))) ∙ sym (number_first l (drop (i + 1) s))
 
-        pub line_wrong : n.right ≡ false → not_words ≡ scan_line (first_line s)
-        line_wrong p = scanned_wrong r inside letter l (ap letter_of byte ∙ e) n number p
+        pub line_wrong : number_of l (drop (i + 1) s) ≡ None → not_words ≡ scan_line (first_line s)
+        line_wrong q = scanned_wrong r inside letter l (ap letter_of byte ∙ e) (number ∙ q)
 
-        within : i + 1 + n.bytes ≤ length (first_line s)
-        within =
-            let few : n.bytes ≤ length (drop (i + 1) (first_line s)) = rw number (number_short l (drop (i + 1) (first_line s))) in
-            omega (arith, few, inside, length-drop (i + 1) (first_line s))
+        module _ (n : Number) (q : number_of l (drop (i + 1) s) ≡ Some n) where
+          within : i + 1 + n.bytes ≤ length (first_line s)
+          within =
+              let few : n.bytes ≤ length (drop (i + 1) (first_line s)) = rw (number ∙ q) at (number_short l (drop (i + 1) (first_line s))) in
+              omega (arith, few, inside, length-drop (i + 1) (first_line s))
 
-        pub line_word : n.right ≡ true → Scanned (first_line s) (put_of ws l (one_word n.negative n.magnitude)) (i + 1 + n.bytes)
-        line_word p = scanned_word r inside letter l (ap letter_of byte ∙ e) n number p within
+          pub line_word : Scanned (first_line s) (put_of ws l (one_word n.negative n.magnitude)) (i + 1 + n.bytes)
+          line_word = scanned_word r inside letter l (ap letter_of byte ∙ e) n (number ∙ q) within
 
 -- ---- a line alone
 
@@ -85,20 +85,17 @@ first_whole (b ∷ s) h = by (eqb b 10) h (first_whole s)
     by false less same = ap (λ (l : List ℕ). b ∷ l) (same (omega arith))
 
 module _ (ws : Words) (b : ℕ) (s : List ℕ) (further : (k : ℕ) (v : Words) → k ≤ length (first_line s) → scan_of k v s ≡ not_words) where
-  word_broken : (l : Letter) (right : Bool) → (number_of l s).right ≡ right → go_on s (number_next ws l (number_of l s)) ≡ not_words
-  word_broken l true e =
-      let few : (number_of l s).bytes ≤ length (first_line s) =
-      subst (λ (n : Number). n.bytes ≤ length (first_line s)) (sym (number_first l s)) (number_short l (first_line s)) in
-      rw e (further _ _ few)
-  word_broken l false e = rw e
+  word_broken : (l : Letter) (n : Option Number) → IfSome n (λ m. m.bytes ≤ length (first_line s)) → go_on s (number_next ws l n) ≡ not_words
+  word_broken l None few = refl
+  word_broken l (Some n) few = further _ _ few
 
-  named_broken : (n : Named) → letter_of b ≡ n → go_on s (letter_next ws n s) ≡ not_words
-  named_broken (Is l) e = word_broken l (number_of l s).right refl
-  named_broken Other e = refl
+  named_broken : (n : Option Letter) → go_on s (letter_next ws n s) ≡ not_words
+  named_broken None = refl
+  named_broken (Some l) = word_broken l (number_of l s) (rw (number_first l s) (number_short l (first_line s)))
 
   blank_broken : (x : Bool) → go_on s (cond x (on 0 ws) (letter_next ws (letter_of b) s)) ≡ not_words
   blank_broken true = further 0 ws (omega arith)
-  blank_broken false = named_broken (letter_of b) refl
+  blank_broken false = named_broken (letter_of b)
 
   next_broken : go_on s (next_item ws b s) ≡ not_words
   next_broken = blank_broken (eqb b 32)

@@ -1,7 +1,7 @@
 -- `read_first` is right because each way through the loop's body is one of the scan's, and at the line's end the words so far are its
 -- answer.
 use Rattle.std.proofs.Common.{◌+◌, ◌∙◌, sym, arith, rules}
-use borrow.Author.Tests.{not-true, not-false}
+use Rattle.std.proofs.lemmas.List.{take_rest}
 use Rattle.letters.specs.laws.Put.{gathered_none, gathered_more, words_more}
 use Rattle.words.specs.computed.Scan.{first_line}
 use Rattle.words.specs.laws.Run.{scanned_start}
@@ -22,11 +22,16 @@ overflow_add-i c =
     let h = (in_text c.args.s.now c.loop-b.i (sym c.in_line.ensures ∙ c.loop-b-test.true)).0 in
     search rules
 
+pub refused-requires : goal.refused-requires
+refused-requires c =
+    let h = (in_text c.args.s.now c.loop-b.i (sym c.in_line.ensures ∙ c.loop-b-test.true)).0 in
+    omega arith
+
 pub returns-in_default-clause-line_value : goal.returns-in_default-clause-line_value
 returns-in_default-clause-line_value c =
     let s = c.args.s.now in
     let on = in_text s c.loop-b.i (sym c.in_line.ensures ∙ c.loop-b-test.true) in
-    let other = sym c.of_byte-named.ensures ∙ c.in_default.is in
+    let other = sym c.of_byte.ensures ∙ c.in_default.is in
     c.refused.ensures.line_value
     ∙ line_other s c.loop-b.invariant.scanned on.0 on.1 c.if-b-ne32.true other
     ∙ scan_means (first_line s)
@@ -37,35 +42,37 @@ returns-in_default-clause-bytes_value c =
     let on = in_text s c.loop-b.i (sym c.in_line.ensures ∙ c.loop-b-test.true) in
     c.refused.ensures.bytes_value ∙ line_left s (c.loop-b.i + 1) (omega (arith, inside s c.loop-b.invariant.scanned on.0 on.1))
 
-pub returns-then-not-n-clause-line_value : goal.returns-then-not-n-clause-line_value
-returns-then-not-n-clause-line_value c =
+pub returns-in_default-read-clause-line_value : goal.returns-in_default-read-clause-line_value
+returns-in_default-read-clause-line_value c =
     let s = c.args.s.now in
     let on = in_text s c.loop-b.i (sym c.in_line.ensures ∙ c.loop-b-test.true) in
-    let letter = sym c.of_byte-named.ensures ∙ c.in-Is.is in
-    let wrong = not-true c.read-n.result.right c.if-not-n.true in
-    c.refused-then-not-n.ensures.line_value
-    ∙ line_wrong s c.loop-b.invariant.scanned on.0 on.1 c.if-b-ne32.true _ letter c.read-n.result c.read-n.ensures.value wrong
+    let letter = sym c.of_byte.ensures ∙ c.in-Some.is in
+    let wrong = rw (take_rest s (c.loop-b.i + 1)) at (sym c.read.ensures.value ∙ c.in_default-read.is) in
+    c.refused-in_default-read.ensures.line_value
+    ∙ line_wrong s c.loop-b.invariant.scanned on.0 on.1 c.if-b-ne32.true c.in-Some.l letter wrong
     ∙ scan_means (first_line s)
 
-pub returns-then-not-n-clause-bytes_value : goal.returns-then-not-n-clause-bytes_value
-returns-then-not-n-clause-bytes_value c =
+pub returns-in_default-read-clause-bytes_value : goal.returns-in_default-read-clause-bytes_value
+returns-in_default-read-clause-bytes_value c =
     let s = c.args.s.now in
     let on = in_text s c.loop-b.i (sym c.in_line.ensures ∙ c.loop-b-test.true) in
-    c.refused-then-not-n.ensures.bytes_value ∙ line_left s (c.loop-b.i + 1) (omega (arith, inside s c.loop-b.invariant.scanned on.0 on.1))
+    c.refused-in_default-read.ensures.bytes_value
+    ∙ line_left s (c.loop-b.i + 1) (omega (arith, inside s c.loop-b.invariant.scanned on.0 on.1))
 
 pub loop-b-preserved-then-b-ne32 : goal.loop-b-preserved-then-b-ne32
 loop-b-preserved-then-b-ne32 c =
     let s = c.args.s.now in
     let on = in_text s c.loop-b.i (sym c.in_line.ensures ∙ c.loop-b-test.true) in
-    let letter = sym c.of_byte-named.ensures ∙ c.in-Is.is in
+    let letter = sym c.of_byte.ensures ∙ c.in-Some.is in
     let r = c.loop-b.invariant.scanned in
     let g = c.loop-b.invariant.gathered in
-    let n = c.read-n.result in
-    let word = line_word s r on.0 on.1 c.if-b-ne32.true _ letter n c.read-n.ensures.value (not-false n.right c.if-not-n.false) in
-    rw (c.add-found.ensures, c.magnitude.ensures, c.index-place.ensures)
+    let n = c.in-Some-read.n in
+    let value = rw (take_rest s (c.loop-b.i + 1)) at (sym c.read.ensures.value ∙ c.in-Some-read.is) in
+    let word = line_word s r on.0 on.1 c.if-b-ne32.true c.in-Some.l letter n value in
+    rw (c.add-found.ensures, c.magnitude.ensures, c.index.ensures)
     (record {
-      gathered = gathered_more g c.in-Is.l n.negative n.magnitude;
-      scanned = rw (words_more g c.in-Is.l n.negative n.magnitude) word;
+      gathered = gathered_more g c.in-Some.l n.negative n.magnitude;
+      scanned = rw (words_more g c.in-Some.l n.negative n.magnitude) word;
     })
 
 pub loop-b-preserved : goal.loop-b-preserved
