@@ -69,7 +69,7 @@ fn taken(piece: &[u8], left: usize) -> usize
     ensures { result ≡ length (taken_of left piece.now) }
 {
     let most = least(left, piece.len());
-    end_of_line(&piece[..most], 0)
+    end_of_line(&piece[..most])
 }
 
 // Puts bytes of the line behind those that the scratch buffer holds, as far as there is room; answers how many it holds then.

@@ -1,0 +1,11 @@
+-- `taken` is right because what the text may have of a piece is its front.
+use Rattle.std.proofs.Common.{ℕ, List, ap, ◌∙◌, length, take}
+use Rattle.words.specs.computed.Scan.{first_line}
+use Rattle.panel.specs.laws.First.{take_min}
+use Rattle.panel.proofs.taken.Goals as goal
+
+pub returns : goal.returns
+returns c =
+    let s = c.args in
+    let front = ap (λ (n : ℕ). take n s.piece.now) c.least-most.ensures ∙ take_min s.left s.piece.now in
+    c.end_of_line.ensures ∙ ap (λ (l : List ℕ). length (first_line l)) front
