@@ -9,7 +9,6 @@ ghost use Rattle.ahead.specs.computed.Ahead.{ticking_of};
 use bench::Bench;
 use finish::works;
 use run::skip::skip_work;
-use settings::capacity;
 
 // The record after so many ticks, of a record that has been tested; ticks that are no working ones leave it as it was.
 pub fn after_ticks(m: Bench, ticks: u64) -> Bench
@@ -19,12 +18,6 @@ pub fn after_ticks(m: Bench, ticks: u64) -> Bench
     if !works(m) {
         return m;
     }
-    let settings = m.settings;
-    let at = m.at;
-    let work = m.work;
-    let q0 = capacity(settings);
-    let r = skip_work(q0, at, m.remainder, work, ticks);
-    let here = r.at;
-    let next = r.work;
-    m.moved(here, r.remainder, next)
+    let r = skip_work(m.in_work(), ticks);
+    m.moved(r.at, r.remainder, r.work)
 }

@@ -2,7 +2,9 @@
 // works at a bench alone. It goes in by value and comes back by value, beside the answer.
 #![tactic(auto)]
 
-ghost use Rattle.std.specs.Prelude.{◌≡◌, true, length};
+ghost use Rattle.std.specs.Prelude.{◌≡◌, true, false, length};
+ghost use Rattle.work.specs.Work.{is_nothing};
+ghost use Rattle.settings.specs.Settings.{capacity_of};
 ghost use Rattle.bench.specs.computed.Bench.{sound_parts, sound_of};
 ghost use Rattle.bench.specs.Bench.{fresh_of, moved_of};
 ghost use Rattle.run.specs.computed.Run.{written};
@@ -14,6 +16,7 @@ use block::questions::load_no;
 use circle::step::DIAGONAL;
 use plane::point::Point;
 use plane::travel::inside;
+use run::in_work::InWork;
 use run::run_work;
 use settings::{Settings, capacity, settings_no, standard};
 use work::{Work, begin, is_nothing, work_sound, work_tick};
@@ -225,16 +228,29 @@ impl Bench {
         self.run_sound(budget, out)
     }
 
+    // What is in work, as a run takes it.
+    pub fn in_work(self) -> InWork
+        requires { (sound_of self ≡ true) × (is_nothing self.work ≡ false) }
+        ensures capacity { result.capacity ≡ capacity_of self.settings }
+        ensures at { result.at ≡ self.at }
+        ensures remainder { result.remainder ≡ self.remainder }
+        ensures work { result.work ≡ self.work }
+    {
+        InWork {
+            capacity: capacity(self.settings),
+            at: self.at,
+            remainder: self.remainder,
+            work: self.work,
+        }
+    }
+
     // The same of a record that has been tested.
     pub fn run_sound(self, budget: u64, out: &mut [u8]) -> Ran
         requires { sound_of self ≡ true }
         ensures value { result ≡ (run_of self budget (length out.old)).ran }
         ensures out_after { out.new ≡ written (run_of self budget (length out.old)).bytes out.old }
     {
-        let settings = self.settings;
-        let at = self.at;
-        let work = self.work;
-        if is_nothing(work) {
+        if is_nothing(self.work) {
             return Ran {
                 report: Report::Idle,
                 ticks: 0,
@@ -250,14 +266,12 @@ impl Bench {
                 bench: self,
             };
         }
-        let r = run_work(capacity(settings), at, self.remainder, work, budget, out);
-        let here = r.at;
-        let next = r.work;
+        let r = run_work(self.in_work(), budget, out);
         Ran {
             report: report_of(r.ended, budget <= r.ticks),
             ticks: r.ticks,
             cycles: r.cycles,
-            bench: self.moved(here, r.remainder, next),
+            bench: self.moved(r.at, r.remainder, r.work),
         }
     }
 }

@@ -14,7 +14,6 @@ use record::read::{bench_in, left_in};
 use record::sound::is_sound;
 use record::write::store_ticks;
 use run::skip::skip_work;
-use settings::capacity;
 
 fn sum_words(sums: Sums) -> [i64; 2]
     ensures { result ≡ sum_words sums }
@@ -28,13 +27,8 @@ fn pass(words: &mut [i64; 134], k: Bench, ticks: u64) -> u64
     ensures value { result ≡ (pass_of (machine_in words.old) ticks).ticks }
     ensures words_after { words.new ≡ over (encode_of (pass_of (machine_in words.old) ticks).machine) words.old }
 {
-    let settings = k.settings;
-    let at = k.at;
-    let work = k.work;
-    let r = skip_work(capacity(settings), at, k.remainder, work, ticks);
-    let here = r.at;
-    let rest = r.work;
-    let after = k.moved(here, r.remainder, rest);
+    let r = skip_work(k.in_work(), ticks);
+    let after = k.moved(r.at, r.remainder, r.work);
     let left = left_in(words) - r.cycles;
     store_ticks(words, after, left);
     r.ticks

@@ -20,19 +20,16 @@ pub struct Finished {
 }
 
 // Whether a tick of this record is a working one: it has a block in work and is not held.
+#[tactic(auto, unfolding(crate::specs::computed::Finish::works_of))]
 pub fn works(m: Bench) -> bool
     requires { sound_of m ≡ true }
     ensures { result ≡ works_of m }
 {
-    let held = m.held;
-    let work = m.work;
-    if is_nothing(work) {
-        return false;
-    }
-    !held
+    !is_nothing(m.work) && !m.held
 }
 
 // To the end of the block in work, of a record that has been tested; one whose ticks are no working ones stays as it was.
+#[tactic(auto, unfolding(crate::specs::computed::Finish::finish_of))]
 pub fn finish(m: Bench) -> Finished
     requires { sound_of m ≡ true }
     ensures { result ≡ finish_of m }
@@ -44,12 +41,8 @@ pub fn finish(m: Bench) -> Finished
             bench: m,
         };
     }
-    let settings = m.settings;
-    let at = m.at;
-    let work = m.work;
-    let q0 = capacity(settings);
-    let left = work_left(at, work);
-    let end = left.end;
+    let q0 = capacity(m.settings);
+    let left = work_left(m.at, m.work);
     let last = ending(
         left.charges * q0,
         FEED_SCALE * left.feed,
@@ -59,6 +52,6 @@ pub fn finish(m: Bench) -> Finished
     Finished {
         cycles: left.cycles,
         ticks: last.tick,
-        bench: m.moved(end, last.remainder, Work::Nothing),
+        bench: m.moved(left.end, last.remainder, Work::Nothing),
     }
 }

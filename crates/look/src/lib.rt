@@ -14,7 +14,6 @@ use machine::Machine;
 use machine::waiting::next;
 use plane::point::Point;
 use run::skip::skip_work;
-use settings::capacity;
 
 // How far a caller may look.
 pub const MOST_TICKS: u64 = 1_000_000;
@@ -72,17 +71,11 @@ fn pass(m: Machine, ticks: u64) -> Passed
     ensures { result ≡ pass_of m ticks }
 {
     let k = m.bench;
-    let q = m.queue;
-    let settings = k.settings;
-    let at = k.at;
-    let work = k.work;
-    let r = skip_work(capacity(settings), at, k.remainder, work, ticks);
-    let here = r.at;
-    let rest = r.work;
-    let after = k.moved(here, r.remainder, rest);
+    let r = skip_work(k.in_work(), ticks);
+    let after = k.moved(r.at, r.remainder, r.work);
     let left = m.left - r.cycles;
     Passed {
-        machine: next(after, m.root, left, q),
+        machine: next(after, m.root, left, m.queue),
         ticks: r.ticks,
     }
 }
@@ -96,13 +89,12 @@ fn after_ticks(m: Machine, ticks: u64) -> Machine
     let mut now = m;
     let mut left = ticks;
     while 0 < left {
-        let k = now.bench;
-        if !works(k) {
+        if !works(now.bench) {
             return now;
         }
         let p = pass(now, left);
         now = p.machine;
-        left = left - p.ticks;
+        left -= p.ticks;
     }
     now
 }
@@ -115,15 +107,11 @@ pub fn look_sound(m: Machine, ticks: u64) -> Ahead
     if MOST_TICKS < ticks {
         return refused(m, 38);
     }
-    let k = m.bench;
-    let at = k.at;
     let then = after_ticks(m, ticks);
-    let far = then.bench;
-    let there = far.at;
     Ahead {
         answer: Answer::Done,
-        then: then,
-        sums: way(at, there),
+        then,
+        sums: way(m.bench.at, then.bench.at),
         machine: m,
     }
 }

@@ -1,3 +1,4 @@
 pub mod Ending
 pub mod Gap
 pub mod Run
+pub mod Sound

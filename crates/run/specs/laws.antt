@@ -12,3 +12,4 @@ pub mod Strip
 pub mod Skip
 pub mod Paid
 pub mod Keep
+pub mod Widest

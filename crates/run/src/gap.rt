@@ -20,18 +20,20 @@ pub struct Divided {
     pub over: u64,
 }
 
+#[tactic(auto, unfolding(crate::specs::computed::Gap::divided_of))]
 pub fn divide(due: u64, added: u64) -> Divided
     requires { 1 ≤ added }
     ensures { result ≡ divided_of due added }
 {
     let whole = due / added;
     Divided {
-        whole: whole,
+        whole,
         over: due - whole * added,
     }
 }
 
 // The gap to a cycle of this due, by a division: the remainder may be more than a tick adds, and a made-up one even more than the due.
+#[tactic(auto, unfolding(crate::specs::computed::Gap::gap_of))]
 pub fn first_gap(due: u64, added: u64, remainder: u64) -> Gap
     requires { Feed due added × (due ≤ 1696800000000) × (remainder ≤ 1696800000000) }
     ensures { result ≡ gap_of due added remainder }
@@ -80,13 +82,11 @@ pub fn next_gap(due: u64, added: u64, parts: Divided, gap: Gap) -> Gap
             remainder: more.remainder,
         };
     }
-    let over = parts.over;
-    let rest = gap.remainder;
-    let late = if_less(rest, over, 1);
-    let more = if_less(rest, over, added);
+    let late = if_less(gap.remainder, parts.over, 1);
+    let more = if_less(gap.remainder, parts.over, added);
     Gap {
         ticks: gap.ticks + parts.whole + late,
-        remainder: rest + more - over,
+        remainder: gap.remainder + more - parts.over,
     }
 }
 
@@ -111,6 +111,7 @@ pub fn arc_gap(
 }
 
 // The remainder after n ticks, none of which does the gap's cycle.
+#[tactic(auto, unfolding(crate::specs::computed::Gap::remainder_at))]
 pub fn remainder_at(due: u64, added: u64, gap: Gap, n: u64) -> u64
     requires { Before due added gap n }
     ensures { result ≡ remainder_at due added gap n }

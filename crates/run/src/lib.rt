@@ -3,11 +3,9 @@
 #![tactic(auto)]
 
 ghost use Rattle.std.specs.Prelude.{◌≡◌, min, length};
-ghost use Rattle.run.specs.computed.Run.{strip_of, ran_of, written, SoundIn};
+ghost use Rattle.run.specs.computed.Run.{strip_of, ran_of, written};
 
-use arc_run::run_arc;
-use buffer::least;
-use line_run::run_line;
+use in_work::{ArcInWork, InWork, LineInWork};
 use plane::point::Point;
 use work::Work;
 
@@ -15,6 +13,7 @@ mod arc_run;
 mod buffer;
 mod ending;
 mod gap;
+pub mod in_work;
 mod line_run;
 pub mod skip;
 
@@ -30,30 +29,30 @@ pub struct Ran {
     pub work: Work,
 }
 
-// A run of the line or the arc in work; callers ask first whether there is one.
-pub fn run_work(
-    capacity: u64,
-    at: Point,
-    remainder: u64,
-    work: Work,
-    budget: u64,
-    out: &mut [u8],
-) -> Ran
-    requires { SoundIn capacity at remainder work }
-    ensures value { result ≡ ran_of (strip_of capacity (min budget (length out.old)) at remainder work) }
-    ensures out_after { out.new ≡ written (strip_of capacity (min budget (length out.old)) at remainder work).bytes out.old }
+// A run of the line or the arc in work.
+pub fn run_work(here: InWork, budget: u64, out: &mut [u8]) -> Ran
+    ensures value { result ≡ ran_of (strip_of here.capacity (min budget (length out.old)) here.at here.remainder here.work) }
+    ensures out_after { out.new ≡ written (strip_of here.capacity (min budget (length out.old)) here.at here.remainder here.work).bytes out.old }
 {
-    let most = least(budget, out.len() as u64);
-    match work {
-        Work::Nothing => Ran {
-            ticks: 0,
-            cycles: 0,
-            ended: false,
-            at: at,
-            remainder: remainder,
-            work: Work::Nothing,
-        },
-        Work::Line(l) => run_line(capacity, at, remainder, l, most, out),
-        Work::Arc(a) => run_arc(capacity, at, remainder, a, most, out),
+    let most = budget.min(out.len() as u64);
+    let capacity = here.capacity;
+    let at = here.at;
+    let remainder = here.remainder;
+    match here.work {
+        Work::Nothing => unreachable!(),
+        Work::Line(line) => LineInWork {
+            capacity,
+            at,
+            remainder,
+            line,
+        }
+        .run(most, out),
+        Work::Arc(arc) => ArcInWork {
+            capacity,
+            at,
+            remainder,
+            arc,
+        }
+        .run(most, out),
     }
 }

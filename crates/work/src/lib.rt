@@ -8,9 +8,10 @@ ghost use Rattle.plane.specs.computed.Travel.{Wide};
 ghost use Rattle.line.specs.computed.Line.{line_at};
 ghost use Rattle.arc.specs.computed.Arc.{StandsOnArc};
 ghost use Rattle.divider.specs.Divider.{fed_of};
+ghost use Rattle.plane.specs.Byte.{cycle_byte};
 ghost use Rattle.work.specs.Work.{is_nothing, feed_of, added_of};
 ghost use Rattle.work.specs.computed.Work.{line_sound, arc_sound, work_sound, line_cycle, arc_cycle, cycle_of, charge_of, due_of};
-ghost use Rattle.work.specs.computed.Work.{advance_of};
+ghost use Rattle.work.specs.computed.Work.{cycle_with, advance_of};
 ghost use Rattle.work.specs.Work.{begun_of};
 ghost use Rattle.work.specs.computed.Asked.{Cycling, Ready, Loadable};
 
@@ -22,6 +23,7 @@ use divider::{FEED_SCALE, Fed, add_feed};
 use line::line::Line;
 use plane::byte::cycle_byte;
 use plane::point::Point;
+use plane::pulse::Pulses;
 use plane::travel::{Travel, inside};
 
 pub mod rest;
@@ -87,6 +89,20 @@ pub fn work_sound(capacity: u64, travel: Travel, at: Point, work: Work) -> bool
 
 // ---- a cycle
 
+impl Cycle {
+    // The cycle that these pulses do, after which this is in work unless the block has ended.
+    fn after(at: Point, pulses: Pulses, ended: bool, work: Work) -> Cycle
+        requires { (pulses.x ≤ 2) × (pulses.y ≤ 2) }
+        ensures { result ≡ cycle_with at (cycle_byte pulses ended) ended work }
+    {
+        Cycle {
+            at,
+            byte: cycle_byte(pulses, ended),
+            work: if ended { Work::Nothing } else { work },
+        }
+    }
+}
+
 #[tactic(auto, using(crate::specs::laws::Cycle::line_codes))]
 fn line_cycle(at: Point, l: Line) -> Cycle
     requires { line_at l at ≡ true }
@@ -94,15 +110,7 @@ fn line_cycle(at: Point, l: Line) -> Cycle
 {
     let step = l.step(at);
     let ended = step.line.done == l.cycles;
-    Cycle {
-        at: step.at,
-        byte: cycle_byte(step.pulses, ended),
-        work: if ended {
-            Work::Nothing
-        } else {
-            Work::Line(step.line)
-        },
-    }
+    Cycle::after(step.at, step.pulses, ended, Work::Line(step.line))
 }
 
 #[tactic(auto, using(crate::specs::laws::Cycle::arc_codes))]
@@ -111,12 +119,7 @@ fn arc_cycle(at: Point, a: Arc) -> Cycle
     ensures { result ≡ arc_cycle at a }
 {
     let step = a.step(at);
-    let ended = step.at == a.end;
-    Cycle {
-        at: step.at,
-        byte: cycle_byte(step.pulses, ended),
-        work: if ended { Work::Nothing } else { Work::Arc(a) },
-    }
+    Cycle::after(step.at, step.pulses, step.at == a.end, Work::Arc(a))
 }
 
 // The cycle of what is in work; callers ask first whether there is something.
@@ -126,11 +129,7 @@ fn work_cycle(at: Point, work: Work) -> Cycle
     ensures { result ≡ cycle_of at work }
 {
     match work {
-        Work::Nothing => Cycle {
-            at,
-            byte: 0,
-            work: Work::Nothing,
-        },
+        Work::Nothing => unreachable!(),
         Work::Line(l) => line_cycle(at, l),
         Work::Arc(a) => arc_cycle(at, a),
     }
@@ -154,8 +153,7 @@ fn charge(at: Point, work: Work) -> u64
     ensures { result ≡ charge_of at work }
 {
     match work {
-        Work::Nothing => STRAIGHT,
-        Work::Line(_) => STRAIGHT,
+        Work::Nothing | Work::Line(_) => STRAIGHT,
         Work::Arc(a) => a.charge(at),
     }
 }

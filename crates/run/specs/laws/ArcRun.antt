@@ -18,7 +18,8 @@ use Rattle.work.specs.declared.Work.{Work}
 use Rattle.work.specs.declared.Cycle.{Cycle}
 use Rattle.work.specs.Work.{is_nothing, following}
 use Rattle.work.specs.computed.Work.{arc_cycle, cycle_of, due_of}
-use Rattle.work.specs.laws.Cycle.{cycle_with, arc_cycle_lem, arc_codes}
+use Rattle.work.specs.computed.Work.{cycle_with}
+use Rattle.work.specs.laws.Cycle.{arc_cycle_lem, arc_codes}
 use Rattle.run.specs.declared.gap.Gap.{Gap}
 use Rattle.run.specs.computed.Run.{Strip}
 use Rattle.run.specs.computed.Gap.{next_gap, remainder_at, cleared_of}

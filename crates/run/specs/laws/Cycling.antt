@@ -75,6 +75,10 @@ some_left at (Work.Arc a) h = refl
 
 module _ {q0 f most : ℕ} {all : Strip} {out₀ out : List ℕ} {last n from c : ℕ} {at : Point} {w : Work} {g : Gap}
     (s : Cycling q0 f most all out₀ out last n from c at w g) where
+  -- the buffer keeps its length
+  pub cycling_long : (old : List ℕ) → most ≤ length old → out₀ ≡ cleared_of n old → length out ≡ length old
+  cycling_long old room clear = s.going.long ∙ cleared_long most old room s.left.short clear
+
   -- the gap, counted from the last cycle
   abbrev ahead : Gap
   ahead = gap_of (due_of q0 at w) (added_of w) s.rest

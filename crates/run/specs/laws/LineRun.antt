@@ -17,7 +17,8 @@ use Rattle.work.specs.declared.Work.{Work}
 use Rattle.work.specs.declared.Cycle.{Cycle}
 use Rattle.work.specs.Work.{is_nothing, following}
 use Rattle.work.specs.computed.Work.{line_cycle, cycle_of}
-use Rattle.work.specs.laws.Cycle.{cycle_with, line_cycle_lem, line_codes}
+use Rattle.work.specs.computed.Work.{cycle_with}
+use Rattle.work.specs.laws.Cycle.{line_cycle_lem, line_codes}
 use Rattle.run.specs.declared.gap.Gap.{Gap}
 use Rattle.run.specs.computed.Run.{Strip}
 use Rattle.run.specs.computed.Gap.{next_gap, cleared_of}

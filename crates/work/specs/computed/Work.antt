@@ -40,6 +40,10 @@ work_sound q0 t at (Work.Arc a) = arc_sound q0 t at a
 
 -- ---- a cycle
 
+-- of a step that ends its block or not
+abbrev pub cycle_with : (at : Point) (byte : ℕ) (ended : Bool) → Work → Cycle
+cycle_with at byte ended w = record { at = at; byte = byte; work = following ended w }
+
 unfoldable pub line_cycle : Line → Cycle
 line_cycle l =
     let s = stepped_of l in

@@ -17,11 +17,7 @@ use Rattle.divider.specs.Divider.{fed_of}
 use Rattle.work.specs.declared.Work.{Work}
 use Rattle.work.specs.declared.Cycle.{Cycle}
 use Rattle.work.specs.Work.{following, added_of}
-use Rattle.work.specs.computed.Work.{line_cycle, arc_cycle, cycle_of, due_of, advance_by, advance_of}
-
--- the cycle of a step that ends its block or not
-abbrev pub cycle_with : (at : Point) (byte : ℕ) (ended : Bool) → Work → Cycle
-cycle_with at byte ended w = record { at = at; byte = byte; work = following ended w }
+use Rattle.work.specs.computed.Work.{cycle_with, line_cycle, arc_cycle, cycle_of, due_of, advance_by, advance_of}
 
 pub line_cycle_lem : (l : Line) {s : Stepped} {ended : Bool} {byte : ℕ} → s ≡ stepped_of l → eqb s.line.done l.cycles ≡ ended
     → byte ≡ cycle_byte s.pulses ended
