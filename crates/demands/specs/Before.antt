@@ -1,6 +1,6 @@
 -- 02 §4, Feeds with decimals: "Jobs whose F words have no point must, from a fresh machine, give the same pulses on the same ticks as
 -- before." Before, these same rules held by the unit 1: q0 was 60 × w, and a feed number counted whole pulses per minute.
-use Rattle.std.specs.Prelude.{◌≡◌, true, false, List, [], ◌∷◌, ◌++◌, ℕ, ◌+◌, ◌*◌}
+use Rattle.std.specs.Prelude.{◌≡◌, true, false, List, [], ◌∷◌, ◌++◌, ℕ, ◌+◌, ◌*◌, Option}
 use Rattle.plane.specs.declared.point.Point.{Point}
 use Rattle.plane.specs.declared.travel.Travel.{Travel}
 use Rattle.block.specs.Feed.{finer}
@@ -16,7 +16,7 @@ use Rattle.machine.specs.declared.Machine.{Machine}
 use Rattle.machine.specs.declared.Answered.{Answered}
 use Rattle.reader.specs.declared.Feed.{Feed}
 use Rattle.reader.specs.declared.Reader.{Reader}
-use Rattle.reader.specs.Reader.{WholeKnown, feed_after, feed_number_at, reader_after}
+use Rattle.reader.specs.Reader.{WholeKnown, feed_of, feed_after, feed_number_at, reader_after}
 use Rattle.book.specs.Book.{Call, Reply, fresh_book, replies, closing}
 use Rattle.book.specs.Sums.{tick_bytes}
 use Rattle.book.specs.Unit.{finer_calls}
@@ -60,13 +60,13 @@ pub record AsBefore (u : ℕ) (s : Settings) (cs : List Call) (rs : List Reply) 
 pub record EveryWholeFeed : Type 0 where
   -- the unit 1 is 01's: "Capacity q0 = 60 × w. The block's feed number f is pulses per minute: millimetres per minute times p."
   pub capacity : (s : Settings) → capacity_at 1 s ≡ 60 * s.clock
-  pub feed : (p millimetres : ℕ) → feed_number_at 1 p (Feed.Known millimetres 0) ≡ millimetres * p
+  pub feed : (p millimetres : ℕ) → feed_number_at 1 p (feed_of millimetres 0) ≡ millimetres * p
   -- and the unit 1,000 is 02 §4's: "The feed number becomes thousandths of a pulse per minute and q0 becomes 60,000 × w."
   pub capacity_now : (s : Settings) → capacity_at feed_unit s ≡ 60000 * s.clock
   pub feed_now : (p millimetres thousandths : ℕ)
-      → feed_number_at feed_unit p (Feed.Known millimetres thousandths) ≡ (millimetres * 1000 + thousandths) * p
+      → feed_number_at feed_unit p (feed_of millimetres thousandths) ≡ (millimetres * 1000 + thousandths) * p
   -- the F of a word without a point is the number that its digits write
-  pub known : (f : Feed) (digits : List ℕ) → feed_after f (one_word false (magnitude_of F digits [])) ≡ Feed.Known (number digits) 0
+  pub known : (f : Option Feed) (digits : List ℕ) → feed_after f (one_word false (magnitude_of F digits [])) ≡ feed_of (number digits) 0
   -- a line of such a job, read at a machine wherever its block would start, asks for the same block; what is known after it is whole again
   pub line : (k : Reader) → WholeKnown k.feed → (scale : ℕ) (start : Point) (bytes : List ℕ) → NoPoint bytes
       → (l : Line) → Means bytes l

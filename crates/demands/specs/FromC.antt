@@ -1,6 +1,7 @@
 -- The demands from C, where the caller owns the record as 134 words: on the words of a sound record each call is the machine's own, so that
 -- what is claimed of the machine's calls is claimed of these; all other words get 9 and stay as they are.
 use Rattle.std.specs.Prelude.{◌≡◌, ◌⊎◌, List, ℕ, zero, suc, ◌-◌, ◌^◌, ◌≤◌, ◌<◌, ℤ, pos, negsuc, length, take, drop, replicate}
+use Rattle.std.specs.Prelude.{Option, Some, None}
 use Rattle.std.specs.Borrow.{Bor, MutBor}
 use contract.Lifetimes.{Lfts}
 use Rattle.circle.specs.declared.plane.Turn.{Turn}
@@ -132,9 +133,9 @@ MadeWords s before n after =
 -- ---- a line of a job text, with the G and F known in 2 words
 
 -- an F as a text can write it: seven digits and three decimals
-abbrev pub FeedWritten : Feed → Type 0
-FeedWritten Feed.Unknown = Unit {0}
-FeedWritten (Feed.Known millimetres thousandths) = (millimetres < 10 ^ 7) × (thousandths < 1000)
+abbrev pub FeedWritten : Option Feed → Type 0
+FeedWritten None = Unit {0}
+FeedWritten (Some f) = (f.millimetres < 10 ^ 7) × (f.thousandths < 1000)
 
 -- words that tell nothing known
 abbrev pub NotKnown : List ℤ → Type 0

@@ -1,6 +1,6 @@
 -- 01, "Questions, and the number when the answer is no", and 02's 38: what each call is asked, question by question. 1, 2 and 3 are in
 -- Bench, 11 to 16 in Block, the list behind 9 in Sound; 30, which is asked of a whole text, is in Texts.
-use Rattle.std.specs.Prelude.{◌≡◌, Bool, true, false, List, ℕ, ◌*◌, ◌%◌, ◌≤◌, ◌<◌, length}
+use Rattle.std.specs.Prelude.{◌≡◌, Bool, true, false, List, ℕ, ◌*◌, ◌%◌, ◌≤◌, ◌<◌, length, Option}
 use Rattle.plane.specs.declared.point.Point.{Point}
 use Rattle.block.specs.declared.Block.{Block}
 use Rattle.settings.specs.declared.Settings.{Settings}
@@ -68,7 +68,7 @@ abbrev pub MotionAndFeedKnown : (after : Reader) → Words → Type 0
 MotionAndFeedKnown after ws = moving ws ≡ true → (motion_known after.motion ≡ true) × (feed_known after.feed ≡ true)
 
 -- "Do I or J stand only under G 2 or 3, and does a line under 2 or 3 with X or Y have I or J? 37."
-pub record CentreStands (m : Motion) (ws : Words) : Type 0 where
+pub record CentreStands (m : Option Motion) (ws : Words) : Type 0 where
   pub only : centre_stands ws ≡ true → is_arc m ≡ true
   pub there : is_arc m ≡ true → end_stands ws ≡ true → centre_stands ws ≡ true
 

@@ -16,35 +16,31 @@ pub struct Known {
     pub feed: i64,
 }
 
-fn motion_word(motion: Motion) -> i64
+fn motion_word(motion: Option<Motion>) -> i64
     ensures { result ≡ motion_word motion }
 {
     match motion {
-        Motion::Unknown => 0,
-        Motion::Line => 1,
-        Motion::Arc(turn) => turn_word(turn),
+        None => 0,
+        Some(Motion::Line) => 1,
+        Some(Motion::Arc(turn)) => turn_word(turn),
     }
 }
 
-fn feed_word(feed: Feed) -> i64
+fn feed_word(feed: Option<Feed>) -> i64
     ensures { result ≡ feed_word feed }
 {
     match feed {
-        Feed::Unknown => -1,
-        Feed::Known(millimetres, thousandths) => {
-            word(millimetres as u64 * 1_000 + thousandths as u64)
-        }
+        None => -1,
+        Some(known) => word(known.millimetres as u64 * 1_000 + known.thousandths as u64),
     }
 }
 
 pub fn known_of(k: Reader) -> Known
     ensures { result ≡ known_of k }
 {
-    let motion = k.motion;
-    let feed = k.feed;
     Known {
-        motion: motion_word(motion),
-        feed: feed_word(feed),
+        motion: motion_word(k.motion),
+        feed: feed_word(k.feed),
     }
 }
 
@@ -63,18 +59,17 @@ pub struct DecodedKnown {
 }
 
 // As a text can write it: seven digits and three decimals.
-fn feed_of(word: i64) -> Feed
+fn feed_of(word: i64) -> Option<Feed>
     ensures { result ≡ feed_read word }
 {
     let p = part(word);
-    if p.negative {
-        return Feed::Unknown;
+    if p.negative || 10_000_000_000 <= p.magnitude {
+        return None;
     }
-    let f = p.magnitude;
-    if f < 10_000_000_000 {
-        return Feed::Known((f / 1_000) as u32, (f % 1_000) as u32);
-    }
-    Feed::Unknown
+    Some(Feed {
+        millimetres: (p.magnitude / 1_000) as u32,
+        thousandths: (p.magnitude % 1_000) as u32,
+    })
 }
 
 pub fn reader_of(k: Known) -> Reader
@@ -94,10 +89,7 @@ pub fn known_right(k: Known) -> bool
         lower: -1,
         upper: 9_999_999_999,
     };
-    if !within(motions, k.motion) {
-        return false;
-    }
-    within(feeds, k.feed)
+    within(motions, k.motion) && within(feeds, k.feed)
 }
 
 pub fn decode_known(words: [i64; 2]) -> DecodedKnown

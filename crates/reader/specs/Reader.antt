@@ -1,5 +1,5 @@
 -- 01, Questions, "Job text": what a line of words asks of the machine.
-use Rattle.std.specs.Prelude.{◌≡◌, Bool, true, false, cond, ◌||◌, ℕ, ◌+◌, ◌*◌, ◌/◌, ◌%◌, eqb, ℤ}
+use Rattle.std.specs.Prelude.{◌≡◌, Bool, true, false, cond, ◌||◌, ℕ, ◌+◌, ◌*◌, ◌/◌, ◌%◌, eqb, ℤ, Option, Some, None, is_some}
 use Rattle.whole.specs.Sign.{signed}
 use Rattle.plane.specs.declared.point.Point.{Point}
 use Rattle.circle.specs.declared.plane.Turn.{Turn}
@@ -16,27 +16,30 @@ use Rattle.plane.specs.Point.{equal_point}
 
 -- before the first line none is known
 abbrev pub unknown : Reader
-unknown = record { motion = Motion.Unknown; feed = Feed.Unknown }
+unknown = record { motion = None; feed = None }
 
 -- G 1 is a straight line, 2 an arc clockwise, 3 one counterclockwise
-abbrev pub motion_of : ℕ → Motion
-motion_of g = cond (eqb g 1) Motion.Line (cond (eqb g 2) (Motion.Arc Turn.Clockwise)
-    (cond (eqb g 3) (Motion.Arc Turn.Counterclockwise) Motion.Unknown))
+abbrev pub motion_of : ℕ → Option Motion
+motion_of g = cond (eqb g 1) (Some Motion.Line) (cond (eqb g 2) (Some (Motion.Arc Turn.Clockwise))
+    (cond (eqb g 3) (Some (Motion.Arc Turn.Counterclockwise)) None))
 
-abbrev pub motion_after : Motion → Word → Motion
+abbrev pub motion_after : Option Motion → Word → Option Motion
 motion_after m g = cond g.stands (motion_of g.magnitude) m
 
 -- a word is in thousandths of a millimetre per minute; kept are whole millimetres and thousandths of one
-abbrev pub feed_after : Feed → Word → Feed
-feed_after f w = cond w.stands (Feed.Known (w.magnitude / 1000) (w.magnitude % 1000)) f
+abbrev pub feed_of : (millimetres thousandths : ℕ) → Option Feed
+feed_of m t = Some (record { millimetres = m; thousandths = t })
+
+abbrev pub feed_after : Option Feed → Word → Option Feed
+feed_after f w = cond w.stands (feed_of (w.magnitude / 1000) (w.magnitude % 1000)) f
 
 abbrev pub reader_after : Reader → Words → Reader
 reader_after k ws = record { motion = motion_after k.motion ws.g; feed = feed_after k.feed ws.f }
 
 -- 02 §4: an F from a word without a point, or none known
-abbrev pub WholeKnown : Feed → Type 0
-WholeKnown Feed.Unknown = Unit {0}
-WholeKnown (Feed.Known millimetres thousandths) = thousandths ≡ 0
+abbrev pub WholeKnown : Option Feed → Type 0
+WholeKnown None = Unit {0}
+WholeKnown (Some f) = f.thousandths ≡ 0
 
 -- ---- what the questions ask about
 
@@ -52,19 +55,16 @@ centre_stands ws = ws.i.stands || ws.j.stands
 abbrev pub moving : Words → Bool
 moving ws = end_stands ws || centre_stands ws
 
-abbrev pub motion_known : Motion → Bool
-motion_known Motion.Unknown = false
-motion_known Motion.Line = true
-motion_known (Motion.Arc turn) = true
+abbrev pub motion_known : Option Motion → Bool
+motion_known m = is_some m
 
-abbrev pub feed_known : Feed → Bool
-feed_known Feed.Unknown = false
-feed_known (Feed.Known millimetres thousandths) = true
+abbrev pub feed_known : Option Feed → Bool
+feed_known f = is_some f
 
-abbrev pub is_arc : Motion → Bool
-is_arc Motion.Unknown = false
-is_arc Motion.Line = false
-is_arc (Motion.Arc turn) = true
+abbrev pub is_arc : Option Motion → Bool
+is_arc None = false
+is_arc (Some Motion.Line) = false
+is_arc (Some (Motion.Arc turn)) = true
 
 -- ---- the block
 
@@ -77,16 +77,16 @@ abbrev pub coordinate : (p : ℕ) → Word → (here : ℤ) → ℤ
 coordinate p w here = cond w.stands (in_pulses p w) here
 
 -- "a missing I or J is 0": a missing word has the magnitude 0
-abbrev pub path_of : (p : ℕ) → Motion → Words → Path
-path_of p Motion.Unknown ws = Path.Line
-path_of p Motion.Line ws = Path.Line
-path_of p (Motion.Arc turn) ws = Path.Arc turn (record { x = in_pulses p ws.i; y = in_pulses p ws.j })
+abbrev pub path_of : (p : ℕ) → Option Motion → Words → Path
+path_of p None ws = Path.Line
+path_of p (Some Motion.Line) ws = Path.Line
+path_of p (Some (Motion.Arc turn)) ws = Path.Arc turn (record { x = in_pulses p ws.i; y = in_pulses p ws.j })
 
 -- 01, Feed divider: "The block's feed number f is pulses per minute: millimetres per minute times p." In u-ths of a pulse per minute it is
 -- u times as much: 01 has u 1, and 02 §4 ("The feed number becomes thousandths of a pulse per minute") u 1,000
-abbrev pub feed_number_at : (u p : ℕ) → Feed → ℕ
-feed_number_at u p Feed.Unknown = 0
-feed_number_at u p (Feed.Known millimetres thousandths) = (millimetres * 1000 + thousandths) * p * u / 1000
+abbrev pub feed_number_at : (u p : ℕ) → Option Feed → ℕ
+feed_number_at u p None = 0
+feed_number_at u p (Some f) = (f.millimetres * 1000 + f.thousandths) * p * u / 1000
 
 unfoldable pub block_at : (u p : ℕ) → Reader → Words → (at : Point) → Block
 block_at u p k ws at =

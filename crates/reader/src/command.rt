@@ -12,51 +12,42 @@ use letters::word::{Word, Words};
 use plane::point::Point;
 use whole::sign::{SignMagnitude, join};
 
-pub fn motion_of(g: u64) -> Motion
+pub fn motion_of(g: u64) -> Option<Motion>
     ensures { result ≡ motion_of g }
 {
     if g == 1 {
-        return Motion::Line;
+        return Some(Motion::Line);
     }
-    if g == 2 {
-        return Motion::Arc(Turn::Clockwise);
-    }
-    if g == 3 {
-        return Motion::Arc(Turn::Counterclockwise);
-    }
-    Motion::Unknown
+    let turn = Turn::try_from(g).ok()?;
+    Some(Motion::Arc(turn))
 }
 
-fn motion_after(m: Motion, g: Word) -> Motion
+fn motion_after(m: Option<Motion>, g: Word) -> Option<Motion>
     ensures { result ≡ motion_after m g }
 {
-    if g.stands {
-        return motion_of(g.magnitude);
-    }
-    m
+    if g.stands { motion_of(g.magnitude) } else { m }
 }
 
-fn feed_after(f: Feed, w: Word) -> Feed
+fn feed_after(f: Option<Feed>, w: Word) -> Option<Feed>
     requires { w.magnitude < 10 ^ 10 }
     ensures { result ≡ feed_after f w }
 {
-    if w.stands {
-        return Feed::Known((w.magnitude / 1_000) as u32, (w.magnitude % 1_000) as u32);
+    if !w.stands {
+        return f;
     }
-    f
+    Some(Feed {
+        millimetres: (w.magnitude / 1_000) as u32,
+        thousandths: (w.magnitude % 1_000) as u32,
+    })
 }
 
 pub fn reader_after(k: Reader, ws: Words) -> Reader
     requires { ws.f.magnitude < 10 ^ 10 }
     ensures { result ≡ reader_after k ws }
 {
-    let g = ws.g;
-    let f = ws.f;
-    let m = k.motion;
-    let feed = k.feed;
     Reader {
-        motion: motion_after(m, g),
-        feed: feed_after(feed, f),
+        motion: motion_after(k.motion, ws.g),
+        feed: feed_after(k.feed, ws.f),
     }
 }
 
@@ -74,43 +65,33 @@ fn coordinate_of(scale: u64, w: Word, here: i64) -> i64
     requires { Small scale w }
     ensures { result ≡ coordinate scale w here }
 {
-    if w.stands {
-        return in_pulses(scale, w);
-    }
-    here
+    if w.stands { in_pulses(scale, w) } else { here }
 }
 
-fn path_of(scale: u64, m: Motion, ws: Words) -> Path
+fn path_of(scale: u64, m: Option<Motion>, ws: Words) -> Path
     requires { SmallWords scale ws }
     ensures { result ≡ path_of scale m ws }
 {
     match m {
-        Motion::Unknown => Path::Line,
-        Motion::Line => Path::Line,
-        Motion::Arc(turn) => {
-            let i = ws.i;
-            let j = ws.j;
-            Path::Arc(
-                turn,
-                Offset {
-                    x: in_pulses(scale, i),
-                    y: in_pulses(scale, j),
-                },
-            )
-        }
+        Some(Motion::Arc(turn)) => Path::Arc(
+            turn,
+            Offset {
+                x: in_pulses(scale, ws.i),
+                y: in_pulses(scale, ws.j),
+            },
+        ),
+        _ => Path::Line,
     }
 }
 
 // In thousandths of a pulse per minute.
-fn feed_number(scale: u64, f: Feed) -> u64
+fn feed_number(scale: u64, f: Option<Feed>) -> u64
     requires { scale ≤ 1000 }
     ensures { result ≡ feed_number_at feed_unit scale f }
 {
     match f {
-        Feed::Unknown => 0,
-        Feed::Known(millimetres, thousandths) => {
-            (millimetres as u64 * 1_000 + thousandths as u64) * scale
-        }
+        None => 0,
+        Some(known) => (known.millimetres as u64 * 1_000 + known.thousandths as u64) * scale,
     }
 }
 
@@ -118,17 +99,12 @@ pub fn block_of(scale: u64, k: Reader, ws: Words, at: Point) -> Block
     requires { (scale ≤ 1000) × SmallWords scale ws }
     ensures { result ≡ block_at feed_unit scale k ws at }
 {
-    let m = k.motion;
-    let f = k.feed;
-    let x = ws.x;
-    let y = ws.y;
-    let end = Point {
-        x: coordinate_of(scale, x, at.x),
-        y: coordinate_of(scale, y, at.y),
-    };
     Block {
-        path: path_of(scale, m, ws),
-        end: end,
-        feed: feed_number(scale, f),
+        path: path_of(scale, k.motion, ws),
+        end: Point {
+            x: coordinate_of(scale, ws.x, at.x),
+            y: coordinate_of(scale, ws.y, at.y),
+        },
+        feed: feed_number(scale, k.feed),
     }
 }

@@ -18,25 +18,25 @@ pub const LONGEST_TEXT: usize = 65_536;
 // Bytes without the LF; question 31.
 pub const LONGEST_LINE: u64 = 80;
 
-// The G and the F that are known.
+// What a G says.
 #[derive(Clone, Copy)]
 pub enum Motion {
-    Unknown,
     Line,
     Arc(Turn),
 }
 
+// What an F says: millimetres per minute, and thousandths of one.
 #[derive(Clone, Copy)]
-pub enum Feed {
-    Unknown,
-    // Millimetres per minute, and thousandths of one.
-    Known(u32, u32),
+pub struct Feed {
+    pub millimetres: u32,
+    pub thousandths: u32,
 }
 
+// The G and the F that are known.
 #[derive(Clone, Copy)]
 pub struct Reader {
-    pub motion: Motion,
-    pub feed: Feed,
+    pub motion: Option<Motion>,
+    pub feed: Option<Feed>,
 }
 
 impl Reader {
@@ -45,8 +45,8 @@ impl Reader {
         ensures { result ≡ unknown }
     {
         Reader {
-            motion: Motion::Unknown,
-            feed: Feed::Unknown,
+            motion: None,
+            feed: None,
         }
     }
 }

@@ -1,23 +1,17 @@
 // Questions 34 to 37 about a line of words, and the number of the first "no" from 31 on.
-ghost use Rattle.std.specs.Prelude.{◌≡◌};
+ghost use Rattle.std.specs.Prelude.{◌≡◌, ◌&&◌};
 ghost use Rattle.reader.specs.computed.Reader.{motion_right, on_pulse, all_on_pulse, all_known, centre_right, line_no};
-ghost use Rattle.reader.specs.Reader.{end_stands, centre_stands, moving, motion_known, feed_known, is_arc};
+ghost use Rattle.reader.specs.Reader.{end_stands, centre_stands, moving, is_arc};
 ghost use Rattle.reader.specs.computed.Small.{Small, SmallWords};
 
-use crate::{Feed, LONGEST_LINE, Motion, Reader};
+use crate::{LONGEST_LINE, Motion, Reader};
 use letters::word::{Word, Words};
 use words::line::Line;
 
 fn motion_right(g: Word) -> bool
     ensures { result ≡ motion_right g }
 {
-    if !g.stands {
-        return true;
-    }
-    if g.magnitude < 1 {
-        return false;
-    }
-    g.magnitude <= 3
+    !g.stands || (1 <= g.magnitude && g.magnitude <= 3)
 }
 
 fn on_pulse(scale: u64, w: Word) -> bool
@@ -27,113 +21,63 @@ fn on_pulse(scale: u64, w: Word) -> bool
     w.magnitude * scale % 1_000 == 0
 }
 
+// Most lines have no centre: a word that does not stand has the magnitude 0, which takes no product to tell.
+fn centre_on_pulse(scale: u64, ws: Words) -> bool
+    requires { SmallWords scale ws }
+    ensures { result ≡ (on_pulse scale ws.i && on_pulse scale ws.j) }
+{
+    (ws.i.magnitude == 0 && ws.j.magnitude == 0) || (on_pulse(scale, ws.i) && on_pulse(scale, ws.j))
+}
+
 fn all_on_pulse(scale: u64, ws: Words) -> bool
     requires { SmallWords scale ws }
     ensures { result ≡ all_on_pulse scale ws }
 {
-    let x = ws.x;
-    let y = ws.y;
-    let i = ws.i;
-    let j = ws.j;
-    if !on_pulse(scale, x) {
-        return false;
-    }
-    if !on_pulse(scale, y) {
-        return false;
-    }
-    // Most lines have no centre: a word that does not stand has the magnitude 0, which takes no product to tell.
-    if i.magnitude == 0 {
-        if j.magnitude == 0 {
-            return true;
-        }
-    }
-    if !on_pulse(scale, i) {
-        return false;
-    }
-    on_pulse(scale, j)
+    on_pulse(scale, ws.x) && on_pulse(scale, ws.y) && centre_on_pulse(scale, ws)
 }
 
 fn end_stands(ws: Words) -> bool
     ensures { result ≡ end_stands ws }
 {
-    let x = ws.x;
-    let y = ws.y;
-    x.stands || y.stands
+    ws.x.stands || ws.y.stands
 }
 
 fn centre_stands(ws: Words) -> bool
     ensures { result ≡ centre_stands ws }
 {
-    let i = ws.i;
-    let j = ws.j;
-    i.stands || j.stands
+    ws.i.stands || ws.j.stands
 }
 
 pub fn moves(ws: Words) -> bool
     ensures { result ≡ moving ws }
 {
-    if end_stands(ws) {
-        return true;
-    }
-    centre_stands(ws)
+    end_stands(ws) || centre_stands(ws)
 }
 
-fn motion_known(m: Motion) -> bool
-    ensures { result ≡ motion_known m }
-{
-    match m {
-        Motion::Unknown => false,
-        Motion::Line => true,
-        Motion::Arc(_) => true,
-    }
-}
-
-fn feed_known(f: Feed) -> bool
-    ensures { result ≡ feed_known f }
-{
-    match f {
-        Feed::Unknown => false,
-        Feed::Known(_, _) => true,
-    }
-}
-
-pub fn is_arc(m: Motion) -> bool
+pub fn is_arc(m: Option<Motion>) -> bool
     ensures { result ≡ is_arc m }
 {
-    match m {
-        Motion::Unknown => false,
-        Motion::Line => false,
-        Motion::Arc(_) => true,
-    }
+    matches!(m, Some(Motion::Arc(_)))
 }
 
 fn all_known(k: Reader, ws: Words) -> bool
     ensures { result ≡ all_known k ws }
 {
-    if !moves(ws) {
-        return true;
-    }
-    let m = k.motion;
-    let f = k.feed;
-    if !motion_known(m) {
-        return false;
-    }
-    feed_known(f)
+    !moves(ws) || (k.motion.is_some() && k.feed.is_some())
 }
 
-fn centre_right(m: Motion, ws: Words) -> bool
+fn centre_right(m: Option<Motion>, ws: Words) -> bool
     ensures { result ≡ centre_right m ws }
 {
     if is_arc(m) {
-        if end_stands(ws) {
-            return centre_stands(ws);
-        }
-        return true;
+        !end_stands(ws) || centre_stands(ws)
+    } else {
+        !centre_stands(ws)
     }
-    !centre_stands(ws)
 }
 
 // k is the reader after the line.
+#[tactic(auto, unfolding(crate::specs::computed::Reader::line_no))]
 pub fn line_no(scale: u64, k: Reader, bytes: u64, l: Line) -> u64
     requires { SmallWords scale l.words }
     ensures { result ≡ line_no scale k bytes l }
@@ -147,19 +91,16 @@ pub fn line_no(scale: u64, k: Reader, bytes: u64, l: Line) -> u64
     if !l.once {
         return 33;
     }
-    let ws = l.words;
-    let g = ws.g;
-    if !motion_right(g) {
+    if !motion_right(l.words.g) {
         return 34;
     }
-    if !all_on_pulse(scale, ws) {
+    if !all_on_pulse(scale, l.words) {
         return 35;
     }
-    if !all_known(k, ws) {
+    if !all_known(k, l.words) {
         return 36;
     }
-    let m = k.motion;
-    if !centre_right(m, ws) {
+    if !centre_right(k.motion, l.words) {
         return 37;
     }
     0

@@ -1,5 +1,6 @@
 -- The calls from C are the machine's own on the words of a sound record, since words and sound records tell each other.
 use Rattle.std.specs.Prelude.{◌≡◌, ◌⊎◌, Bool, cond, ◌&&◌, ℕ, zero, suc, ◌/◌, ◌%◌, ◌^◌, ◌≤◌, ◌<◌, ltb, ℤ, pos, negsuc, length, take}
+use Rattle.std.specs.Prelude.{Option, Some, None}
 use Rattle.std.proofs.Math.Path.{refl, sym, ap, subst}
 use Rattle.std.proofs.Common.{◌∙◌, inl, inr, arith}
 use Rattle.std.proofs.Math.Bool.{true, false}
@@ -35,6 +36,7 @@ use Rattle.words.specs.declared.line.Line.{Line}
 use Rattle.words.specs.computed.Meaning.{meaning_of}
 use Rattle.words.specs.laws.Meaning.{meaning_means}
 use Rattle.reader.specs.declared.Feed.{Feed}
+use Rattle.reader.specs.Reader.{feed_of}
 use Rattle.reader.specs.declared.Reader.{Reader}
 use Rattle.reader.specs.declared.text_line.Read.{Read}
 use Rattle.textline.specs.declared.ReadLine.{ReadLine}
@@ -340,7 +342,7 @@ feed_written : (z : ℤ) → FeedWritten (feed_read z)
 feed_written (negsuc n) = tt
 feed_written (pos f) = by (ltb f (10 ^ 10)) refl
   where
-    by : (small : Bool) → ltb f (10 ^ 10) ≡ small → FeedWritten (cond small (Feed.Known (f / 1000) (f % 1000)) Feed.Unknown)
+    by : (small : Bool) → ltb f (10 ^ 10) ≡ small → FeedWritten (cond small (feed_of (f / 1000) (f % 1000)) None)
     by true e = let few = ltb-true f (10 ^ 10) e in (omega arith, omega arith)
     by false e = tt
 
@@ -351,9 +353,9 @@ known_words ks t = same_true ks (encode_known (reader_of (known_in ks))) t
 known_told : (ks : List ℤ) (k : Reader) → FeedWritten k.feed → ks ≡ encode_known k → decode_known ks ≡ record { ok = true; reader = k }
 known_told ks k f e = ap decode_known e ∙ known_decode k (fits k.feed f)
   where
-    fits : (f : Feed) → FeedWritten f → FeedSmall f
-    fits Feed.Unknown h = h
-    fits (Feed.Known m t) h = h
+    fits : (f : Option Feed) → FeedWritten f → FeedSmall f
+    fits None h = h
+    fits (Some f) h = h
 
 nothing_known : (ks : List ℤ) → NotKnown ks → (decode_known ks).ok ≡ false
 unfolding decode_known

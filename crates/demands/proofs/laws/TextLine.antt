@@ -1,5 +1,5 @@
 -- A text line answers by the first no of its questions.
-use Rattle.std.specs.Prelude.{◌≡◌, Bool, cond, not, ◌||◌, ◌↔◌, List, leb, ltb, length}
+use Rattle.std.specs.Prelude.{◌≡◌, Bool, cond, not, ◌||◌, ◌↔◌, List, leb, ltb, length, Option}
 use Rattle.std.proofs.Math.Path.{refl}
 use Rattle.std.proofs.Common.{sym, ap, ◌∙◌, true≢false, arith, leb-true, le-leb, eqb-true, eq-eqb}
 use Rattle.std.proofs.Math.Bool.{true, false}
@@ -125,7 +125,7 @@ known_is k ws =
     (λ e t. both (i.0 e t), λ f. i.1 (λ t. joined (f t).0 (f t).1))
 
 -- 37
-centre_stands_lem : (m : Motion) (ws : Words) → (centre_right m ws ≡ true) ↔ CentreStands m ws
+centre_stands_lem : (m : Option Motion) (ws : Words) → (centre_right m ws ≡ true) ↔ CentreStands m ws
 centre_stands_lem m ws = by (is_arc m) (centre_stands ws) refl refl
   where
     by : (arc c : Bool) → is_arc m ≡ arc → centre_stands ws ≡ c

@@ -1,5 +1,6 @@
 -- The check as it goes, and what its contracts say: `Lists` of a step, `Fills` of a buffer. What is left to hand out is the listing.
 use Rattle.std.specs.Prelude.{◌≡◌, Bool, true, false, cond, List, [], ◌∷◌, ◌++◌, ℕ, ◌+◌, ◌-◌, ◌*◌, ◌^◌, ◌≤◌, ◌<◌, leb, length, take, drop}
+use Rattle.std.specs.Prelude.{Option, Some, None}
 use Rattle.row.specs.computed.Buffer.{line_room, placed}
 use Rattle.row.specs.computed.Long.{low_limit, long_of}
 use Rattle.row.specs.Lines.{header_line, total_line, refused_line}
@@ -66,9 +67,9 @@ Lists s c = (text : List ℕ) → rest_of c text ≡ listing_of s text
 
 -- ---- what every check keeps that a start reaches, whatever the texts: so its numbers fit in words
 
-abbrev pub FeedSmall : Feed → Type 0
-FeedSmall Feed.Unknown = Unit {0}
-FeedSmall (Feed.Known millimetres thousandths) = (millimetres < 10 ^ 7) × (thousandths < 1000)
+abbrev pub FeedSmall : Option Feed → Type 0
+FeedSmall None = Unit {0}
+FeedSmall (Some f) = (f.millimetres < 10 ^ 7) × (f.thousandths < 1000)
 
 -- the machine is sound and at rest, and the counts are some that the lines of a text and one more can make
 pub record Reached (at : ℕ) (t : Tally) : Type 0 where

@@ -1,5 +1,5 @@
 -- Each text line leaves a tally that a start reaches.
-use Rattle.std.specs.Prelude.{◌≡◌, refl, Bool, true, false, cond, List, ℕ, zero, suc, ◌+◌, ◌/◌, ◌%◌, ◌^◌, ◌≤◌, ◌<◌, length}
+use Rattle.std.specs.Prelude.{◌≡◌, refl, Bool, true, false, cond, List, ℕ, zero, suc, ◌+◌, ◌/◌, ◌%◌, ◌^◌, ◌≤◌, ◌<◌, length, Option}
 use Rattle.std.proofs.Common.{arith}
 use Rattle.letters.specs.declared.word.Word.{Word}
 use Rattle.letters.specs.declared.word.Words.{Words}
@@ -18,7 +18,7 @@ use Rattle.reader.specs.declared.asked.Asked.{Asked}
 use Rattle.reader.specs.declared.text_line.Read.{Read}
 use Rattle.reader.specs.declared.text_line.ReadLine.{ReadLine}
 use Rattle.reader.specs.computed.Reader.{longest_text, line_no}
-use Rattle.reader.specs.Reader.{reader_after, feed_after}
+use Rattle.reader.specs.Reader.{reader_after, feed_of, feed_after}
 use Rattle.reader.specs.computed.Asked.{asked_with, asked_of}
 use Rattle.reader.specs.computed.TextLine.{reads, loaded, takes, taken_of, read_line_of}
 use Rattle.reader.specs.laws.Small.{line_writable}
@@ -50,10 +50,10 @@ start_reached i =
 
 -- ---- the F that is known has seven digits and three decimals
 
-feed_after_lem : (f : Feed) (w : Word) → w.magnitude < 10 ^ 10 → FeedSmall f → FeedSmall (feed_after f w)
+feed_after_lem : (f : Option Feed) (w : Word) → w.magnitude < 10 ^ 10 → FeedSmall f → FeedSmall (feed_after f w)
 feed_after_lem f w h known = by w.stands
   where
-    by : (stands : Bool) → FeedSmall (cond stands (Feed.Known (w.magnitude / 1000) (w.magnitude % 1000)) f)
+    by : (stands : Bool) → FeedSmall (cond stands (feed_of (w.magnitude / 1000) (w.magnitude % 1000)) f)
     by true = (omega arith, omega arith)
     by false = known
 

@@ -1,5 +1,5 @@
 -- Words and checks, exactly: a check that fits is told by its bench and the words of its progress, and so is what is known.
-use Rattle.std.specs.Prelude.{◌≡◌, refl, true, ◌+◌, ◌*◌, ◌/◌, ◌%◌, ◌^◌, ◌<◌}
+use Rattle.std.specs.Prelude.{◌≡◌, refl, true, ◌+◌, ◌*◌, ◌/◌, ◌%◌, ◌^◌, ◌<◌, Option, Some, None}
 use Rattle.std.proofs.Common.{arith, lt-ltb}
 use Rattle.circle.specs.declared.plane.Turn.{Turn}
 use Rattle.bench.specs.computed.Bench.{sound_of}
@@ -35,18 +35,18 @@ stage_back Stage.Header = refl
 stage_back Stage.Lines = refl
 stage_back Stage.Over = refl
 
-motion_back : (m : Motion) → motion_of (count_of (motion_word m)) ≡ m
-motion_back Motion.Unknown = refl
-motion_back Motion.Line = refl
-motion_back (Motion.Arc Turn.Clockwise) = refl
-motion_back (Motion.Arc Turn.Counterclockwise) = refl
+motion_back : (m : Option Motion) → motion_of (count_of (motion_word m)) ≡ m
+motion_back None = refl
+motion_back (Some Motion.Line) = refl
+motion_back (Some (Motion.Arc Turn.Clockwise)) = refl
+motion_back (Some (Motion.Arc Turn.Counterclockwise)) = refl
 
-feed_back : (f : Feed) → FeedSmall f → feed_read (feed_word f) ≡ f
-feed_back Feed.Unknown h = refl
-feed_back (Feed.Known m t) h =
-    let f = m * 1000 + t in
-    let whole : f / 1000 ≡ m = omega (arith, h.1) in
-    let rest : f % 1000 ≡ t = omega (arith, h.1) in
+feed_back : (f : Option Feed) → FeedSmall f → feed_read (feed_word f) ≡ f
+feed_back None h = refl
+feed_back (Some k) h =
+    let f = k.millimetres * 1000 + k.thousandths in
+    let whole : f / 1000 ≡ k.millimetres = omega (arith, h.1) in
+    let rest : f % 1000 ≡ k.thousandths = omega (arith, h.1) in
     rw (lt-ltb f (10 ^ 10) (omega (arith, h.0, h.1)), whole, rest)
 
 -- ---- what is known

@@ -1,5 +1,5 @@
 -- The code's tests pass exactly where the words are those of what they tell.
-use Rattle.std.specs.Prelude.{◌≡◌, refl, Bool, false, cond, List, [], ◌∷◌, zero, suc, ◌^◌, ltb, ℤ, pos, negsuc, length}
+use Rattle.std.specs.Prelude.{◌≡◌, refl, Bool, false, cond, List, [], ◌∷◌, zero, suc, ◌^◌, ltb, ℤ, pos, negsuc, length, Option, Some, None}
 use Rattle.std.proofs.Common.{sym, ◌∙◌, arith, SFits, lt-ltb, ltb-true}
 use Rattle.std.proofs.Math.Path.{ap}
 use Rattle.std.proofs.Math.Bool.{true}
@@ -8,7 +8,6 @@ use Rattle.whole.specs.laws.Test.{both, joined, same_test}
 use Rattle.plane.specs.Travel.{within_of}
 use Rattle.circle.specs.declared.plane.Turn.{Turn}
 use Rattle.reader.specs.declared.Motion.{Motion}
-use Rattle.reader.specs.declared.Feed.{Feed}
 use Rattle.reader.specs.Reader.{motion_of}
 use Rattle.bench.specs.declared.Bench.{Bench}
 use Rattle.job.specs.declared.Stage.{Stage}
@@ -48,12 +47,12 @@ motion_again (pos (suc (suc (suc zero)))) t = refl
 motion_again (pos (suc (suc (suc (suc n))))) t = absurd (omega (arith, (range_to motions (pos (suc (suc (suc (suc n))))) t).1))
 motion_again (negsuc n) t = absurd (omega (arith, (range_to motions (negsuc n) t).0))
 
-motion_right_lem : (m : Motion) → within_of motions (motion_word m) ≡ true
+motion_right_lem : (m : Option Motion) → within_of motions (motion_word m) ≡ true
 unfolding within_of
-motion_right_lem Motion.Unknown = refl
-motion_right_lem Motion.Line = refl
-motion_right_lem (Motion.Arc Turn.Clockwise) = refl
-motion_right_lem (Motion.Arc Turn.Counterclockwise) = refl
+motion_right_lem None = refl
+motion_right_lem (Some Motion.Line) = refl
+motion_right_lem (Some (Motion.Arc Turn.Clockwise)) = refl
+motion_right_lem (Some (Motion.Arc Turn.Counterclockwise)) = refl
 
 feed_again : (z : ℤ) → within_of feeds z ≡ true → feed_word (feed_read z) ≡ z
 feed_again (pos f) t =
@@ -65,7 +64,7 @@ feed_again (negsuc (suc n)) t = absurd (omega (arith, (range_to feeds (negsuc (s
 feed_right_lem : (z : ℤ) → feed_word (feed_read z) ≡ z → within_of feeds z ≡ true
 feed_right_lem (pos f) = by (ltb f (10 ^ 10)) refl
   where
-    by : (small : Bool) → ltb f (10 ^ 10) ≡ small → feed_word (cond small (feed_in f) Feed.Unknown) ≡ pos f → within_of feeds (pos f) ≡ true
+    by : (small : Bool) → ltb f (10 ^ 10) ≡ small → feed_word (cond small (feed_in f) None) ≡ pos f → within_of feeds (pos f) ≡ true
     by true s e = range_of feeds (pos f) (omega arith) (omega (arith, ltb-true f (10 ^ 10) s))
     by false s e = cc
 feed_right_lem (negsuc n) = λ e. rw (← e) (range_of feeds (negsuc 0) (omega arith) (omega arith))

@@ -1,5 +1,5 @@
 -- 01, Questions, "Job text": questions 31 to 37 as tests. Crate demands says them in the paper's words.
-use Rattle.std.specs.Prelude.{Bool, cond, not, ◌&&◌, ◌||◌, ℕ, ◌*◌, ◌%◌, leb, eqb}
+use Rattle.std.specs.Prelude.{Bool, cond, not, ◌&&◌, ◌||◌, ℕ, ◌*◌, ◌%◌, leb, eqb, Option}
 use Rattle.whole.specs.Ask.{ask}
 use Rattle.letters.specs.declared.word.Word.{Word}
 use Rattle.letters.specs.declared.word.Words.{Words}
@@ -33,7 +33,7 @@ abbrev pub all_known : Reader → Words → Bool
 all_known k ws = not (moving ws) || (motion_known k.motion && feed_known k.feed)
 
 -- "Do I or J stand only under G 2 or 3, and does a line under 2 or 3 with X or Y have I or J? 37."
-abbrev pub centre_right : Motion → Words → Bool
+abbrev pub centre_right : Option Motion → Words → Bool
 centre_right m ws = cond (is_arc m) (not (end_stands ws) || centre_stands ws) (not (centre_stands ws))
 
 -- from 31 on, "each question over the whole line before the next"; k is the reader after the line
