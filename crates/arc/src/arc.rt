@@ -11,8 +11,9 @@ ghost use Rattle.arc.specs.computed.Arc.{StandsOnArc, arc_after, arc_cycles, arc
 ghost use Rattle.arc.specs.Arc.{arc_width};
 
 use crate::centre::{back, room, seen};
-use charges::Span;
+use charges::{Paid, Span};
 use circle::plane::{Turn, on_circle};
+use circle::step::step;
 use plane::point::Point;
 use plane::pulse::{Pulses, changes};
 use plane::travel::{Range, Travel, inside};
@@ -35,14 +36,6 @@ pub struct Stepped {
     pub pulses: Pulses,
 }
 
-// What a sum of charges pays for: so many cycles, their charges, and the point after them.
-#[derive(Drop)]
-pub struct ArcPaid {
-    pub cycles: u64,
-    pub charges: u64,
-    pub at: Point,
-}
-
 // Whether the centre is one that an arc in work can have.
 fn is_centre(p: Point) -> bool
     ensures { result ≡ inside_of centres p }
@@ -60,9 +53,7 @@ impl Arc {
         requires { Near 2000000 self.centre × Near 2000000 self.end }
         ensures { result ≡ on_circle self.square (seen_from self.centre self.end) }
     {
-        let centre = self.centre;
-        let end = self.end;
-        on_circle(self.square, seen(centre, end))
+        on_circle(self.square, seen(self.centre, self.end))
     }
 
     // Question 16: whether every point still to visit is in travel, without walking there.
@@ -70,38 +61,26 @@ impl Arc {
         requires { StandsOnArc self at × Wide travel × (inside_of travel at ≡ true) }
         ensures { result ≡ visits_inside travel (arc_after self at) (arc_cycles self at) }
     {
-        let centre = self.centre;
-        let end = self.end;
-        let turn = self.turn;
         clearance::stays_inside(
-            room(travel, centre),
+            room(travel, self.centre),
             self.square,
-            turn,
-            seen(centre, at),
-            seen(centre, end),
+            self.turn,
+            seen(self.centre, at),
+            seen(self.centre, self.end),
         )
     }
 
     // Whether this is an arc in work at this point, whatever its numbers.
+    #[tactic(auto, using(crate::specs::laws::Work::in_work), unfolding(crate::specs::computed::Arc::arc_at))]
     pub fn is_at(self, travel: Travel, at: Point) -> bool
         requires { Wide travel × (inside_of travel at ≡ true) }
         ensures { result ≡ arc_at travel self at }
     {
-        let centre = self.centre;
-        let end = self.end;
-        if !is_centre(centre) {
-            return false;
-        }
-        if !inside(travel, end) {
-            return false;
-        }
-        if !on_circle(self.square, seen(centre, at)) {
-            return false;
-        }
-        if !self.ends_on_circle() {
-            return false;
-        }
-        self.stays(travel, at)
+        is_centre(self.centre)
+            && inside(travel, self.end)
+            && on_circle(self.square, seen(self.centre, at))
+            && self.ends_on_circle()
+            && self.stays(travel, at)
     }
 
     // One cycle onward.
@@ -109,11 +88,9 @@ impl Arc {
         requires { StandsOnArc self at }
         ensures { result ≡ arc_stepped self at }
     {
-        let centre = self.centre;
-        let turn = self.turn;
         let next = back(
-            centre,
-            circle::step::step(self.square, turn, seen(centre, at)),
+            self.centre,
+            step(self.square, self.turn, seen(self.centre, at)),
         );
         Stepped {
             at: next,
@@ -126,10 +103,12 @@ impl Arc {
         requires { StandsOnArc self at }
         ensures { result ≡ arc_span_of self at }
     {
-        let centre = self.centre;
-        let end = self.end;
-        let turn = self.turn;
-        charges::sum::span(self.square, turn, seen(centre, at), seen(centre, end))
+        charges::sum::span(
+            self.square,
+            self.turn,
+            seen(self.centre, at),
+            seen(self.centre, self.end),
+        )
     }
 
     // The cycles of that span alone, from those of a quarter turn, which the caller knows: no root is taken.
@@ -137,15 +116,12 @@ impl Arc {
         requires { StandsOnArc self at × (quarter ≡ quarter_of self.square) }
         ensures { result ≡ arc_cycles self at }
     {
-        let centre = self.centre;
-        let end = self.end;
-        let turn = self.turn;
         circle::count::cycles(
             self.square,
             quarter,
-            turn,
-            seen(centre, at),
-            seen(centre, end),
+            self.turn,
+            seen(self.centre, at),
+            seen(self.centre, self.end),
         )
     }
 
@@ -154,28 +130,24 @@ impl Arc {
         requires { StandsOnArc self at }
         ensures { result ≡ arc_charge self at }
     {
-        let centre = self.centre;
-        let turn = self.turn;
-        circle::step::charge(self.square, turn, seen(centre, at))
+        circle::step::charge(self.square, self.turn, seen(self.centre, at))
     }
 
     // The most cycles from here on, at most so many, whose charges the sum holds, without walking them.
-    pub fn paid(self, at: Point, most: u64, sum: u64) -> ArcPaid
+    pub fn paid(self, at: Point, most: u64, sum: u64) -> Paid<Point>
         requires { StandsOnArc self at × (most < arc_cycles self at) }
         ensures { result ≡ arc_paid_of self at most sum }
     {
-        let centre = self.centre;
-        let turn = self.turn;
-        let r = charges::search::paid(self.square, turn, seen(centre, at), most, sum);
-        let there = r.at;
-        ArcPaid {
+        let r = charges::search::paid(self.square, self.turn, seen(self.centre, at), most, sum);
+        Paid {
             cycles: r.cycles,
             charges: r.charges,
-            at: back(centre, there),
+            at: back(self.centre, r.at),
         }
     }
 
     // The register width that a load answers.
+    #[tactic(auto, unfolding(crate::specs::Arc::arc_width))]
     pub fn width(self) -> u64
         ensures { result ≡ arc_width self }
     {

@@ -37,12 +37,10 @@ pub fn room(travel: Travel, centre: Point) -> Room
     requires { Near 2000000 centre × Wide travel }
     ensures { result ≡ room_of travel centre }
 {
-    let x = travel.x;
-    let y = travel.y;
     Room {
-        right: x.upper - centre.x,
-        up: y.upper - centre.y,
-        left: centre.x - x.lower,
-        down: centre.y - y.lower,
+        right: travel.x.upper - centre.x,
+        up: travel.y.upper - centre.y,
+        left: centre.x - travel.x.lower,
+        down: centre.y - travel.y.lower,
     }
 }

@@ -3,7 +3,7 @@ ghost use Rattle.std.specs.Prelude.{◌≡◌, true};
 ghost use Rattle.plane.specs.Travel.{inside_of};
 ghost use Rattle.plane.specs.Point.{Near};
 ghost use Rattle.plane.specs.computed.Travel.{Wide};
-ghost use Rattle.block.specs.Block.{arc_of};
+ghost use Rattle.block.specs.Block.{square_of, arc_of};
 ghost use Rattle.block.specs.computed.Questions.{Begins};
 ghost use Rattle.block.specs.Questions.{feed_right, offset_right, arc_no, path_no, load_no};
 
@@ -13,48 +13,44 @@ use arc::centre::back;
 use circle::plane::{Offset, Turn};
 use plane::point::Point;
 use plane::travel::{Travel, inside};
-use whole::sign::part;
 
 pub fn feed_right(capacity: u64, feed: u64) -> bool
     ensures { result ≡ feed_right capacity feed }
 {
-    if feed < 1 {
-        return false;
-    }
-    feed <= capacity
+    (1..=capacity).contains(&feed)
 }
 
 // Question 14, for any I and J.
 fn offset_right(o: Offset) -> bool
     ensures { result ≡ offset_right o }
 {
-    let x = part(o.x);
-    let y = part(o.y);
-    if 1_000_000 < x.magnitude {
-        return false;
-    }
-    if 1_000_000 < y.magnitude {
-        return false;
-    }
-    if x.magnitude == 0 {
-        return y.magnitude != 0;
-    }
-    true
+    let x = o.x.unsigned_abs();
+    let y = o.y.unsigned_abs();
+    x <= 1_000_000 && y <= 1_000_000 && (x != 0 || y != 0)
+}
+
+// An arc's N, from its centre seen from the start.
+#[tactic(auto, using(whole::specs::laws::Squares::square_le, crate::proofs::laws::Begin::offset_right_lem))]
+pub fn square(o: Offset) -> u64
+    requires { offset_right o ≡ true }
+    ensures { result ≡ square_of o }
+{
+    let x = o.x.unsigned_abs();
+    let y = o.y.unsigned_abs();
+    x * x + y * y
 }
 
 // The arc that a block makes from its start.
+#[tactic(auto, using(crate::proofs::laws::Begin::offset_right_lem), unfolding(crate::specs::Block::arc_of))]
 pub fn arc_of(start: Point, b: Block, turn: Turn, centre: Offset) -> Arc
     requires { Near 1000000 start × (offset_right centre ≡ true) }
     ensures { result ≡ arc_of start b turn centre }
 {
-    let x = part(centre.x);
-    let y = part(centre.y);
-    let end = b.end;
     Arc {
         centre: back(start, centre),
-        square: x.magnitude * x.magnitude + y.magnitude * y.magnitude,
-        turn: turn,
-        end: end,
+        square: square(centre),
+        turn,
+        end: b.end,
         feed: b.feed,
     }
 }

@@ -1,8 +1,6 @@
 // What a way round a circle comes to, without walking it. A cycle is charged 1,000 where its step is straight, 1,414 where it is diagonal.
 #![tactic(auto)]
 
-use circle::plane::Offset;
-
 pub mod jump;
 pub mod search;
 pub mod sum;
@@ -15,10 +13,10 @@ pub struct Span {
     pub charges: u64,
 }
 
-// What a sum of charges pays for: so many cycles, their charges, and the point after them.
+// What a sum of charges pays for: so many cycles, their charges, and the point after them, on a circle or on the table.
 #[derive(Drop)]
-pub struct Paid {
+pub struct Paid<P> {
     pub cycles: u64,
     pub charges: u64,
-    pub at: Offset,
+    pub at: P,
 }

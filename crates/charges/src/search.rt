@@ -17,19 +17,6 @@ use circle::quadrant::point_of;
 use circle::step::STRAIGHT;
 use whole::root::nearest_root;
 
-fn least(a: u64, b: u64) -> u64
-    ensures { result ≡ min a b }
-{
-    if a < b { a } else { b }
-}
-
-// a - b, or 0 where there is no such number.
-fn less(a: u64, b: u64) -> u64
-    ensures { result ≡ a - b }
-{
-    if a < b { 0 } else { a - b }
-}
-
 // About how far across a place before the diagonal lies, by its toll. A place b across and a along has the toll m = 1,000 b + 414 (R - a),
 // where a * a + b * b is about n. With d = m - 414 R that is a quadratic equation: 1,171,396 b = 1,000 d + 414 √(1,171,396 n - d * d).
 // The root is taken of a 512 * 512th, which is small enough for a quick one. Nothing is claimed of the number but its size.
@@ -38,9 +25,9 @@ fn across_near(n: u64, radius: u64, toll: u64) -> u64
     ensures { result ≤ 10000000 }
 {
     let middle = 414 * radius;
-    let d = less(toll, middle) + less(middle, toll);
-    let root = nearest_root(less(1_171_396 * n, d * d) / 262_144);
-    less(1_000 * toll + 211_968 * root, 1_000 * middle) / 1_171_396
+    let d = toll.abs_diff(middle);
+    let root = nearest_root((1_171_396 * n).saturating_sub(d * d) / 262_144);
+    (1_000 * toll + 211_968 * root).saturating_sub(1_000 * middle) / 1_171_396
 }
 
 // About the rank that has this toll, of which nothing is claimed but its size. Past the diagonal it is found from the quadrant's other end.
@@ -54,10 +41,7 @@ fn rank_near(n: u64, quarter: u64, radius: u64, toll: u64) -> u64
     if 2 * rest <= quadrant {
         return before + across_near(n, radius, rest);
     }
-    less(
-        before + quarter,
-        across_near(n, radius, quadrant - rest) + 1,
-    )
+    (before + quarter).saturating_sub(across_near(n, radius, quadrant - rest) + 1)
 }
 
 // About how many cycles the sum pays, 1 or more: the search tries it, and nothing else is claimed of it.
@@ -65,10 +49,9 @@ fn cycles_near(s: Start, sum: u64) -> u64
     requires { Started s }
     ensures { 1 ≤ result }
 {
-    let from = s.from;
     let round = 4 * quadrant_charges(s.quarter, s.radius);
-    let rank = rank_near(s.n, s.quarter, s.radius, from.charges + least(sum, round));
-    less(rank, from.cycles + 1) + 1
+    let rank = rank_near(s.n, s.quarter, s.radius, s.from.charges + sum.min(round));
+    rank.saturating_sub(s.from.cycles + 1) + 1
 }
 
 // How many cycles are too many where some are paid and so much is left: each more is charged 1,000 at least.
@@ -76,7 +59,7 @@ fn too_many(most: u64, cycles: u64, rest: u64) -> u64
     requires { cycles ≤ 8000000 }
     ensures { result ≡ min most (cycles + rest / 1000 + 1) }
 {
-    least(most, cycles + rest / STRAIGHT + 1)
+    most.min(cycles + rest / STRAIGHT + 1)
 }
 
 // How far to go from the last number tried to the next: 1, 3, 7 and so on, but no further than half of what is left.
@@ -84,7 +67,7 @@ fn stride(last: u64, left: u64) -> u64
     requires { last ≤ 8000000 }
     ensures { result ≡ min (2 * last + 1) (left / 2) }
 {
-    least(2 * last + 1, left / 2)
+    (2 * last + 1).min(left / 2)
 }
 
 // The most cycles that the sum pays: `low` are paid, `high` are not, or are more than are asked, and `next` lies between.
@@ -92,14 +75,13 @@ fn search(s: Start, most: u64, sum: u64) -> Arrived
     requires { Started s × (most < 4 * s.quarter) }
     ensures { result ≡ arrived_of s (most_paid (charges_on s) sum most) }
 {
-    let place = s.place;
     let mut low = Arrived {
         cycles: 0,
         charges: 0,
-        place,
+        place: s.place,
     };
     let mut high = too_many(most + 1, 0, sum);
-    let mut next = least(cycles_near(s, sum), high - 1);
+    let mut next = cycles_near(s, sum).min(high - 1);
     let mut step = 0;
     while low.cycles + 1 < high {
         let r = s.after(next);
@@ -118,15 +100,14 @@ fn search(s: Start, most: u64, sum: u64) -> Arrived
 }
 
 // The most cycles from p on, at most so many, whose charges the sum holds.
-pub fn paid(n: u64, turn: Turn, p: Offset, most: u64, sum: u64) -> Paid
+pub fn paid(n: u64, turn: Turn, p: Offset, most: u64, sum: u64) -> Paid<Offset>
     requires { (on_circle n p ≡ true) × (most < 4 * quarter_of n) }
     ensures { result ≡ paid_of n turn p most sum }
 {
     let r = search(Start::enter(n, turn, p), most, sum);
-    let place = r.place;
     Paid {
         cycles: r.cycles,
         charges: r.charges,
-        at: seen_from(turn, point_of(place)),
+        at: seen_from(turn, point_of(r.place)),
     }
 }

@@ -12,7 +12,6 @@ ghost use Rattle.clearance.specs.computed.Asked.{Crossing};
 use circle::count::way_on;
 use circle::plane::{Offset, Turn, seen_from};
 use circle::quadrant::{Place, place_of, turned_by};
-use whole::sign::part;
 
 // How far travel reaches from the centre on each side; negative where the centre is outside.
 #[derive(Clone, Copy)]
@@ -39,88 +38,63 @@ fn room_from(turn: Turn, room: Room) -> Room
 }
 
 // Whether p is at most the corner in both coordinates.
+#[tactic(auto, unfolding(crate::specs::computed::Travel::below_test))]
 fn below(p: Offset, corner: Offset) -> bool
     ensures { result ≡ below_test p corner }
 {
-    let x = p.x <= corner.x;
-    if !x {
-        return false;
-    }
-    p.y <= corner.y
+    p.x <= corner.x && p.y <= corner.y
 }
 
 // Whether a point is inside, whatever the room: p is below the upper corner, and its opposite below that of the lower one.
+#[tactic(auto, unfolding(crate::specs::computed::Travel::inside_test))]
 fn inside(room: Room, p: Offset) -> bool
     requires { (nat_abs p.x < 2 ^ 63) × (nat_abs p.y < 2 ^ 63) }
     ensures { result ≡ inside_test room p }
 {
-    let near = below(
-        p,
-        Offset {
-            x: room.right,
-            y: room.up,
-        },
-    );
-    if !near {
-        return false;
-    }
-    below(
-        turned_by(2, p),
-        Offset {
-            x: room.left,
-            y: room.down,
-        },
-    )
+    let upper = Offset {
+        x: room.right,
+        y: room.up,
+    };
+    let lower = Offset {
+        x: room.left,
+        y: room.down,
+    };
+    below(p, upper) && below(turned_by(2, p), lower)
 }
 
 // Whether travel reaches the circle's point on an axis, the nearest root of n, with the room e on that side.
 // No root is needed, for that is n <= e * e + e; and a room of 2,000,000 passes without a product.
+#[tactic(auto, using(crate::specs::laws::Code::reaching))]
 fn reaches_axis(n: u64, e: i64) -> bool
     requires { n ≤ largest_n }
     ensures { result ≡ reaches n e }
 {
-    let side = part(e);
-    if side.negative {
-        return false;
-    }
-    let m = side.magnitude;
-    if 2_000_000 <= m {
-        return true;
-    }
-    n <= m * m + m
+    let m = e.unsigned_abs();
+    0 <= e && (2_000_000 <= m || n <= m * m + m)
 }
 
 // Axis i, counted from the quadrant `from`, is not passed, or travel reaches far enough there.
+#[tactic(auto, unfolding(crate::specs::computed::Travel::axis_test))]
 fn axis_clear(n: u64, passed: u64, from: u64, i: u64, e: i64) -> bool
     requires { (n ≤ largest_n) × (from < 4) × (i < 4) }
     ensures { result ≡ axis_test n passed from i e }
 {
-    if way_on(4, from, i) <= passed {
-        return reaches_axis(n, e);
-    }
-    true
+    passed < way_on(4, from, i) || reaches_axis(n, e)
 }
 
+#[tactic(auto, unfolding(crate::specs::computed::Travel::axes_test))]
 fn axes_clear(room: Room, n: u64, passed: u64, from: u64) -> bool
     requires { (n ≤ largest_n) × (from < 4) }
     ensures { result ≡ axes_test room n passed from }
 {
-    let right = axis_clear(n, passed, from, 0, room.right);
-    if !right {
-        return false;
-    }
-    let up = axis_clear(n, passed, from, 1, room.up);
-    if !up {
-        return false;
-    }
-    let left = axis_clear(n, passed, from, 2, room.left);
-    if !left {
-        return false;
-    }
-    axis_clear(n, passed, from, 3, room.down)
+    axis_clear(n, passed, from, 0, room.right)
+        && axis_clear(n, passed, from, 1, room.up)
+        && axis_clear(n, passed, from, 2, room.left)
+        && axis_clear(n, passed, from, 3, room.down)
 }
 
 // How many axes the way from p on to e passes or ends on. In one quadrant across - along grows on the way.
+#[tactic(auto, unfolding(crate::specs::computed::Travel::axes_passed))]
 fn axes_passed(p: Place, e: Place) -> u64
     requires { Crossing p e }
     ensures { result ≡ axes_passed p e }
@@ -135,27 +109,15 @@ fn axes_passed(p: Place, e: Place) -> u64
 }
 
 // The counterclockwise way from p on to e, p and e included.
+#[tactic(auto, unfolding(crate::specs::computed::Travel::way_inside))]
 fn way_inside(room: Room, n: u64, p: Offset, e: Offset) -> bool
     requires { (on_circle n p ≡ true) × (on_circle n e ≡ true) }
     ensures { result ≡ way_inside room n p e }
 {
-    let here = inside(room, p);
-    if !here {
-        return false;
-    }
-    let there = inside(room, e);
-    if !there {
-        return false;
-    }
     let from = place_of(p);
-    let to = place_of(e);
-    axes_clear(room, n, axes_passed(from, to), from.quadrant)
-}
-
-fn smaller(a: i64, b: i64) -> i64
-    ensures { result ≡ smaller_of a b }
-{
-    if a <= b { a } else { b }
+    inside(room, p)
+        && inside(room, e)
+        && axes_clear(room, n, axes_passed(from, place_of(e)), from.quadrant)
 }
 
 // Whether the least of the four sides reaches the circle: then every circle point is inside.
@@ -163,9 +125,9 @@ fn surrounds(room: Room, n: u64) -> bool
     requires { n ≤ largest_n }
     ensures { result ≡ true → (p : Offset) → Circle n p → Inside room p }
 {
-    let x = smaller(room.right, room.left);
-    let y = smaller(room.up, room.down);
-    reaches_axis(n, smaller(x, y))
+    let x = room.right.min(room.left);
+    let y = room.up.min(room.down);
+    reaches_axis(n, x.min(y))
 }
 
 // Whether p and every point still to visit on the way to e are inside, for any room.

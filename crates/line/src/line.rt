@@ -1,19 +1,20 @@
 // A line in work: its numbers, the point that it has reached, and one cycle onward.
 ghost use Rattle.std.specs.Prelude.{◌≡◌, true, ◌+◌, ◌*◌, ◌≤◌, eqb};
-ghost use Rattle.whole.specs.Root.{least_root};
 ghost use Rattle.whole.specs.computed.Sign.{join_of};
 ghost use Rattle.whole.specs.Equal.{equal_z};
 ghost use Rattle.plane.specs.Point.{equal_point};
 ghost use Rattle.plane.specs.Pulse.{code_of};
 ghost use Rattle.line.specs.computed.Register.{AxisFits};
 ghost use Rattle.line.specs.Register.{pulses_of};
-ghost use Rattle.line.specs.Line.{axis_steps, axis_moved, line_point, line_width, line_of};
+ghost use Rattle.line.specs.Line.{axis_steps, axis_moved, line_cycles, line_point, line_width, line_of};
 ghost use Rattle.line.specs.computed.Line.{short_of, drawn_of, line_at, stepped_of};
 
 use crate::register::{clock, has_moved, moved, register};
-use plane::point::{Point, between};
+use plane::point::{Increments, Point, between};
 use plane::pulse::{Pulses, code, pulsed};
+use whole::root::{is_least_root, least_root};
 use whole::sign::{SignMagnitude, join};
+use whole::width::width;
 
 #[derive(Clone, Copy)]
 pub struct Line {
@@ -38,30 +39,31 @@ pub struct Stepped {
 // The longest increment that a line within travel can have.
 const LONGEST: u64 = 2_000_000;
 
-fn cycles(a: u64, b: u64) -> u64
-    requires { (a ≤ 2000000) × (b ≤ 2000000) }
-    ensures { result ≡ least_root (a * a + b * b) }
+// The square of the length of a way.
+fn square(way: Increments) -> u64
+    requires { (way.x.magnitude ≤ 2000000) × (way.y.magnitude ≤ 2000000) }
+    ensures { result ≡ way.x.magnitude * way.x.magnitude + way.y.magnitude * way.y.magnitude }
 {
-    whole::root::least_root(a * a + b * b)
+    way.x.magnitude * way.x.magnitude + way.y.magnitude * way.y.magnitude
 }
 
-// Whether q is the number of cycles, by two squares; any q may be asked.
-fn takes(q: u64, a: u64, b: u64) -> bool
-    requires { (a ≤ 2000000) × (b ≤ 2000000) }
-    ensures { result ≡ eqb q (least_root (a * a + b * b)) }
+// Whether a line takes q cycles, by two squares; any q may be asked.
+#[tactic(auto, unfolding(crate::specs::Line::line_cycles))]
+pub fn takes(start: Point, end: Point, q: u64) -> bool
+    requires { short_of start end ≡ true }
+    ensures { result ≡ eqb q (line_cycles start end) }
 {
-    whole::root::is_least_root(a * a + b * b, q)
+    is_least_root(square(between(start, end)), q)
 }
 
 // Whether an axis that was to go `way` has gone `gone` after `done` of q cycles.
+#[tactic(auto, using(crate::specs::laws::Signed::axis_wrong, crate::specs::laws::Signed::axis_none, crate::specs::laws::Signed::axis_sign))]
 fn axis_at(q: u64, done: u64, way: SignMagnitude, gone: SignMagnitude) -> bool
     requires { AxisFits q way.magnitude done }
     ensures { result ≡ equal_z (join_of gone) (axis_moved q (join_of way) done) }
 {
-    if !has_moved(q, way.magnitude, done, gone.magnitude) {
-        return false;
-    }
-    gone.magnitude == 0 || gone.negative == way.negative
+    has_moved(q, way.magnitude, done, gone.magnitude)
+        && (gone.magnitude == 0 || gone.negative == way.negative)
 }
 
 // The code of an axis in the next cycle, from what it has moved.
@@ -86,57 +88,39 @@ fn axis_moved(q: u64, done: u64, way: SignMagnitude) -> i64
 
 impl Line {
     // A line newly loaded.
+    #[tactic(auto, unfolding(crate::specs::Line::line_cycles))]
     pub fn new(start: Point, end: Point, feed: u64) -> Line
         requires { short_of start end ≡ true }
         ensures { result ≡ line_of start end feed }
     {
-        let way = between(start, end);
-        let x = way.x;
-        let y = way.y;
         Line {
-            start: start,
-            end: end,
-            feed: feed,
-            cycles: cycles(x.magnitude, y.magnitude),
+            start,
+            end,
+            feed,
+            cycles: least_root(square(between(start, end))),
             done: 0,
         }
     }
 
     // The fewest bits that hold the longer increment: what a load answers.
+    #[tactic(auto, unfolding(crate::specs::Line::line_width))]
     pub fn width(self) -> u64
         ensures { result ≡ line_width self.start self.end }
     {
-        let start = self.start;
-        let end = self.end;
-        let way = between(start, end);
-        let x = way.x;
-        let y = way.y;
-        if x.magnitude <= y.magnitude {
-            whole::width::width(y.magnitude)
-        } else {
-            whole::width::width(x.magnitude)
-        }
+        let way = between(self.start, self.end);
+        width(way.x.magnitude.max(way.y.magnitude))
     }
 
     // Whether the numbers are those of a line in work, whatever they are: lengths are compared before they are multiplied.
+    #[tactic(auto, unfolding(crate::specs::computed::Line::drawn_of))]
     fn is_drawn(self) -> bool
         ensures { result ≡ drawn_of self }
     {
-        let start = self.start;
-        let end = self.end;
-        let way = between(start, end);
-        let x = way.x;
-        let y = way.y;
-        if LONGEST < x.magnitude {
-            return false;
-        }
-        if LONGEST < y.magnitude {
-            return false;
-        }
-        if !takes(self.cycles, x.magnitude, y.magnitude) {
-            return false;
-        }
-        self.done < self.cycles
+        let way = between(self.start, self.end);
+        way.x.magnitude <= LONGEST
+            && way.y.magnitude <= LONGEST
+            && takes(self.start, self.end, self.cycles)
+            && self.done < self.cycles
     }
 
     // Whether the line has reached this point, by products alone.
@@ -144,28 +128,18 @@ impl Line {
         requires { drawn_of self ≡ true }
         ensures { result ≡ equal_point at (line_point self.start self.end self.done) }
     {
-        let start = self.start;
-        let end = self.end;
-        let way = between(start, end);
-        let gone = between(start, at);
-        let x = way.x;
-        let y = way.y;
-        let gone_x = gone.x;
-        let gone_y = gone.y;
-        if !axis_at(self.cycles, self.done, x, gone_x) {
-            return false;
-        }
-        axis_at(self.cycles, self.done, y, gone_y)
+        let way = between(self.start, self.end);
+        let gone = between(self.start, at);
+        axis_at(self.cycles, self.done, way.x, gone.x)
+            && axis_at(self.cycles, self.done, way.y, gone.y)
     }
 
     // Whether this is a line in work at this point, for any line and any point.
+    #[tactic(auto, unfolding(crate::specs::computed::Line::line_at))]
     pub fn is_at(self, at: Point) -> bool
         ensures { result ≡ line_at self at }
     {
-        if !self.is_drawn() {
-            return false;
-        }
-        self.has_reached(at)
+        self.is_drawn() && self.has_reached(at)
     }
 
     // The codes of the next cycle, with no division: each axis clocks its register.
@@ -173,17 +147,11 @@ impl Line {
         requires { line_at self at ≡ true }
         ensures { result ≡ (stepped_of self).pulses }
     {
-        let start = self.start;
-        let end = self.end;
-        let way = between(start, end);
-        let gone = between(start, at);
-        let x = way.x;
-        let y = way.y;
-        let gone_x = gone.x;
-        let gone_y = gone.y;
+        let way = between(self.start, self.end);
+        let gone = between(self.start, at);
         Pulses {
-            x: axis_code(self.cycles, self.done, x, gone_x.magnitude),
-            y: axis_code(self.cycles, self.done, y, gone_y.magnitude),
+            x: axis_code(self.cycles, self.done, way.x, gone.x.magnitude),
+            y: axis_code(self.cycles, self.done, way.y, gone.y.magnitude),
         }
     }
 
@@ -193,12 +161,13 @@ impl Line {
         ensures { result ≡ stepped_of self }
     {
         let pulses = self.codes(at);
-        let mut line = self;
-        line.done = self.done + 1;
         Stepped {
-            line: line,
+            line: Line {
+                done: self.done + 1,
+                ..self
+            },
             at: pulsed(at, pulses),
-            pulses: pulses,
+            pulses,
         }
     }
 
@@ -207,14 +176,10 @@ impl Line {
         requires { drawn_of self ≡ true }
         ensures { result ≡ line_point self.start self.end self.done }
     {
-        let start = self.start;
-        let end = self.end;
-        let way = between(start, end);
-        let x = way.x;
-        let y = way.y;
+        let way = between(self.start, self.end);
         Point {
-            x: start.x + axis_moved(self.cycles, self.done, x),
-            y: start.y + axis_moved(self.cycles, self.done, y),
+            x: self.start.x + axis_moved(self.cycles, self.done, way.x),
+            y: self.start.y + axis_moved(self.cycles, self.done, way.y),
         }
     }
 }

@@ -48,6 +48,7 @@ pub fn moved(capacity: u64, increment: u64, done: u64) -> u64
 }
 
 // Whether the axis has moved so far, by products alone; any number may be asked.
+#[tactic(auto, using(crate::specs::laws::Axis::too_far, crate::specs::laws::Axis::not_yet, crate::specs::laws::Axis::by_product))]
 pub fn has_moved(capacity: u64, increment: u64, done: u64, moved: u64) -> bool
     requires { AxisFits capacity increment done }
     ensures { result ≡ eqb moved (axis_steps capacity increment done) }
@@ -57,8 +58,5 @@ pub fn has_moved(capacity: u64, increment: u64, done: u64, moved: u64) -> bool
     }
     let sum = capacity / 2 + increment * done;
     let whole = capacity * moved;
-    if sum < whole {
-        return false;
-    }
-    sum - whole < capacity
+    whole <= sum && sum - whole < capacity
 }

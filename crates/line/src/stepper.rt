@@ -65,18 +65,16 @@ impl Track {
         if self.increment <= self.room {
             Tracked {
                 track: Track {
-                    increment: self.increment,
                     room: self.room - self.increment,
-                    code: self.code,
+                    ..self
                 },
                 code: 0,
             }
         } else {
             Tracked {
                 track: Track {
-                    increment: self.increment,
                     room: self.room + capacity - self.increment,
-                    code: self.code,
+                    ..self
                 },
                 code: self.code,
             }
@@ -90,41 +88,32 @@ impl Stepper {
         requires { line_at l at ≡ true }
         ensures { result ≡ stepper_of l }
     {
-        let start = l.start;
-        let end = l.end;
-        let way = between(start, end);
-        let gone = between(start, at);
-        let x = way.x;
-        let y = way.y;
-        let gone_x = gone.x;
-        let gone_y = gone.y;
+        let way = between(l.start, l.end);
+        let gone = between(l.start, at);
         Stepper {
             capacity: l.cycles,
-            x: track_after(l.cycles, l.done, x, gone_x.magnitude),
-            y: track_after(l.cycles, l.done, y, gone_y.magnitude),
+            x: track_after(l.cycles, l.done, way.x, gone.x.magnitude),
+            y: track_after(l.cycles, l.done, way.y, gone.y.magnitude),
         }
     }
 
     // One cycle onward.
+    #[tactic(auto, unfolding(crate::specs::computed::Stepper::advanced_of))]
     pub fn advance(self) -> Advanced
         requires { Fitting self }
         ensures { result ≡ advanced_of self }
     {
-        let x = self.x;
-        let y = self.y;
-        let a = x.advance(self.capacity);
-        let b = y.advance(self.capacity);
-        let next_x = a.track;
-        let next_y = b.track;
+        let x = self.x.advance(self.capacity);
+        let y = self.y.advance(self.capacity);
         Advanced {
             stepper: Stepper {
                 capacity: self.capacity,
-                x: next_x,
-                y: next_y,
+                x: x.track,
+                y: y.track,
             },
             pulses: Pulses {
-                x: a.code,
-                y: b.code,
+                x: x.code,
+                y: y.code,
             },
         }
     }

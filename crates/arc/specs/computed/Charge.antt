@@ -6,7 +6,7 @@ use Rattle.charges.specs.declared.Span.{Span}
 use Rattle.charges.specs.Paid.{most_paid}
 use Rattle.charges.specs.computed.Sum.{charges_in}
 use Rattle.arc.specs.declared.arc.Arc.{Arc}
-use Rattle.arc.specs.declared.arc.ArcPaid.{ArcPaid}
+use Rattle.charges.specs.declared.Paid.{Paid}
 use Rattle.arc.specs.Centre.{seen_from}
 use Rattle.arc.specs.computed.Arc.{arc_after, arc_cycles}
 
@@ -28,7 +28,7 @@ abbrev pub arc_span_of : Arc → (at : Point) → Span
 arc_span_of a at = record { cycles = arc_cycles a at; charges = arc_charges a at }
 
 -- what a sum pays for: so many cycles, their charges, and the point after them
-unfoldable pub arc_paid_of : Arc → (at : Point) (most sum : ℕ) → ArcPaid
+unfoldable pub arc_paid_of : Arc → (at : Point) (most sum : ℕ) → Paid Point
 arc_paid_of a at most sum =
     let c = most_paid (arc_charges_in a at) sum most in
     record { cycles = c; charges = arc_charges_in a at c; at = arc_after a at c }

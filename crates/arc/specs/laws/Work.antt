@@ -1,8 +1,8 @@
 -- An arc in work: what its test says, and that one cycle keeps it.
-use Rattle.std.specs.Prelude.{◌≡◌, true, ℕ, suc, ◌≤◌, ℤ, pos, negsuc, nat_abs}
-use Rattle.std.proofs.Common.{subst, arith}
+use Rattle.std.specs.Prelude.{◌≡◌, true, false, ℕ, suc, ◌≤◌, ℤ, pos, negsuc, nat_abs}
+use Rattle.std.proofs.Common.{subst, sym, ◌∙◌, arith, true≢false}
 use Rattle.whole.specs.laws.Order.{◌≼◌}
-use Rattle.whole.specs.laws.Test.{both, joined}
+use Rattle.whole.specs.laws.Test.{both, joined, refuted}
 use Rattle.plane.specs.declared.point.Point.{Point}
 use Rattle.plane.specs.declared.travel.Travel.{Travel}
 use Rattle.plane.specs.Travel.{inside_of, visits_inside}
@@ -91,3 +91,9 @@ centre_inside p n = inside_test_lem {t = centres} {p = p} (record { x = by p.x n
     by : (z : ℤ) → nat_abs z ≤ 2000000 → InRange centres.x z
     by (pos a) h = record { above = omega arith; below = omega arith }
     by (negsuc a) h = record { above = omega arith; below = omega arith }
+
+-- no arc is in work whose end is out of travel
+pub arc_out : (t : Travel) (a : Arc) (at : Point) → inside_of t a.end ≡ false → arc_at t a at ≡ false
+arc_out t a at out = refuted _ (λ e. true≢false (sym (inside_test_lem (end_inside (arc_at_lem e))) ∙ out))
+
+pub ruleset in_work = (arc_out, centre_near, inside, travel_near)

@@ -32,3 +32,5 @@ module _ (n : ℕ) where
 
   pub reaches_wide : (z : ℤ) → n ≤ largest_n → is_negative z ≡ false → 2000000 ≤ nat_abs z → reaches n z ≡ true
   reaches_wide z l h w = rw (reaches_positive z h) (le-leb n (nat_abs z * nat_abs z + nat_abs z) (omega (arith, mul-le-mul w w)))
+
+pub ruleset reaching = (reaches_negative, reaches_positive, reaches_wide)

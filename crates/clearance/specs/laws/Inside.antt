@@ -12,10 +12,11 @@ use Rattle.std.proofs.Math.Bool.{true, false, cond}
 use Prim.Native.Nat.{ℕ, zero, suc, ◌+◌, ◌*◌, ◌≤◌, ◌<◌}
 use Rattle.std.proofs.Math.Dec.{leb}
 use Rattle.std.proofs.Math.IntN.{neg_ℤ-neg_ℤ}
-use Rattle.std.specs.Int.Signed.{le_z}
+use Rattle.std.specs.Int.{int_min}
+use Rattle.std.specs.Int.Signed.{lt_z, le_z}
 use Rattle.whole.specs.Root.{nearest_root}
 use Rattle.whole.specs.laws.Difference.{natural, negated}
-use Rattle.whole.specs.laws.Order.{◌≼◌, from_≤ℤ, to_≤ℤ, le_z_true, le_z_false, abs_is, abs_neg}
+use Rattle.whole.specs.laws.Order.{◌≼◌, from_≤ℤ, to_≤ℤ, lt_z_true, lt_z_false, le_z_true, le_z_false, abs_is, abs_neg}
 use Rattle.whole.specs.laws.Test.{both, joined}
 use Rattle.circle.specs.declared.plane.Offset.{Offset}
 use Rattle.circle.specs.declared.plane.Turn.{Turn}
@@ -352,6 +353,16 @@ smaller_both a b = by (le_z a b) refl
     by : (t : Bool) → le_z a b ≡ t → (cond t a b ≼ a) × (cond t a b ≼ b)
     by true e = omega (arith, le_z_true a b e)
     by false e = omega (arith, le_z_false a b e)
+
+-- the library's smaller number
+pub smaller_library : (a b : ℤ) → int_min a b ≡ smaller_of a b
+smaller_library a b = by (lt_z b a) (le_z a b) refl refl
+  where
+    by : (l m : Bool) → lt_z b a ≡ l → le_z a b ≡ m → cond l b a ≡ cond m a b
+    by true true d e = absurd (omega (arith, lt_z_true b a d, le_z_true a b e))
+    by true false d e = refl
+    by false true d e = refl
+    by false false d e = absurd (omega (arith, lt_z_false b a d, le_z_false a b e))
 
 abbrev pub least_side : Room → ℤ
 least_side room = smaller_of (smaller_of room.right room.left) (smaller_of room.up room.down)

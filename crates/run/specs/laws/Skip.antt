@@ -17,7 +17,7 @@ use Rattle.line.specs.computed.Line.{drawn_of}
 use Rattle.line.specs.laws.Work.{drawn_test}
 use Rattle.charges.specs.laws.Paid.{Most}
 use Rattle.arc.specs.declared.arc.Arc.{Arc}
-use Rattle.arc.specs.declared.arc.ArcPaid.{ArcPaid}
+use Rattle.charges.specs.declared.Paid.{Paid}
 use Rattle.arc.specs.computed.Arc.{arc_after, arc_cycles}
 use Rattle.arc.specs.computed.Charge.{arc_charges_in, arc_paid_of}
 use Rattle.arc.specs.laws.Charge.{arc_paid_unique}
@@ -143,7 +143,7 @@ module _ {q0 : ℕ} {at : Point} {r : ℕ} (a : Arc) (i : SoundIn q0 at r (Work.
           let z : x < sum / q0 + 1 = lt_of_mul-lt-mul_right q0 {m = x} {n = sum / q0 + 1} (omega (arith, lt-div-mul-add {a = sum} some)) in
           omega arith
 
-  module _ {p : ArcPaid} (paid : p ≡ arc_paid_of a at (min t (arc_cycles a at - 1)) (sum / q0)) where
+  module _ {p : Paid Point} (paid : p ≡ arc_paid_of a at (min t (arc_cycles a at - 1)) (sum / q0)) where
     paid_is : p ≡ record { cycles = done; charges = arc_charges_in a at done; at = arc_after a at done }
     unfolding arc_paid_of
     paid_is =
@@ -154,7 +154,7 @@ module _ {q0 : ℕ} {at : Point} {r : ℕ} (a : Arc) (i : SoundIn q0 at r (Work.
     adds_up =
         let d = dues_of q0 at (Work.Arc a) in
         let e = (ticked d (1000 * a.feed) (added_some i) (each_due i) r t).adds_up in
-        omega (arith, e, dues_for q0 at (Work.Arc a) refl done, ap (λ (x : ArcPaid). x.charges * q0) paid_is)
+        omega (arith, e, dues_for q0 at (Work.Arc a) refl done, ap (λ (x : Paid Point). x.charges * q0) paid_is)
 
     pub paid_fits : p.charges * q0 ≤ sum
     paid_fits = omega (arith, adds_up)

@@ -16,8 +16,8 @@ overflow_add-most c = omega (arith, few c.args.s c.args.most c.requires.0 c.requ
 pub loop-low-init : goal.loop-low-init
 loop-low-init c =
     let a = c.args in
-    search_start a.s a.most a.sum c.requires.0 c.too_many-high.result c.cycles_near.result c.least-next.result c.too_many-high.ensures
-    c.cycles_near.ensures c.least-next.ensures
+    search_start a.s a.most a.sum c.requires.0 c.too_many-high.result c.cycles_near.result c.min-next.result c.too_many-high.ensures
+    c.cycles_near.ensures c.min-next.ensures
 
 pub too_many-high-requires-then-r-sum : goal.too_many-high-requires-then-r-sum
 too_many-high-requires-then-r-sum c =
