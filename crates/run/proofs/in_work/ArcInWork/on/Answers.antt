@@ -1,7 +1,8 @@
 -- The cycles done are the most that whole charges of the sum pay, at most one a tick and fewer than are left.
 use Rattle.std.proofs.Common.{◌≡◌, ap, ◌∙◌, ◌+◌, ◌-◌, ◌*◌, ◌/◌, arith, ℕ}
 use Rattle.std.specs.Prelude.{min}
-use Rattle.arc.specs.declared.arc.ArcPaid.{ArcPaid}
+use Rattle.plane.specs.declared.point.Point.{Point}
+use Rattle.charges.specs.declared.Paid.{Paid}
 use Rattle.arc.specs.computed.Arc.{arc_cycles}
 use Rattle.arc.specs.computed.Charge.{arc_paid_of}
 use Rattle.run.specs.declared.in_work.ArcInWork.{ArcInWork}
@@ -28,7 +29,7 @@ most : (ticks : ℕ) (a : ArcInWork) {cycles n : ℕ} → cycles ≡ arc_cycles 
     → n ≡ min ticks (arc_cycles a.arc a.at - 1)
 most ticks a left n = n ∙ ap (λ (k : ℕ). min ticks (k - 1)) left
 
-paid : (ticks : ℕ) (a : ArcInWork) {cycles n : ℕ} → cycles ≡ arc_cycles a.arc a.at → n ≡ min ticks (cycles - 1) → {p : ArcPaid} →
+paid : (ticks : ℕ) (a : ArcInWork) {cycles n : ℕ} → cycles ≡ arc_cycles a.arc a.at → n ≡ min ticks (cycles - 1) → {p : Paid Point} →
     (let sum = a.remainder + ticks * (1000 * a.arc.feed) in
     p ≡ arc_paid_of a.arc a.at n (sum / a.capacity) → p ≡ arc_paid_of a.arc a.at (min ticks (arc_cycles a.arc a.at - 1)) (sum / a.capacity))
 paid ticks a left n p =
