@@ -55,8 +55,7 @@ pub fn vz_check_fill(
     if !is_sound(bench) {
         return -9;
     }
-    let before = *bench;
-    let m = bench_read(before);
+    let m = bench_read(bench);
     let given = *progress;
     let p = decode_progress(m, given);
     let check = p.check;

@@ -70,8 +70,7 @@ pub fn vz_panel_read(
     if !is_sound(bench) {
         return -9;
     }
-    let before = *bench;
-    let m = bench_read(before);
+    let m = bench_read(bench);
     let given = *panel;
     let p = decode_panel(m, given);
     let check = p.check;

@@ -2,3 +2,4 @@ pub mod Number
 pub mod Same
 pub mod Right
 pub mod Record
+pub mod Kind

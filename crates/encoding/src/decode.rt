@@ -1,5 +1,5 @@
 // The bench that 19 words tell, and whether they are a sound record.
-ghost use Rattle.std.specs.Prelude.{◌≡◌};
+ghost use Rattle.std.specs.Prelude.{◌≡◌, ◌≤◌, length};
 ghost use Rattle.encoding.specs.computed.Words.{line_read, arc_read, work_read, head_in, work_words_in, settings_in, bench_of, bench_read};
 ghost use Rattle.encoding.specs.computed.Words.{is_record};
 ghost use Rattle.encoding.specs.computed.Words.{sound_words};
@@ -19,11 +19,9 @@ use work::Work;
 fn line_of(w: WorkWords) -> Line
     ensures { result ≡ line_read w }
 {
-    let start = Point { x: w.a, y: w.b };
-    let end = Point { x: w.c, y: w.d };
     Line {
-        start: start,
-        end: end,
+        start: Point { x: w.a, y: w.b },
+        end: Point { x: w.c, y: w.d },
         feed: count(w.e),
         cycles: count(w.f),
         done: count(w.g),
@@ -33,13 +31,11 @@ fn line_of(w: WorkWords) -> Line
 fn arc_of(turn: Turn, w: WorkWords) -> Arc
     ensures { result ≡ arc_read turn w }
 {
-    let centre = Point { x: w.a, y: w.b };
-    let end = Point { x: w.d, y: w.e };
     Arc {
-        centre: centre,
+        centre: Point { x: w.a, y: w.b },
         square: count(w.c),
-        turn: turn,
-        end: end,
+        turn,
+        end: Point { x: w.d, y: w.e },
         feed: count(w.f),
     }
 }
@@ -51,17 +47,16 @@ pub fn work_of(w: WorkWords) -> Work
     if kind == 1 {
         return Work::Line(line_of(w));
     }
-    if kind == 2 {
-        return Work::Arc(arc_of(Turn::Clockwise, w));
+    match Turn::try_from(kind) {
+        Ok(turn) => Work::Arc(arc_of(turn, w)),
+        Err(_) => Work::Nothing,
     }
-    if kind == 3 {
-        return Work::Arc(arc_of(Turn::Counterclockwise, w));
-    }
-    Work::Nothing
 }
 
-fn head_in(words: [i64; 19]) -> Head
-    ensures { result ≡ head_in words }
+// The words may have others behind them, as those of a machine with a queue have.
+pub fn head_in(words: &[i64]) -> Head
+    requires { 19 ≤ length words.now }
+    ensures { result ≡ head_in words.now }
 {
     Head {
         p: words[1],
@@ -77,8 +72,9 @@ fn head_in(words: [i64; 19]) -> Head
     }
 }
 
-fn work_words_in(words: [i64; 19]) -> WorkWords
-    ensures { result ≡ work_words_in words }
+pub fn work_words_in(words: &[i64]) -> WorkWords
+    requires { 19 ≤ length words.now }
+    ensures { result ≡ work_words_in words.now }
 {
     WorkWords {
         kind: words[11],
@@ -101,44 +97,39 @@ fn settings_in(h: Head) -> Settings
 pub fn bench_of(h: Head, work: Work) -> Bench
     ensures { result ≡ bench_of h work }
 {
-    let settings = settings_in(h);
-    let at = Point { x: h.x, y: h.y };
-    let mark = count(h.mark);
     Bench {
-        settings: settings,
-        at: at,
-        held: mark == 1,
+        settings: settings_in(h),
+        at: Point { x: h.x, y: h.y },
+        held: count(h.mark) == 1,
         remainder: count(h.remainder),
-        work: work,
+        work,
     }
 }
 
 // Whether the words are a record. Each that is no position is asked whether `encode` writes such, so that nothing need be encoded again.
-fn is_record(words: [i64; 19]) -> bool
-    ensures { result ≡ is_record words }
+fn is_record(words: &[i64; 19]) -> bool
+    ensures { result ≡ is_record words.now }
 {
     words_right(words[0], head_in(words), work_words_in(words))
 }
 
 // The bench that words tell, whatever they are.
-pub fn bench_read(words: [i64; 19]) -> Bench
-    ensures { result ≡ bench_read words }
+#[tactic(auto, unfolding(crate::specs::computed::Words::bench_read))]
+pub fn bench_read(words: &[i64]) -> Bench
+    requires { 19 ≤ length words.now }
+    ensures { result ≡ bench_read words.now }
 {
-    let work = work_of(work_words_in(words));
-    bench_of(head_in(words), work)
+    bench_of(head_in(words), work_of(work_words_in(words)))
 }
 
 // Whether the words are those of a sound record.
+#[tactic(auto, unfolding(crate::specs::computed::Words::sound_words))]
 pub fn is_sound(words: &[i64; 19]) -> bool
     ensures { result ≡ sound_words words.now }
 {
-    let given = *words;
-    if !is_record(given) {
+    if !is_record(words) {
         return false;
     }
-    let m = bench_read(given);
-    let settings = m.settings;
-    let at = m.at;
-    let work = m.work;
-    sound(settings, at, m.remainder, work)
+    let m = bench_read(words);
+    sound(m.settings, m.at, m.remainder, m.work)
 }

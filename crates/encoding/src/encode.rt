@@ -7,6 +7,7 @@ use arc::arc::Arc;
 use bench::Bench;
 use circle::plane::Turn;
 use line::line::Line;
+use plane::travel::Travel;
 use work::Work;
 
 // Word 0, the number of the layout, of these words and of those of a machine with a queue.
@@ -43,16 +44,13 @@ pub struct WorkWords {
 pub fn mark_word(held: bool) -> i64
     ensures { result ≡ mark_word held }
 {
-    if held { 1 } else { 0 }
+    i64::from(held)
 }
 
 pub fn turn_word(turn: Turn) -> i64
     ensures { result ≡ turn_word turn }
 {
-    match turn {
-        Turn::Clockwise => 2,
-        Turn::Counterclockwise => 3,
-    }
+    word(u64::from(turn))
 }
 
 pub fn nothing_words() -> WorkWords
@@ -73,14 +71,12 @@ pub fn nothing_words() -> WorkWords
 fn line_words(l: Line) -> WorkWords
     ensures { result ≡ work_words_of (Work.Line l) }
 {
-    let start = l.start;
-    let end = l.end;
     WorkWords {
         kind: 1,
-        a: start.x,
-        b: start.y,
-        c: end.x,
-        d: end.y,
+        a: l.start.x,
+        b: l.start.y,
+        c: l.end.x,
+        d: l.end.y,
         e: word(l.feed),
         f: word(l.cycles),
         g: word(l.done),
@@ -90,16 +86,13 @@ fn line_words(l: Line) -> WorkWords
 fn arc_words(a: Arc) -> WorkWords
     ensures { result ≡ work_words_of (Work.Arc a) }
 {
-    let centre = a.centre;
-    let end = a.end;
-    let turn = a.turn;
     WorkWords {
-        kind: turn_word(turn),
-        a: centre.x,
-        b: centre.y,
+        kind: turn_word(a.turn),
+        a: a.centre.x,
+        b: a.centre.y,
         c: word(a.square),
-        d: end.x,
-        e: end.y,
+        d: a.end.x,
+        e: a.end.y,
         f: word(a.feed),
         g: 0,
     }
@@ -118,20 +111,16 @@ pub fn work_words(work: Work) -> WorkWords
 fn head_words(m: Bench) -> Head
     ensures { result ≡ head_of m }
 {
-    let settings = m.settings;
-    let travel = settings.travel;
-    let x = travel.x;
-    let y = travel.y;
-    let at = m.at;
+    let Travel { x, y } = m.settings.travel;
     Head {
-        p: word(settings.scale),
-        w: word(settings.clock),
+        p: word(m.settings.scale),
+        w: word(m.settings.clock),
         xlo: x.lower,
         xhi: x.upper,
         ylo: y.lower,
         yhi: y.upper,
-        x: at.x,
-        y: at.y,
+        x: m.at.x,
+        y: m.at.y,
         mark: mark_word(m.held),
         remainder: word(m.remainder),
     }
@@ -164,10 +153,9 @@ fn lay(h: Head, w: WorkWords) -> [i64; 19]
     ]
 }
 
+#[tactic(auto, unfolding(crate::specs::Words::encode_of))]
 pub fn encode(m: Bench) -> [i64; 19]
     ensures { result ≡ encode_of m }
 {
-    let work = m.work;
-    let head = head_words(m);
-    lay(head, work_words(work))
+    lay(head_words(m), work_words(m.work))
 }

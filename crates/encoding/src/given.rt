@@ -9,18 +9,18 @@ use settings::Settings;
 pub fn settings(p: i64, w: i64, xlo: i64, xhi: i64, ylo: i64, yhi: i64) -> Settings
     ensures { result ≡ settings_of p w xlo xhi ylo yhi }
 {
-    let x = Range {
-        lower: xlo,
-        upper: xhi,
-    };
-    let y = Range {
-        lower: ylo,
-        upper: yhi,
-    };
-    let travel = Travel { x: x, y: y };
     Settings {
         scale: count(p),
         clock: count(w),
-        travel: travel,
+        travel: Travel {
+            x: Range {
+                lower: xlo,
+                upper: xhi,
+            },
+            y: Range {
+                lower: ylo,
+                upper: yhi,
+            },
+        },
     }
 }

@@ -7,18 +7,14 @@ ghost use Rattle.encoding.specs.computed.Right.{is_count};
 pub fn count(word: i64) -> u64
     ensures { result ≡ count_of word }
 {
-    if word < 0 { 0 } else { word as u64 }
+    u64::try_from(word).unwrap_or(0)
 }
 
 // A count that no i64 holds stands in no sound record: -1, which is read as no count.
 pub fn word(count: u64) -> i64
     ensures { result ≡ word_of count }
 {
-    if count < 9_223_372_036_854_775_808 {
-        count as i64
-    } else {
-        -1
-    }
+    i64::try_from(count).unwrap_or(-1)
 }
 
 pub fn refusal(question: u64) -> i64

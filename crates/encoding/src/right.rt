@@ -4,106 +4,54 @@ ghost use Rattle.encoding.specs.computed.Right.{is_mark, head_right, nothing_rig
 
 use crate::encode::{ABI, Head, WorkWords};
 use crate::number::is_count;
-use whole::equal::equal;
 
 fn is_mark(word: i64) -> bool
     ensures { result ≡ is_mark word }
 {
-    if equal(word, 0) {
-        return true;
-    }
-    equal(word, 1)
+    word == 0 || word == 1
 }
 
+#[tactic(auto, unfolding(crate::specs::computed::Right::head_right))]
 pub fn head_right(h: Head) -> bool
     ensures { result ≡ head_right h }
 {
-    if !is_count(h.p) {
-        return false;
-    }
-    if !is_count(h.w) {
-        return false;
-    }
-    if !is_mark(h.mark) {
-        return false;
-    }
-    is_count(h.remainder)
+    is_count(h.p) && is_count(h.w) && is_mark(h.mark) && is_count(h.remainder)
 }
 
 fn nothing_right(w: WorkWords) -> bool
     ensures { result ≡ nothing_right w }
 {
-    if !equal(w.a, 0) {
-        return false;
-    }
-    if !equal(w.b, 0) {
-        return false;
-    }
-    if !equal(w.c, 0) {
-        return false;
-    }
-    if !equal(w.d, 0) {
-        return false;
-    }
-    if !equal(w.e, 0) {
-        return false;
-    }
-    if !equal(w.f, 0) {
-        return false;
-    }
-    equal(w.g, 0)
+    w.a == 0 && w.b == 0 && w.c == 0 && w.d == 0 && w.e == 0 && w.f == 0 && w.g == 0
 }
 
 fn line_right(w: WorkWords) -> bool
     ensures { result ≡ line_right w }
 {
-    if !is_count(w.e) {
-        return false;
-    }
-    if !is_count(w.f) {
-        return false;
-    }
-    is_count(w.g)
+    is_count(w.e) && is_count(w.f) && is_count(w.g)
 }
 
 fn arc_right(w: WorkWords) -> bool
     ensures { result ≡ arc_right w }
 {
-    if !is_count(w.c) {
-        return false;
-    }
-    if !is_count(w.f) {
-        return false;
-    }
-    equal(w.g, 0)
+    is_count(w.c) && is_count(w.f) && w.g == 0
 }
 
+#[tactic(auto, unfolding(crate::specs::computed::Right::work_right))]
 pub fn work_right(w: WorkWords) -> bool
     ensures { result ≡ work_right w }
 {
-    if equal(w.kind, 0) {
+    if w.kind == 0 {
         return nothing_right(w);
     }
-    if equal(w.kind, 1) {
+    if w.kind == 1 {
         return line_right(w);
     }
-    if equal(w.kind, 2) {
-        return arc_right(w);
-    }
-    if equal(w.kind, 3) {
-        return arc_right(w);
-    }
-    false
+    (w.kind == 2 || w.kind == 3) && arc_right(w)
 }
 
+#[tactic(auto, unfolding(crate::specs::computed::Right::parts_right))]
 pub fn words_right(abi: i64, h: Head, w: WorkWords) -> bool
     ensures { result ≡ parts_right abi h w }
 {
-    if !equal(abi, ABI) {
-        return false;
-    }
-    if !head_right(h) {
-        return false;
-    }
-    work_right(w)
+    abi == ABI && head_right(h) && work_right(w)
 }

@@ -5,35 +5,28 @@ ghost use Rattle.plane.specs.computed.Travel.{Wide};
 ghost use Rattle.bench.specs.computed.Bench.{sound_of};
 ghost use Rattle.encoding.specs.Words.{at};
 ghost use Rattle.record.specs.computed.Words.{sound_words};
-ghost use Rattle.record.specs.computed.Right.{figures_right, is_front, block_row_right, row_sound, waiting_sound};
+ghost use Rattle.record.specs.computed.Right.{figures_right, is_front, kind_right, block_row_right, row_sound, waiting_sound};
 
 use crate::read::{
-    BlockWords, Figures, bench_in, block_words_in, figures_in, head_in, left_in, len_in, root_in,
-    waiting_of, work_words_in,
+    BlockWords, Figures, bench_in, block_words_in, figures_in, left_in, len_in, root_in, waiting_of,
 };
 use bench::{Bench, sound};
-use encoding::encode::ABI;
+use encoding::decode::{head_in, work_words_in};
 use encoding::number::is_count;
-use encoding::right::{head_right, work_right};
+use encoding::right::words_right;
 use machine::waiting::work_off;
 use plane::point::Point;
 use plane::travel::Travel;
 use queue::take_off;
 use settings::capacity;
-use whole::equal::equal;
 use work::is_nothing;
 use work::rest::end_of;
 
+#[tactic(auto, unfolding(crate::specs::computed::Right::figures_right))]
 fn figures_right(f: Figures) -> bool
     ensures { result ≡ figures_right f }
 {
-    if !is_count(f.root) {
-        return false;
-    }
-    if !is_count(f.left) {
-        return false;
-    }
-    is_count(f.len)
+    is_count(f.root) && is_count(f.left) && is_count(f.len)
 }
 
 // Whether the words in front are those of what they tell. Each that is no position is asked whether `encode_of` gives such, so that nothing
@@ -41,41 +34,25 @@ fn figures_right(f: Figures) -> bool
 fn is_front(words: &[i64; 134]) -> bool
     ensures { result ≡ is_front words.now }
 {
-    let head = head_in(words);
-    let work = work_words_in(words);
     let figures = figures_in(words);
-    if !equal(words[0], ABI) {
-        return false;
+    words_right(words[0], head_in(words), work_words_in(words)) && figures_right(figures)
+}
+
+// Whether a block's kind is one, and of a line the centre's words are 0.
+fn is_kind(b: BlockWords) -> bool
+    ensures { result ≡ kind_right b }
+{
+    if b.kind == 1 {
+        return b.i == 0 && b.j == 0;
     }
-    if !head_right(head) {
-        return false;
-    }
-    if !work_right(work) {
-        return false;
-    }
-    figures_right(figures)
+    b.kind == 2 || b.kind == 3
 }
 
 // Whether a block's words are those of what they tell.
 fn is_block(b: BlockWords) -> bool
     ensures { result ≡ block_row_right b }
 {
-    if !is_count(b.feed) {
-        return false;
-    }
-    if !is_count(b.root) {
-        return false;
-    }
-    if equal(b.kind, 1) {
-        if !equal(b.i, 0) {
-            return false;
-        }
-        return equal(b.j, 0);
-    }
-    if equal(b.kind, 2) {
-        return true;
-    }
-    equal(b.kind, 3)
+    is_count(b.feed) && is_count(b.root) && is_kind(b)
 }
 
 // Whether the words of so many blocks that wait are right, they are sound behind a block that ends at `from`, and they take so many cycles.

@@ -11,11 +11,11 @@ ghost use Rattle.record.specs.computed.Write.{waits_of};
 ghost use Rattle.record.specs.computed.Write.{idle_of};
 ghost use Rattle.encoding.specs.Words.{word_of};
 
-use crate::read::{BlockWords, bench_in, figures_in, left_in, len_in, waiting_in};
+use crate::read::{BlockWords, bench_in, left_in, len_in, waiting_in};
 use bench::Bench;
 use block::{Block, Path};
 use encoding::encode::{WorkWords, mark_word, nothing_words, turn_word, work_words};
-use encoding::number::{count, word};
+use encoding::number::word;
 use plane::point::Point;
 use queue::Waiting;
 use work::rest::{cycles_left, root_of};
@@ -24,32 +24,22 @@ use work::{Work, begin, is_nothing};
 fn set_place(words: &mut [i64; 134], at: Point, remainder: u64)
     ensures { words.new ≡ set_place words.old at remainder }
 {
-    let x = at.x;
-    let y = at.y;
-    words[7] = x;
-    words[8] = y;
+    words[7] = at.x;
+    words[8] = at.y;
     words[10] = word(remainder);
 }
 
 fn set_work(words: &mut [i64; 134], w: WorkWords)
     ensures { words.new ≡ set_work words.old w }
 {
-    let kind = w.kind;
-    let a = w.a;
-    let b = w.b;
-    let c = w.c;
-    let d = w.d;
-    let e = w.e;
-    let f = w.f;
-    let g = w.g;
-    words[11] = kind;
-    words[12] = a;
-    words[13] = b;
-    words[14] = c;
-    words[15] = d;
-    words[16] = e;
-    words[17] = f;
-    words[18] = g;
+    words[11] = w.kind;
+    words[12] = w.a;
+    words[13] = w.b;
+    words[14] = w.c;
+    words[15] = w.d;
+    words[16] = w.e;
+    words[17] = w.f;
+    words[18] = w.g;
 }
 
 // The first block's words go, and those of the others, so many, move up by seven words.
@@ -65,19 +55,15 @@ fn bring_in(words: &mut [i64; 134], at: Point)
     requires { Bringing words.old at }
     ensures { words.new ≡ brought_of words.old at (len_in words.old) }
 {
-    let figures = figures_in(words);
-    let len = count(figures.len);
+    let len = len_in(words);
     if len == 0 {
         set_work(words, nothing_words());
         words[19] = 0;
         return;
     }
     let w = waiting_in(words, 0);
-    let b = w.block;
-    let begun = begin(at, b);
-    let first = begun.work;
     let others = len - 1;
-    set_work(words, work_words(first));
+    set_work(words, work_words(begin(at, w.block).work));
     words[19] = word(w.root);
     words[21] = word(others);
     shift(words, others as usize);
@@ -94,12 +80,10 @@ pub fn store_ticks(words: &mut [i64; 134], k: Bench, left: u64)
     requires { Later words.old k left }
     ensures { words.new ≡ over (encode_of (next_of k (machine_in words.old).queue)) words.old }
 {
-    let at = k.at;
-    let work = k.work;
-    set_place(words, at, k.remainder);
+    set_place(words, k.at, k.remainder);
     words[20] = word(left);
-    match work {
-        Work::Nothing => bring_in(words, at),
+    match k.work {
+        Work::Nothing => bring_in(words, k.at),
         Work::Line(l) => set_done(words, l.done),
         Work::Arc(_) => {}
     }
@@ -109,27 +93,18 @@ fn block_words(w: Waiting) -> BlockWords
     ensures { result ≡ block_words_of w }
 {
     let b = w.block;
-    let end = b.end;
-    let path = b.path;
-    match path {
-        Path::Line => BlockWords {
-            kind: 1,
-            x: end.x,
-            y: end.y,
-            feed: word(b.feed),
-            i: 0,
-            j: 0,
-            root: word(w.root),
-        },
-        Path::Arc(turn, centre) => BlockWords {
-            kind: turn_word(turn),
-            x: end.x,
-            y: end.y,
-            feed: word(b.feed),
-            i: centre.x,
-            j: centre.y,
-            root: word(w.root),
-        },
+    let (kind, i, j) = match b.path {
+        Path::Line => (1, 0, 0),
+        Path::Arc(turn, centre) => (turn_word(turn), centre.x, centre.y),
+    };
+    BlockWords {
+        kind,
+        x: b.end.x,
+        y: b.end.y,
+        feed: word(b.feed),
+        i,
+        j,
+        root: word(w.root),
     }
 }
 
@@ -137,20 +112,13 @@ fn set_block(words: &mut [i64; 134], at: usize, b: BlockWords)
     requires { at ≤ 127 }
     ensures { words.new ≡ set_block words.old at b }
 {
-    let kind = b.kind;
-    let x = b.x;
-    let y = b.y;
-    let feed = b.feed;
-    let i = b.i;
-    let j = b.j;
-    let root = b.root;
-    words[at] = kind;
-    words[at + 1] = x;
-    words[at + 2] = y;
-    words[at + 3] = feed;
-    words[at + 4] = i;
-    words[at + 5] = j;
-    words[at + 6] = root;
+    words[at] = b.kind;
+    words[at + 1] = b.x;
+    words[at + 2] = b.y;
+    words[at + 3] = b.feed;
+    words[at + 4] = b.i;
+    words[at + 5] = b.j;
+    words[at + 6] = b.root;
 }
 
 // After a load with nothing in work: the block comes into work.
@@ -181,11 +149,10 @@ pub fn take(words: &mut [i64; 134], work: Work, start: Point, b: Block) -> u64
     ensures words_after { words.new ≡ over (encode_of (load_with (machine_in words.old) b 0).machine) words.old }
 {
     let begun = begin(start, b);
-    let first = begun.work;
-    let root = root_of(first);
-    let left = left_in(words) + cycles_left(start, first, root);
+    let root = root_of(begun.work);
+    let left = left_in(words) + cycles_left(start, begun.work, root);
     if is_nothing(work) {
-        into_work(words, first, root, left);
+        into_work(words, begun.work, root, left);
         return begun.width;
     }
     let w = Waiting {

@@ -22,6 +22,7 @@ use Rattle.encoding.specs.declared.encode.Head.{Head}
 use Rattle.encoding.specs.declared.encode.WorkWords.{WorkWords}
 use Rattle.encoding.specs.Words.{abi, at, word_of, count_of, head_of, work_words_of}
 use Rattle.encoding.specs.computed.Words.{head_in, work_words_in, work_read}
+use Rattle.encoding.specs.computed.Right.{parts_right, words_right, head_right, work_right}
 use Rattle.encoding.specs.laws.Same.{same_true, same_words_lem}
 use Rattle.encoding.specs.laws.Right.{count_again, count_right, zero_right, head_again, head_right_lem, WorkFits, work_again}
 use Rattle.encoding.specs.laws.Right.{work_right_lem}
@@ -98,6 +99,16 @@ module _ (ws : List ℤ) where
   unfolding is_front
   front_same f =
       same_test (λ t. sym (same_words_lem (front_again f t []))) (λ t. front_right_lem [] [] (same_true (standing []) (told []) t))
+
+-- the test of the parts, and that of the figures behind them
+pub front_parts : (ws : List ℤ) → (words_right ws && figures_right (figures_in ws)) ≡ front_right ws
+unfolding words_right parts_right front_right
+front_parts ws = by (equal_z (at ws 0) abi) (head_right (head_in ws)) (work_right (work_words_in ws)) (figures_right (figures_in ws))
+  where
+    by : (a b c d : Bool) → ((a && (b && c)) && d) ≡ (a && (b && (c && d)))
+    by true true c d = refl
+    by true false c d = refl
+    by false b c d = refl
 
 -- ---- the words of a block
 

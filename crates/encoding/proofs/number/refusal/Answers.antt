@@ -1,22 +1,14 @@
 -- `refusal` is right because the least word is -1, so minus it is one too.
-use borrow.Author.Rules.{rules}
 use mir.Facts.{to_z-of_z}
 use Rattle.encoding.specs.Words.{refusal_of}
 use Rattle.encoding.specs.laws.Number.{word_fits, refusal_fits, minus}
-use Rattle.encoding.proofs.number.refusal.Statement.{statement}
-use Rattle.encoding.proofs.number.refusal.Tie as tie
+use Rattle.encoding.proofs.number.refusal.Goals as goal
 
-word-requires : tie.Need-word-requires
-word-requires c κs = search rules
-
-overflow_sub-result : tie.Need-overflow_sub-result
+pub overflow_sub-result : goal.overflow_sub-result
 unfolding refusal_of
 overflow_sub-result c = let q = c.args.question in let f = word_fits q in rw c.word.ensures (rw (to_z-of_z f, minus) (refusal_fits q))
 
-returns : tie.Need-returns
+pub returns : goal.returns
 unfolding refusal_of
 returns c = let q = c.args.question in let f = word_fits q in let g = refusal_fits q in
     rw c.word.ensures (rw (to_z-of_z f, minus, to_z-of_z g))
-
-pub refusal_spec : {M : Type 1} → statement M
-refusal_spec = tie.close (tie.spec word-requires overflow_sub-result returns)
