@@ -6,7 +6,8 @@ ghost use Rattle.circle.specs.computed.Step.{seen};
 
 const LARGEST_N: u64 = 2_000_000_000_000;
 
-// A point seen from the centre, in pulses.
+// A point seen from the centre, in pulses. A type apart from `plane::Point`, which has the same fields: `seen` and `back` of crate `arc`
+// alone turn one into the other, so no generic pair stands for both.
 #[derive(Clone, Copy)]
 pub struct Offset {
     pub x: i64,

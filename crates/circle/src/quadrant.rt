@@ -9,6 +9,7 @@ use whole::sign::part;
 // A circle point has quadrant 0..3 and along at least 1, and then this form is its only one.
 #[derive(Clone, Copy)]
 pub struct Place {
+    // A number and no enum: `rank_of` multiplies by it, and `turned` counts quarter turns by it.
     pub quadrant: u64,
     pub along: u64,
     pub across: u64,

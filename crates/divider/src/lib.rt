@@ -10,7 +10,8 @@ ghost use Rattle.divider.specs.computed.Divider.{gone_of, last_tick, ending_of};
 // A tick adds this times the feed number: charges are thousandths of what a straight step costs.
 pub const FEED_SCALE: u64 = 1_000;
 
-// What a working tick gives.
+// What a working tick gives. The sum is that of `line::register::clock`, and both stay: `fed_of` and `clock_of`, which are to be believed,
+// say it in the words of two sources, here of a remainder and a cycle, there of a register and a pulse.
 #[derive(Drop)]
 pub struct Fed {
     pub remainder: u64,
@@ -64,6 +65,7 @@ pub fn add_feeds(due: u64, added: u64, remainder: u64, ticks: u64) -> Gone
 
 // The working tick, counted from 1, on which a block with so many cycles left ends, whose dues are together `due`. In a history the sum
 // decides; after a remainder that no history leaves there may be more cycles than ticks that the sum takes, and each has a tick of its own.
+#[tactic(auto, using(crate::specs::laws::Last::last_paid))]
 pub fn last_tick(due: u64, added: u64, remainder: u64, cycles: u64) -> u64
     requires { (1 ≤ added) × (due + added < 2 ^ 64) }
     ensures { result ≡ last_tick due added remainder cycles }
@@ -72,7 +74,7 @@ pub fn last_tick(due: u64, added: u64, remainder: u64, cycles: u64) -> u64
         return cycles;
     }
     let ticks = (due - remainder + (added - 1)) / added;
-    if ticks < cycles { cycles } else { ticks }
+    cycles.max(ticks)
 }
 
 // How a block ends: the working tick on which it does, counted from 1, and the remainder that goes over to the next.
@@ -88,7 +90,7 @@ pub fn ending(due: u64, added: u64, remainder: u64, cycles: u64) -> End
 {
     let tick = last_tick(due, added, remainder, cycles);
     End {
-        tick: tick,
+        tick,
         remainder: remainder + tick * added - due,
     }
 }

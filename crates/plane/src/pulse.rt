@@ -6,7 +6,8 @@ ghost use Rattle.plane.specs.Pulse.{pulse_of, code_of, shifted_of, change_of, pu
 
 use crate::point::Point;
 
-// The codes of a tick byte: 0 none, 1 plus, 2 minus.
+// The codes of a tick byte: 0 none, 1 plus, 2 minus. Numbers and no enum: `both_codes` adds them, an arc's stepper keeps their sums, and
+// theorems read them back from a byte (`code_x`, `pulse_of`).
 #[derive(Clone, Copy)]
 pub struct Pulses {
     pub x: u8,

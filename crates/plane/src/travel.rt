@@ -1,4 +1,4 @@
-// Travel: the positions that an axis may take.
+// Travel: the positions that an axis may take. A range of our own, since the library's `RangeInclusive` is no `Copy`.
 ghost use Rattle.std.specs.Prelude.{◌≡◌};
 ghost use Rattle.plane.specs.Travel.{within_of, inside_of};
 
