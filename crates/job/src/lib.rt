@@ -5,12 +5,12 @@
 ghost use Rattle.std.specs.Prelude.{◌≡◌, true, false};
 ghost use Rattle.row.specs.computed.Buffer.{has_room};
 ghost use Rattle.job.specs.computed.Check.{Steps, Fills, check_from, last_of};
-ghost use Rattle.job.specs.Check.{is_over};
+ghost use Rattle.job.specs.Check.{is_over, stage_over};
 
 use bench::Bench;
 use reader::LONGEST_TEXT;
 use row::lines::has_room;
-use tally::{Tally, next_place};
+use tally::Tally;
 
 // What comes next: the header, the row of the next text line, or nothing any more.
 #[derive(Clone, Copy)]
@@ -18,6 +18,15 @@ pub enum Stage {
     Header,
     Lines,
     Over,
+}
+
+impl Stage {
+    // Whether all is handed out.
+    pub fn is_over(self) -> bool
+        ensures { result ≡ stage_over self }
+    {
+        matches!(self, Stage::Over)
+    }
 }
 
 #[derive(Clone, Copy)]
@@ -44,14 +53,14 @@ pub struct Filled {
 
 impl Check {
     // The check of a job that begins at this bench.
+    #[tactic(auto, unfolding(crate::specs::computed::Check::check_from))]
     pub fn start(bench: Bench) -> Check
         ensures { result ≡ check_from bench }
     {
-        let tally = Tally::start(bench);
         Check {
             stage: Stage::Header,
             at: 0,
-            tally: tally,
+            tally: Tally::start(bench),
         }
     }
 
@@ -59,26 +68,18 @@ impl Check {
     pub fn is_over(self) -> bool
         ensures { result ≡ is_over self }
     {
-        let stage = self.stage;
-        match stage {
-            Stage::Header => false,
-            Stage::Lines => false,
-            Stage::Over => true,
-        }
+        self.stage.is_over()
     }
 
     fn last(self, next: usize) -> Step
         ensures { result ≡ last_of self next }
     {
-        let tally = self.tally;
-        let check = Check {
-            stage: Stage::Over,
-            at: self.at,
-            tally: tally,
-        };
         Step {
-            next: next,
-            check: check,
+            next,
+            check: Check {
+                stage: Stage::Over,
+                ..self
+            },
         }
     }
 
@@ -87,29 +88,25 @@ impl Check {
         requires { (self.stage ≡ Stage.Lines) × (has_room out.old place ≡ true) }
         ensures { Steps self text.now out.old place result out.new }
     {
-        let tally = self.tally;
         if LONGEST_TEXT < text.len() {
             let refused = row::lines::refused(out, place, 1, 30);
-            return self.last(next_place(refused, place));
+            return self.last(refused.unwrap_or(place));
         }
-        let at = self.at;
-        if text.len() <= at {
-            let total = tally.total(out, place);
-            return self.last(next_place(total, place));
+        if text.len() <= self.at {
+            let total = self.tally.total(out, place);
+            return self.last(total.unwrap_or(place));
         }
-        let l = tally.read(&text[at..], out, place);
+        let l = self.tally.read(&text[self.at..], out, place);
         if l.over {
             return self.last(l.next);
         }
-        let next = l.tally;
-        let check = Check {
-            stage: Stage::Lines,
-            at: at + l.bytes + 1,
-            tally: next,
-        };
         Step {
             next: l.next,
-            check: check,
+            check: Check {
+                stage: Stage::Lines,
+                at: self.at + l.bytes + 1,
+                tally: l.tally,
+            },
         }
     }
 
@@ -117,19 +114,15 @@ impl Check {
         requires { (is_over self ≡ false) × (has_room out.old place ≡ true) }
         ensures { Steps self text.now out.old place result out.new }
     {
-        let stage = self.stage;
-        match stage {
+        match self.stage {
             Stage::Header => {
                 let header = row::lines::header(out, place);
-                let tally = self.tally;
-                let check = Check {
-                    stage: Stage::Lines,
-                    at: self.at,
-                    tally: tally,
-                };
                 Step {
-                    next: next_place(header, place),
-                    check: check,
+                    next: header.unwrap_or(place),
+                    check: Check {
+                        stage: Stage::Lines,
+                        ..self
+                    },
                 }
             }
             Stage::Lines => self.line(text, out, place),
@@ -141,13 +134,9 @@ impl Check {
     fn settled(self) -> Check
         ensures { result ≡ self }
     {
-        let stage = self.stage;
-        let tally = self.tally;
-        let same = tally.settled();
         Check {
-            stage: stage,
-            at: self.at,
-            tally: same,
+            tally: self.tally.settled(),
+            ..self
         }
     }
 
@@ -157,21 +146,11 @@ impl Check {
     {
         let mut check = self;
         let mut len = 0;
-        while has_room(out.len(), len) {
-            if check.is_over() {
-                return Filled {
-                    len: len,
-                    check: check,
-                };
-            }
-            let s = check.step(text, out, len);
-            len = s.next;
-            let after = s.check;
-            check = after.settled();
+        while has_room(out.len(), len) && !check.is_over() {
+            let step = check.step(text, out, len);
+            len = step.next;
+            check = step.check.settled();
         }
-        Filled {
-            len: len,
-            check: check,
-        }
+        Filled { len, check }
     }
 }

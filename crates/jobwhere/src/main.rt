@@ -17,7 +17,6 @@ use encoding::encode::work_words;
 use encoding::number::{refusal, word};
 use input::{fail, refuse, unwritten};
 use reader::LONGEST_TEXT;
-use row::lines::Place;
 use row::numbers;
 use seek::{Found, Sought, seek};
 use settings::standard;
@@ -105,7 +104,7 @@ fn row(s: Sought) -> [i64; 16]
 }
 
 // The row in bytes.
-fn lay(out: &mut [u8], s: Sought) -> Place
+fn lay(out: &mut [u8], s: Sought) -> Option<usize>
     ensures buffer { out.new ≡ buffer_with (row_of s) out.old 0 }
     ensures place { result ≡ place_with (row_of s) out.old 0 }
     ensures within { EndsIn out.old result }
@@ -118,11 +117,10 @@ fn lay(out: &mut [u8], s: Sought) -> Place
 fn write_row(to: &mut io::Stdout, s: Sought) -> io::Result<()> {
     // 22 bytes for each of 16 numbers, and once more.
     let mut out = [0u8; 374];
-    let place = lay(&mut out, s);
-    match place {
-        Place::Next(len) => to.write_all(&out[..len]),
-        Place::NoRoom => Err(io::Error::from(ErrorKind::WriteZero)),
-    }
+    let Some(len) = lay(&mut out, s) else {
+        return Err(io::Error::from(ErrorKind::WriteZero));
+    };
+    to.write_all(&out[..len])
 }
 
 fn answer(rt: &HostRuntime, text: &[u8]) -> ExitCode {

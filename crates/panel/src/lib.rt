@@ -4,7 +4,7 @@
 // free, and all of them once a line is whole.
 #![tactic(auto)]
 
-ghost use Rattle.std.specs.Prelude.{◌≡◌, true, min, ◌≤◌, length};
+ghost use Rattle.std.specs.Prelude.{◌≡◌, true, ◌≤◌, length};
 ghost use Rattle.row.specs.computed.Buffer.{has_room};
 ghost use Rattle.job.specs.computed.Check.{totals};
 ghost use Rattle.panel.specs.computed.Over.{is_over};
@@ -15,7 +15,7 @@ use bench::Bench;
 use job::Stage;
 use reader::{LONGEST_LINE, LONGEST_TEXT};
 use row::lines::has_room;
-use tally::{Tally, next_place};
+use tally::Tally;
 use words::text::end_of_line;
 
 // One byte more than a line may have, so that a longer one is seen to be longer.
@@ -58,17 +58,11 @@ pub struct PieceRead {
     pub check: PanelCheck,
 }
 
-fn least(a: usize, b: usize) -> usize
-    ensures { result ≡ min a b }
-{
-    if a < b { a } else { b }
-}
-
 // How many bytes of the piece are of the line: up to its LF, the end of the piece, or the last that the text may have.
 fn taken(piece: &[u8], left: usize) -> usize
     ensures { result ≡ length (taken_of left piece.now) }
 {
-    let most = least(left, piece.len());
+    let most = left.min(piece.len());
     end_of_line(&piece[..most])
 }
 
@@ -77,8 +71,8 @@ fn keep(scratch: &mut [u8], held: usize, bytes: &[u8]) -> usize
     requires { scratch_bytes ≤ length scratch.old }
     ensures { Keeps (kept_of held scratch.old bytes.now) result scratch.new }
 {
-    let from = least(held, SCRATCH);
-    let more = least(bytes.len(), SCRATCH - from);
+    let from = held.min(SCRATCH);
+    let more = bytes.len().min(SCRATCH - from);
     row::push::text(scratch, from, &bytes[..more])
 }
 
@@ -104,15 +98,15 @@ fn come_to(more: bool, left: usize, last: bool, held: usize) -> Come
 
 impl PanelCheck {
     // The check of a job that begins at this bench.
+    #[tactic(auto, unfolding(crate::specs::computed::Piece::start_of))]
     pub fn start(bench: Bench) -> PanelCheck
         ensures { result ≡ start_of bench }
     {
-        let tally = Tally::start(bench);
         PanelCheck {
             stage: Stage::Header,
             left: LONGEST_TEXT,
             held: 0,
-            tally: tally,
+            tally: Tally::start(bench),
         }
     }
 
@@ -120,110 +114,83 @@ impl PanelCheck {
     pub fn is_over(self) -> bool
         ensures { result ≡ is_over self }
     {
-        let stage = self.stage;
-        match stage {
-            Stage::Header => false,
-            Stage::Lines => false,
-            Stage::Over => true,
-        }
+        self.stage.is_over()
     }
 
-    // The row of a line that has come to its end, after which the text may have so many bytes.
-    fn row(self, line: &[u8], left: usize, took: usize, out: &mut [u8]) -> PieceRead
+    // The row of a line that has come to its end.
+    fn row(self, line: &[u8], took: usize, out: &mut [u8]) -> PieceRead
         requires { has_room out.old 0 ≡ true }
-        ensures { HandsAny (line_handed self.tally left took line.now) out.old result out.new }
+        ensures { HandsAny (line_handed self.tally self.left took line.now) out.old result out.new }
     {
-        let tally = self.tally;
-        let l = tally.read(line, out, 0);
-        let after = l.tally;
-        let next = after.settled();
-        if l.over {
-            let check = PanelCheck {
-                stage: Stage::Over,
-                left: left,
-                held: 0,
-                tally: next,
-            };
-            return PieceRead {
-                told: Told::Over,
-                took: took,
-                wrote: l.next,
-                check: check,
-            };
-        }
-        let check = PanelCheck {
-            stage: Stage::Lines,
-            left: left,
-            held: 0,
-            tally: next,
+        let l = self.tally.read(line, out, 0);
+        let (told, stage) = if l.over {
+            (Told::Over, Stage::Over)
+        } else {
+            (Told::More, Stage::Lines)
         };
         PieceRead {
-            told: Told::More,
-            took: took,
+            told,
+            took,
             wrote: l.next,
-            check: check,
+            check: PanelCheck {
+                stage,
+                left: self.left,
+                held: 0,
+                tally: l.tally.settled(),
+            },
         }
     }
 
     // After the last row.
-    fn last(self, left: usize, took: usize, wrote: usize) -> PieceRead
-        ensures { result ≡ record { told = Told.Over; took = took; wrote = wrote; check = check_at Stage.Over left 0 self.tally } }
+    fn last(self, took: usize, wrote: usize) -> PieceRead
+        ensures { result ≡ record { told = Told.Over; took = took; wrote = wrote; check = check_at Stage.Over self.left 0 self.tally } }
     {
-        let tally = self.tally;
-        let check = PanelCheck {
-            stage: Stage::Over,
-            left: left,
-            held: 0,
-            tally: tally,
-        };
         PieceRead {
             told: Told::Over,
-            took: took,
-            wrote: wrote,
-            check: check,
+            took,
+            wrote,
+            check: PanelCheck {
+                stage: Stage::Over,
+                held: 0,
+                ..self
+            },
         }
     }
 
     // The last row of a text that has a byte too many.
-    fn too_long(self, left: usize, took: usize, out: &mut [u8]) -> PieceRead
+    fn too_long(self, took: usize, out: &mut [u8]) -> PieceRead
         requires { has_room out.old 0 ≡ true }
-        ensures { HandsAny (last_handed too_long self.tally left took) out.old result out.new }
+        ensures { HandsAny (last_handed too_long self.tally self.left took) out.old result out.new }
     {
-        let tally = self.tally;
-        let lines = tally.lines;
+        let lines = self.tally.lines;
         if (LONGEST_TEXT as u64) < lines {
-            return self.last(left, took, 0);
+            return self.last(took, 0);
         }
         let place = row::lines::refused(out, 0, lines + 1, 30);
-        self.last(left, took, next_place(place, 0))
+        self.last(took, place.unwrap_or(0))
     }
 
     // The last row of a text that was read to its end.
-    fn total(self, left: usize, took: usize, out: &mut [u8]) -> PieceRead
+    fn total(self, took: usize, out: &mut [u8]) -> PieceRead
         requires { has_room out.old 0 ≡ true }
-        ensures { HandsAny (last_handed totals self.tally left took) out.old result out.new }
+        ensures { HandsAny (last_handed totals self.tally self.left took) out.old result out.new }
     {
-        let tally = self.tally;
-        let place = tally.total(out, 0);
-        self.last(left, took, next_place(place, 0))
+        let place = self.tally.total(out, 0);
+        self.last(took, place.unwrap_or(0))
     }
 
-    // Of a line that goes on the scratch buffer holds so many bytes.
-    fn wait(self, left: usize, took: usize, held: usize) -> PieceRead
-        ensures { result ≡ record { told = Told.More; took = took; wrote = 0; check = check_at Stage.Lines left held self.tally } }
+    // Of a line that goes on the scratch buffer holds the first bytes.
+    fn wait(self, took: usize) -> PieceRead
+        ensures { result ≡ record { told = Told.More; took = took; wrote = 0; check = check_at Stage.Lines self.left self.held self.tally } }
     {
-        let tally = self.tally;
-        let check = PanelCheck {
-            stage: Stage::Lines,
-            left: left,
-            held: held,
-            tally: tally,
-        };
         PieceRead {
             told: Told::More,
-            took: took,
+            took,
             wrote: 0,
-            check: check,
+            check: PanelCheck {
+                stage: Stage::Lines,
+                ..self
+            },
         }
     }
 
@@ -235,13 +202,19 @@ impl PanelCheck {
     {
         let took = taken(piece, self.left);
         let held = keep(scratch, self.held, &piece[..took]);
-        let left = self.left - took;
-        let come = come_to(took < piece.len(), left, last, held);
-        match come {
-            Come::TooMany => self.too_long(left, took, out),
-            Come::End => self.total(left, took, out),
-            Come::Wait => self.wait(left, took, held),
-            Come::Line(lf) => self.row(&scratch[..held], left - lf, took + lf, out),
+        let check = PanelCheck {
+            left: self.left - took,
+            held,
+            ..self
+        };
+        match come_to(took < piece.len(), check.left, last, held) {
+            Come::TooMany => check.too_long(took, out),
+            Come::End => check.total(took, out),
+            Come::Wait => check.wait(took),
+            Come::Line(lf) => {
+                let left = check.left - lf;
+                PanelCheck { left, ..check }.row(&scratch[..held], took + lf, out)
+            }
         }
     }
 
@@ -250,22 +223,18 @@ impl PanelCheck {
         ensures { Hands (piece_of self scratch.old piece.now last) out.old result
             scratch.new out.new }
     {
-        let stage = self.stage;
-        match stage {
+        match self.stage {
             Stage::Header => {
                 let place = row::lines::header(out, 0);
-                let tally = self.tally;
-                let check = PanelCheck {
-                    stage: Stage::Lines,
-                    left: self.left,
-                    held: least(self.held, SCRATCH),
-                    tally: tally,
-                };
                 PieceRead {
                     told: Told::More,
                     took: 0,
-                    wrote: next_place(place, 0),
-                    check: check,
+                    wrote: place.unwrap_or(0),
+                    check: PanelCheck {
+                        stage: Stage::Lines,
+                        held: self.held.min(SCRATCH),
+                        ..self
+                    },
                 }
             }
             Stage::Lines => self.line(scratch, piece, last, out),
@@ -296,10 +265,7 @@ impl PanelCheck {
         ensures { ReadsPiece self scratch.old piece.now last out.old result scratch.new
             out.new }
     {
-        if scratch.len() < SCRATCH {
-            return self.short();
-        }
-        if !has_room(out.len(), 0) {
+        if scratch.len() < SCRATCH || !has_room(out.len(), 0) {
             return self.short();
         }
         self.step(scratch, piece, last, out)

@@ -5,6 +5,9 @@ ghost use Rattle.row.specs.computed.Long.{low_limit, none_counted, plus_of};
 
 pub const LOW_LIMIT: u64 = 1_000_000_000_000_000_000;
 
+// A low part has no more digits.
+pub const LOW_DIGITS: usize = 18;
+
 // low + high × 10^18.
 #[derive(Clone, Copy)]
 pub struct LongCount {
@@ -27,10 +30,7 @@ impl LongCount {
     {
         let low = self.low + more;
         if low < LOW_LIMIT {
-            return LongCount {
-                low: low,
-                high: self.high,
-            };
+            return LongCount { low, ..self };
         }
         LongCount {
             low: low - LOW_LIMIT,

@@ -3,12 +3,7 @@ ghost use Rattle.std.specs.Prelude.{◌≡◌, ◌+◌, ◌*◌, ◌≤◌, ◌<
 ghost use Rattle.row.specs.computed.Numbers.{buffer_with, place_with};
 ghost use Rattle.row.specs.computed.Numbers.{PutsNumbers, EndsIn};
 
-use crate::lines::Place;
 use crate::push;
-
-const BLANK: u8 = 32;
-
-const LF: u8 = 10;
 
 // Bytes that hold every number with its sign and the byte after it.
 const NUMBER: usize = 22;
@@ -19,30 +14,23 @@ fn fields(out: &mut [u8], at: usize, numbers: &[i64]) -> usize
 {
     let last = numbers.len() - 1;
     let mut next = at;
-    let mut i = 0;
-    while i < last {
-        next = push::signed(out, next, numbers[i], BLANK);
-        i += 1;
+    for n in &numbers[..last] {
+        next = push::signed(out, next, *n, b' ');
     }
-    push::signed(out, next, numbers[last], LF)
+    push::signed(out, next, numbers[last], b'\n')
 }
 
 // One line with the numbers, a blank between.
-pub fn line(out: &mut [u8], at: usize, numbers: &[i64]) -> Place
+pub fn line(out: &mut [u8], at: usize, numbers: &[i64]) -> Option<usize>
     ensures buffer { out.new ≡ buffer_with numbers.now out.old at }
     ensures place { result ≡ place_with numbers.now out.old at }
     ensures within { EndsIn out.old result }
 {
-    if out.len() < at {
-        return Place::NoRoom;
+    if out.len().saturating_sub(at) / NUMBER <= numbers.len() {
+        return None;
     }
-    if (out.len() - at) / NUMBER <= numbers.len() {
-        return Place::NoRoom;
+    if numbers.is_empty() {
+        return Some(push::byte(out, at, b'\n'));
     }
-    let next = if numbers.len() == 0 {
-        push::byte(out, at, LF)
-    } else {
-        fields(out, at, numbers)
-    };
-    Place::Next(next)
+    Some(fields(out, at, numbers))
 }

@@ -4,12 +4,8 @@ ghost use Rattle.row.specs.Decimal.{decimal, signed_decimal};
 ghost use Rattle.row.specs.computed.Long.{long_of, last_digits};
 ghost use Rattle.row.specs.computed.Puts.{Puts};
 
-use crate::long::{LOW_LIMIT, LongCount};
+use crate::long::{LOW_DIGITS, LOW_LIMIT, LongCount};
 use whole::sign;
-
-const MINUS: u8 = 45;
-
-const ZERO: u8 = 48;
 
 pub fn byte(out: &mut [u8], at: usize, b: u8) -> usize
     requires { at < length out.old }
@@ -23,12 +19,9 @@ pub fn text(out: &mut [u8], at: usize, s: &[u8]) -> usize
     requires { at + length s.now ≤ length out.old }
     ensures { Puts s.now (length s.now) out.old at out.new result }
 {
-    let mut i = 0;
-    while i < s.len() {
-        out[at + i] = s[i];
-        i += 1;
-    }
-    at + s.len()
+    let end = at + s.len();
+    out[at..end].copy_from_slice(s);
+    end
 }
 
 // How many digits n has, 20 at most. Most numbers of a listing are short: up to four digits are told by comparisons alone.
@@ -56,23 +49,25 @@ fn width(n: u64) -> usize
     w
 }
 
-// The digits of n, from the last to the first: those of m are still to be written, in the places before i.
+// The last `count` digits of n, zeros too.
+fn last_digits(out: &mut [u8], at: usize, count: usize, n: u64) -> usize
+    requires { at + count ≤ length out.old }
+    ensures { Puts (last_digits count n) count out.old at out.new result }
+{
+    let end = at + count;
+    let mut rest = n;
+    for i in (at..end).rev() {
+        out[i] = b'0' + (rest % 10) as u8;
+        rest /= 10;
+    }
+    end
+}
+
 pub fn digits(out: &mut [u8], at: usize, n: u64) -> usize
     requires { at + length (decimal n) ≤ length out.old }
     ensures { Puts (decimal n) (length (decimal n)) out.old at out.new result }
 {
-    let end = at + width(n);
-    let mut m = n;
-    let mut i = end;
-    while 10 <= m {
-        i -= 1;
-        let d = (m % 10) as u8;
-        out[i] = ZERO + d;
-        m = m / 10;
-    }
-    let d = m as u8;
-    out[at] = ZERO + d;
-    end
+    last_digits(out, at, width(n), n)
 }
 
 // A number and the byte that ends its field.
@@ -82,23 +77,6 @@ pub fn number(out: &mut [u8], at: usize, n: u64, end: u8) -> usize
 {
     let last = digits(out, at, n);
     byte(out, last, end)
-}
-
-// The last eighteen digits of n, zeros too, from the last to the first: those of m are still to be written, in the places before i.
-fn eighteen(out: &mut [u8], at: usize, n: u64) -> usize
-    requires { at + 18 ≤ length out.old }
-    ensures { Puts (last_digits 18 n) 18 out.old at out.new result }
-{
-    let end = at + 18;
-    let mut m = n;
-    let mut i = end;
-    while at < i {
-        i -= 1;
-        let d = (m % 10) as u8;
-        out[i] = ZERO + d;
-        m = m / 10;
-    }
-    end
 }
 
 // A count in two parts and the byte that ends its field; a low part of 10^18 or more carries into the high one.
@@ -112,7 +90,7 @@ pub fn long(out: &mut [u8], at: usize, n: LongCount, end: u8) -> usize
         return number(out, at, low, end);
     }
     let first = digits(out, at, high);
-    let last = eighteen(out, first, low);
+    let last = last_digits(out, first, LOW_DIGITS, low);
     byte(out, last, end)
 }
 
@@ -124,7 +102,7 @@ pub fn signed(out: &mut [u8], at: usize, v: i64, end: u8) -> usize
     ensures { Puts (signed_decimal v ++ (end ∷ [])) 22 out.old at out.new result }
 {
     let p = sign::part(v);
-    out[at] = MINUS;
+    out[at] = b'-';
     let first = if p.negative { at + 1 } else { at };
     number(out, first, p.magnitude, end)
 }

@@ -30,45 +30,33 @@ pub struct Filled {
 fn is_refused(answer: Read) -> bool
     ensures { result ≡ is_refused answer }
 {
-    match answer {
-        Read::Nothing => false,
-        Read::Loaded(_) => false,
-        Read::Refused(_) => true,
-    }
+    matches!(answer, Read::Refused(_))
 }
 
 impl Stream {
     // The tick bytes of a job that begins at this bench.
+    #[tactic(auto, unfolding(crate::specs::computed::Stream::stream_from))]
     pub fn start(bench: Bench) -> Stream
         ensures { result ≡ stream_from bench }
     {
-        let reader = Reader::start();
         Stream {
             over: false,
             at: 0,
-            reader: reader,
-            bench: bench,
+            reader: Reader::start(),
+            bench,
         }
     }
 
     fn ended(self) -> Stream
         ensures { result ≡ ended_of self }
     {
-        let mut next = self;
-        next.over = true;
-        next
+        Stream { over: true, ..self }
     }
 
     fn at_machine(self, bench: Bench) -> Stream
         ensures { result ≡ at_machine self bench }
     {
-        let reader = self.reader;
-        Stream {
-            over: self.over,
-            at: self.at,
-            reader: reader,
-            bench: bench,
-        }
+        Stream { bench, ..self }
     }
 
     // Reads the next line, where nothing is left in work.
@@ -79,25 +67,19 @@ impl Stream {
         if LONGEST_TEXT < text.len() {
             return self.ended();
         }
-        let at = self.at;
-        if text.len() <= at {
+        if text.len() <= self.at {
             return self.ended();
         }
-        let reader = self.reader;
-        let bench = self.bench;
-        let first = read_first(reader, bench, &text[at..]);
-        let r = first.read;
-        let answer = r.answer;
-        if is_refused(answer) {
+        let first = read_first(self.reader, self.bench, &text[self.at..]);
+        let read = first.read;
+        if is_refused(read.answer) {
             return self.ended();
         }
-        let known = r.reader;
-        let loaded = r.bench;
         Stream {
             over: false,
-            at: at + first.bytes + 1,
-            reader: known,
-            bench: loaded,
+            at: self.at + first.bytes + 1,
+            reader: read.reader,
+            bench: read.bench,
         }
     }
 
@@ -113,21 +95,16 @@ impl Stream {
         }
         let mut stream = self;
         while !stream.over {
-            let bench = stream.bench;
             // No block exceeds this budget: the run goes to the block's end or fills its buffer.
-            let ran = bench.run(MOST_BLOCK_TICKS, out);
+            let ran = stream.bench.run(MOST_BLOCK_TICKS, out);
             if 0 < ran.ticks {
-                let after = ran.bench;
                 return Filled {
                     len: ran.ticks as usize,
-                    stream: stream.at_machine(after),
+                    stream: stream.at_machine(ran.bench),
                 };
             }
             stream = stream.next_line(text);
         }
-        Filled {
-            len: 0,
-            stream: stream,
-        }
+        Filled { len: 0, stream }
     }
 }

@@ -6,14 +6,14 @@ ghost use Rattle.std.specs.Prelude.{◌≡◌, true, ◌≤◌, length};
 ghost use Rattle.bench.specs.computed.Bench.{sound_of};
 ghost use Rattle.words.specs.computed.Scan.{first_line};
 ghost use Rattle.row.specs.computed.Buffer.{line_room, has_room, buffer_after, place_after};
-ghost use Rattle.tally.specs.computed.Tally.{Gives, counts_right, kind_of, place_after_row, tally_from, block_listed, total_of};
+ghost use Rattle.tally.specs.computed.Tally.{Gives, counts_right, kind_of, tally_from, block_listed, total_of};
 ghost use Rattle.tally.specs.computed.Tally.{Reads, bytes_read, unread_of, passed_of};
 
 use bench::Bench;
 use finish::finish;
 use reader::text_line::{Read, read_first};
 use reader::{LONGEST_TEXT, Reader};
-use row::lines::{Kind, Place, has_room};
+use row::lines::{BlockRow, Kind, has_room};
 use row::long::{LOW_LIMIT, LongCount};
 use work::Work;
 
@@ -53,57 +53,37 @@ fn kind_of(work: Work) -> Kind
     ensures { result ≡ kind_of work }
 {
     match work {
-        Work::Nothing => Kind::Line,
-        Work::Line(_) => Kind::Line,
+        Work::Nothing | Work::Line(_) => Kind::Line,
         Work::Arc(_) => Kind::Arc,
-    }
-}
-
-// The place after a line; the line's own where it was not written.
-pub fn next_place(place: Place, at: usize) -> usize
-    ensures { result ≡ place_after_row place at }
-{
-    match place {
-        Place::Next(next) => next,
-        Place::NoRoom => at,
     }
 }
 
 impl Tally {
     // Before the first line of a job at this bench.
+    #[tactic(auto, unfolding(crate::specs::computed::Tally::tally_from))]
     pub fn start(bench: Bench) -> Tally
         ensures { result ≡ tally_from bench }
     {
-        let reader = Reader::start();
-        let ticks = LongCount::zero();
         Tally {
-            reader: reader,
-            bench: bench,
+            reader: Reader::start(),
+            bench,
             lines: 0,
             blocks: 0,
             cycles: 0,
-            ticks: ticks,
+            ticks: LongCount::zero(),
         }
     }
 
     // Whether the counts are some that a text can reach: then those after the next line fit too.
+    #[tactic(auto, unfolding(crate::specs::computed::Tally::counts_right))]
     fn counts_right(self) -> bool
         ensures { result ≡ counts_right self }
     {
-        if MOST_LINES < self.lines {
-            return false;
-        }
-        if self.lines < self.blocks {
-            return false;
-        }
-        if MOST_BLOCK_CYCLES * self.lines < self.cycles {
-            return false;
-        }
-        let ticks = self.ticks;
-        if self.lines < ticks.high as u64 {
-            return false;
-        }
-        ticks.low < LOW_LIMIT
+        self.lines <= MOST_LINES
+            && self.blocks <= self.lines
+            && self.cycles <= MOST_BLOCK_CYCLES * self.lines
+            && self.ticks.high as u64 <= self.lines
+            && self.ticks.low < LOW_LIMIT
     }
 
     // Nothing read, and nothing written.
@@ -112,7 +92,7 @@ impl Tally {
     {
         Listed {
             next: at,
-            over: over,
+            over,
             bytes: 0,
             tally: self,
         }
@@ -123,20 +103,16 @@ impl Tally {
         requires { counts_right self ≡ true }
         ensures { result ≡ passed_of self reader bench bytes at }
     {
-        let ticks = self.ticks;
-        let tally = Tally {
-            reader: reader,
-            bench: bench,
-            lines: self.lines + 1,
-            blocks: self.blocks,
-            cycles: self.cycles,
-            ticks: ticks,
-        };
         Listed {
             next: at,
             over: false,
-            bytes: bytes,
-            tally: tally,
+            bytes,
+            tally: Tally {
+                reader,
+                bench,
+                lines: self.lines + 1,
+                ..self
+            },
         }
     }
 
@@ -155,37 +131,29 @@ impl Tally {
         ensures bytes_value { result.bytes ≡ bytes }
     {
         let done = finish(loaded);
-        let work = loaded.work;
         let bench = done.bench;
-        let end = bench.at;
-        let lines = self.lines + 1;
-        let blocks = self.blocks + 1;
-        let place = row::lines::block(
-            out,
-            at,
-            blocks,
-            lines,
-            kind_of(work),
-            done.cycles,
-            end.x,
-            end.y,
+        let row = BlockRow {
+            block: self.blocks + 1,
+            line: self.lines + 1,
+            kind: kind_of(loaded.work),
+            cycles: done.cycles,
+            x: bench.at.x,
+            y: bench.at.y,
             bits,
-        );
-        let before = self.ticks;
-        let ticks = before.plus(done.ticks);
-        let tally = Tally {
-            reader: reader,
-            bench: bench,
-            lines: lines,
-            blocks: blocks,
-            cycles: self.cycles + done.cycles,
-            ticks: ticks,
         };
+        let place = row::lines::block(out, at, row);
         Listed {
-            next: next_place(place, at),
+            next: place.unwrap_or(at),
             over: false,
-            bytes: bytes,
-            tally: tally,
+            bytes,
+            tally: Tally {
+                reader,
+                bench,
+                lines: self.lines + 1,
+                blocks: self.blocks + 1,
+                cycles: self.cycles + done.cycles,
+                ticks: self.ticks.plus(done.ticks),
+            },
         }
     }
 
@@ -200,21 +168,15 @@ impl Tally {
         if !self.counts_right() {
             return self.unread(at, true);
         }
-        let lines = self.lines + 1;
-        let reader = self.reader;
-        let bench = self.bench;
-        let first = read_first(reader, bench, text);
-        let r = first.read;
-        let answer = r.answer;
-        let next = r.reader;
-        let after = r.bench;
-        match answer {
-            Read::Nothing => self.passed(next, after, first.bytes, at),
-            Read::Loaded(bits) => self.block(next, after, bits, first.bytes, out, at),
+        let first = read_first(self.reader, self.bench, text);
+        let read = first.read;
+        match read.answer {
+            Read::Nothing => self.passed(read.reader, read.bench, first.bytes, at),
+            Read::Loaded(bits) => self.block(read.reader, read.bench, bits, first.bytes, out, at),
             Read::Refused(number) => {
-                let place = row::lines::refused(out, at, lines, number);
+                let place = row::lines::refused(out, at, self.lines + 1, number);
                 Listed {
-                    next: next_place(place, at),
+                    next: place.unwrap_or(at),
                     over: true,
                     bytes: 0,
                     tally: self,
@@ -228,35 +190,22 @@ impl Tally {
     pub fn settled(self) -> Tally
         ensures { result ≡ self }
     {
-        let reader = self.reader;
         let bench = self.bench;
-        let ticks = self.ticks;
-        let point = bench.at;
-        let work = bench.work;
-        match work {
-            Work::Nothing => {
-                let idle = bench.moved(point, bench.remainder, Work::Nothing);
-                Tally {
-                    reader: reader,
-                    bench: idle,
-                    lines: self.lines,
-                    blocks: self.blocks,
-                    cycles: self.cycles,
-                    ticks: ticks,
-                }
-            }
-            Work::Line(_) => self,
-            Work::Arc(_) => self,
+        match bench.work {
+            Work::Nothing => Tally {
+                bench: bench.moved(bench.at, bench.remainder, Work::Nothing),
+                ..self
+            },
+            Work::Line(_) | Work::Arc(_) => self,
         }
     }
 
     // The last row of a job that was read to its end.
-    pub fn total(self, out: &mut [u8], at: usize) -> Place
+    pub fn total(self, out: &mut [u8], at: usize) -> Option<usize>
         ensures buffer { out.new ≡ buffer_after (total_of self) out.old at }
         ensures place { result ≡ place_after (total_of self) out.old at }
         ensures short { length (total_of self) ≤ line_room }
     {
-        let ticks = self.ticks;
-        row::lines::total(out, at, self.blocks, self.cycles, ticks)
+        row::lines::total(out, at, self.blocks, self.cycles, self.ticks)
     }
 }

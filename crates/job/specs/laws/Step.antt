@@ -4,7 +4,7 @@ use Rattle.std.proofs.Common.{sym, ap, ◌∙◌, arith, length-drop, drop-drop}
 use mathlib.Core.List.{List, ◌++◌, append-nil}
 use Rattle.std.proofs.Math.ListN.{drop_of_length-le}
 use borrow.Author.Tests.{le-leb, lt-leb}
-use Rattle.row.specs.declared.lines.Place.{Place}
+use Rattle.std.specs.declared.option.Option.{Option}
 use Rattle.row.specs.computed.Buffer.{line_room, has_room, placed, buffer_after, place_after}
 use Rattle.row.specs.Lines.{header_line, refused_line}
 use Rattle.row.specs.laws.Buffer.{header_short, refused_short}
@@ -22,13 +22,13 @@ use Rattle.job.specs.laws.Text.{lines_next}
 use Rattle.job.specs.laws.Reached.{line_reached}
 
 -- a line that one of row's functions wrote, where there was room
-pub record Wrote (line old : List ℕ) (at : ℕ) (p : Place) (new : List ℕ) : Type 0 where
+pub record Wrote (line old : List ℕ) (at : ℕ) (p : Option ℕ) (new : List ℕ) : Type 0 where
   pub room : has_room old at ≡ true
   pub buffer : new ≡ buffer_after line old at
   pub place : p ≡ place_after line old at
 
 module _ (c : Check) (text old : List ℕ) (at : ℕ) {new : List ℕ} where
-  pub step_header : {p : Place} → c.stage ≡ Stage.Header → Wrote header_line old at p new
+  pub step_header : {p : Option ℕ} → c.stage ≡ Stage.Header → Wrote header_line old at p new
       → Steps c text old at (record { next = place_after_row p at; check = record { stage = Stage.Lines; at = c.at; tally = c.tally } }) new
   unfolding rest_of
   step_header e w =
@@ -58,18 +58,18 @@ module _ (c : Check) (text old : List ℕ) (at : ℕ) {new : List ℕ} where
       fewer = rw lines (omega arith);
     }
 
-    last_written : {p : Place} (line : List ℕ) → length line ≤ line_room → Wrote line old at p new → line ≡ rest_of c text
+    last_written : {p : Option ℕ} (line : List ℕ) → length line ≤ line_room → Wrote line old at p new → line ≡ rest_of c text
         → Steps c text old at (last_of c (place_after_row p at)) new
     last_written line short w e = last line short (w.buffer ∙ written line old at w.room) (goes_on line old at w.room w.place) e
 
-    pub step_long : {p : Place} → longest_text < length text → Wrote (refused_line 1 30) old at p new
+    pub step_long : {p : Option ℕ} → longest_text < length text → Wrote (refused_line 1 30) old at p new
         → Steps c text old at (last_of c (place_after_row p at)) new
     unfolding rest_of
     step_long long w = last_written (refused_line 1 30) (refused_short 1 30 (omega arith) (omega arith)) w
         (rw (lines, lt-leb (length text) longest_text long))
 
     module _ (short : length text ≤ longest_text) where
-      pub step_total : {p : Place}
+      pub step_total : {p : Option ℕ}
           → (let line = total_of c.tally in
           length line ≤ line_room → length text ≤ c.at → Wrote line old at p new
           → Steps c text old at (last_of c (place_after_row p at)) new)

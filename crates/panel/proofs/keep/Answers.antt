@@ -5,4 +5,4 @@ use Rattle.panel.proofs.keep.Goals as goal
 pub returns : goal.returns
 returns c =
     let s = c.args in
-    kept s.held s.scratch.now s.bytes.now c.requires c.least-from.ensures c.least-more.ensures c.text.ensures
+    kept s.held s.scratch.now s.bytes.now c.requires c.min-from.ensures c.min-more.ensures c.text.ensures

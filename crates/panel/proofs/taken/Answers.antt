@@ -7,5 +7,5 @@ use Rattle.panel.proofs.taken.Goals as goal
 pub returns : goal.returns
 returns c =
     let s = c.args in
-    let front = ap (λ (n : ℕ). take n s.piece.now) c.least-most.ensures ∙ take_min s.left s.piece.now in
+    let front = ap (λ (n : ℕ). take n s.piece.now) c.min-most.ensures ∙ take_min s.left s.piece.now in
     c.end_of_line.ensures ∙ ap (λ (l : List ℕ). length (first_line l)) front

@@ -7,7 +7,7 @@ use Rattle.std.proofs.Math.Seq.{length-take-le}
 use Rattle.std.proofs.lemmas.Bool.{lt-leb}
 use Rattle.whole.specs.laws.Test.{joined}
 use Rattle.words.specs.computed.Scan.{first_line}
-use Rattle.row.specs.declared.lines.Place.{Place}
+use Rattle.std.specs.declared.option.Option.{Option}
 use Rattle.row.specs.computed.Buffer.{line_room, has_room}
 use Rattle.row.specs.Lines.{header_line, refused_line}
 use Rattle.row.specs.laws.Buffer.{header_short, refused_short}
@@ -31,7 +31,7 @@ pub hands_none : (took : ℕ) (line : List ℕ) (c : PanelCheck) (old free : Lis
 hands_none took line c old free kept = record { read = refl; short = omega arith; rows = placed_none old 0; line = kept }
 
 -- a row that one of row's functions wrote
-pub hands_wrote : {row old : List ℕ} {place : Place} {new : List ℕ} (took : ℕ) (line : List ℕ) (c : PanelCheck) (free : List ℕ)
+pub hands_wrote : {row old : List ℕ} {place : Option ℕ} {new : List ℕ} (took : ℕ) (line : List ℕ) (c : PanelCheck) (free : List ℕ)
     → take (length line) free ≡ line → Wrote row old 0 place new → length row ≤ line_room
     → Hands (record { row = row; took = took; line = line; check = c }) old
     (record { told = tell_of c.stage; took = took; wrote = place_after_row place 0; check = c }) free new
@@ -64,7 +64,7 @@ module _ (t : Tally) (left : ℕ) (old : List ℕ) (took : ℕ) (free : List ℕ
       { told = Told.Over; took = took; wrote = 0; check = check_at Stage.Over left 0 t }) free old
   hands_beyond many = rw (lt-leb t.lines longest_text many) (hands_none took [] (check_at Stage.Over left 0 t) old free refl)
 
-  pub hands_thirty : {place : Place} {new : List ℕ} → t.lines ≤ longest_text → Wrote (refused_line (t.lines + 1) 30) old 0 place new
+  pub hands_thirty : {place : Option ℕ} {new : List ℕ} → t.lines ≤ longest_text → Wrote (refused_line (t.lines + 1) 30) old 0 place new
       → Hands (last_handed too_long t left took) old
       (record { told = Told.Over; took = took; wrote = place_after_row place 0; check = check_at Stage.Over left 0 t }) free new
   hands_thirty few w =
@@ -75,7 +75,7 @@ module _ (t : Tally) (left : ℕ) (old : List ℕ) (took : ℕ) (free : List ℕ
 
 module _ (c : PanelCheck) (scratch piece : List ℕ) (last : Bool) (old : List ℕ) where
   pub hands_header : c.stage ≡ Stage.Header → scratch_bytes ≤ length scratch → {held : ℕ} → held ≡ min c.held scratch_bytes
-      → {place : Place} {new : List ℕ} → Wrote header_line old 0 place new
+      → {place : Option ℕ} {new : List ℕ} → Wrote header_line old 0 place new
       → Hands (piece_of c scratch piece last) old
       (record { told = Told.More; took = 0; wrote = place_after_row place 0; check = check_at Stage.Lines c.left held c.tally })
       scratch new

@@ -1,7 +1,8 @@
 -- A buffer that a line is written into, from a place on.
-use Rattle.std.specs.Prelude.{ℕ, ◌+◌, Bool, cond, List, ◌++◌, length, take, drop, leb}
-use Rattle.row.specs.declared.lines.Place.{Place}
-use Rattle.row.specs.declared.lines.Place.TheVariants.{Next, NoRoom}
+use Rattle.std.specs.Prelude.{ℕ, ◌+◌, Bool, cond, List, ◌++◌, length, take, drop, leb, None, Some}
+use Rattle.std.specs.declared.option.Option.{Option}
+use Rattle.row.specs.declared.lines.BlockRow.{BlockRow}
+use Rattle.row.specs.Lines.{block_line}
 
 -- the bytes that hold every line of the listing
 abbrev pub line_room : ℕ
@@ -19,5 +20,9 @@ placed line buffer at = take at buffer ++ line ++ drop (at + length line) buffer
 abbrev pub buffer_after : (line buffer : List ℕ) (at : ℕ) → List ℕ
 buffer_after line buffer at = cond (has_room buffer at) (placed line buffer at) buffer
 
-abbrev pub place_after : (line buffer : List ℕ) (at : ℕ) → Place
-place_after line buffer at = cond (has_room buffer at) (Next (at + length line)) NoRoom
+abbrev pub place_after : (line buffer : List ℕ) (at : ℕ) → Option ℕ
+place_after line buffer at = cond (has_room buffer at) (Some (at + length line)) None
+
+-- the row of a block
+abbrev pub row_of : BlockRow → List ℕ
+row_of r = block_line r.block r.line r.kind r.cycles r.x r.y r.bits

@@ -12,7 +12,7 @@ use Rattle.row.specs.Decimal.{digit, decimal}
 use Rattle.row.specs.computed.Long.{low_limit, long_of, long, plus_of, last_digits}
 use Rattle.row.specs.computed.Puts.{Puts}
 use Rattle.row.specs.laws.Puts.{at_most, puts_none, puts_before}
-use Rattle.row.specs.laws.Decimal.{decimal_large, digits_most}
+use Rattle.row.specs.laws.Decimal.{by_digits, decimal_small, decimal_large, length_small, length_large, digits_most}
 
 -- ---- so many more
 
@@ -42,26 +42,26 @@ unfolding last_digits
 last_length zero n = refl
 last_length (suc k) n = length-append (last_digits k (n / 10)) (digit (n % 10) ∷ []) ∙ omega (arith, last_length k (n / 10))
 
--- What the loop of `push::eighteen` keeps: the digits are so many of m and then a text, which stands in the buffer up to the end.
-pub record LastBehind (n : ℕ) (old : List ℕ) (at end : ℕ) (new : List ℕ) (m from : ℕ) : Type 0 where
+-- What the loop of `push::last_digits` keeps: the digits are so many of m and then a text, which stands in the buffer up to the end.
+pub record LastBehind (count n : ℕ) (old : List ℕ) (at end : ℕ) (new : List ℕ) (m from : ℕ) : Type 0 where
   pub left : ℕ
   pub room : from ≡ at + left
   pub text : List ℕ
-  pub all : last_digits 18 n ≡ last_digits left m ++ text
+  pub all : last_digits count n ≡ last_digits left m ++ text
   pub puts : Puts text (length text) old from new end
 
-pub last_none : (n : ℕ) (old : List ℕ) (at : ℕ) → at + 18 ≤ length old → LastBehind n old at (at + 18) old n (at + 18)
-last_none n old at h =
-    record { left = 18; room = refl; text = []; all = sym (append-nil (last_digits 18 n)); puts = puts_none old (at + 18) h }
+pub last_none : (count n : ℕ) (old : List ℕ) (at : ℕ) → at + count ≤ length old → LastBehind count n old at (at + count) old n (at + count)
+last_none count n old at h =
+    record { left = count; room = refl; text = []; all = sym (append-nil (last_digits count n)); puts = puts_none old (at + count) h }
 
-module _ {n : ℕ} {old : List ℕ} {at end : ℕ} {new : List ℕ} {m : ℕ} where
-  pub last_more : {from : ℕ} (i : ℕ) → LastBehind n old at end new m from → from ≡ i + 1 → at ≤ i
-      → LastBehind n old at end (set new i (digit (m % 10))) (m / 10) i
+module _ {count n : ℕ} {old : List ℕ} {at end : ℕ} {new : List ℕ} {m : ℕ} where
+  pub last_more : {from : ℕ} (i : ℕ) → LastBehind count n old at end new m from → from ≡ i + 1 → at ≤ i
+      → LastBehind count n old at end (set new i (digit (m % 10))) (m / 10) i
   unfolding last_digits
   last_more {from} i b next h = by b.left b.room b.all
     where
-      by : (left : ℕ) → from ≡ at + left → last_digits 18 n ≡ last_digits left m ++ b.text
-          → LastBehind n old at end (set new i (digit (m % 10))) (m / 10) i
+      by : (left : ℕ) → from ≡ at + left → last_digits count n ≡ last_digits left m ++ b.text
+          → LastBehind count n old at end (set new i (digit (m % 10))) (m / 10) i
       by zero room all = absurd (omega arith)
       by (suc k) room all =
           record {
@@ -72,17 +72,34 @@ module _ {n : ℕ} {old : List ℕ} {at end : ℕ} {new : List ℕ} {m : ℕ} wh
             puts = puts_before i (digit (m % 10)) next b.puts;
           }
 
-  pub last_all : {from : ℕ} → LastBehind n old at end new m from → from ≤ at → Puts (last_digits 18 n) 18 old at new end
+  pub last_all : {from : ℕ} → LastBehind count n old at end new m from → from ≤ at → Puts (last_digits count n) count old at new end
   unfolding last_digits
   last_all {from} b h = by b.left b.room b.all
     where
-      by : (left : ℕ) → from ≡ at + left → last_digits 18 n ≡ last_digits left m ++ b.text → Puts (last_digits 18 n) 18 old at new end
+      by : (left : ℕ) → from ≡ at + left → last_digits count n ≡ last_digits left m ++ b.text → Puts (last_digits count n) count old at new end
       by zero room all =
           let here : from ≡ at = omega arith in
-          let long : length b.text ≤ 18 = omega (arith, ap (λ (s : List ℕ). length s) all, last_length 18 n) in
-          subst (λ (s : List ℕ). Puts s 18 old at new end) (sym all)
-          (subst (λ (i : ℕ). Puts b.text 18 old i new end) here (at_most b.puts long))
+          let long : length b.text ≤ count = omega (arith, ap (λ (s : List ℕ). length s) all, last_length count n) in
+          subst (λ (s : List ℕ). Puts s count old at new end) (sym all)
+          (subst (λ (i : ℕ). Puts b.text count old i new end) here (at_most b.puts long))
       by (suc k) room all = absurd (omega arith)
+
+-- ---- all digits
+
+pub all_digits : (n : ℕ) → last_digits (length (decimal n)) n ≡ decimal n
+unfolding last_digits
+all_digits = by_digits (λ n. last_digits (length (decimal n)) n ≡ decimal n) small large
+  where
+    small : (n : ℕ) → n < 10 → last_digits (length (decimal n)) n ≡ decimal n
+    small n h =
+        let same : n % 10 ≡ n = omega arith in
+        rw (length_small n h, decimal_small n h) (ap (λ (d : ℕ). digit d ∷ []) same)
+
+    large : (n : ℕ) → 10 ≤ n → last_digits (length (decimal (n / 10))) (n / 10) ≡ decimal (n / 10)
+        → last_digits (length (decimal n)) n ≡ decimal n
+    large n h rest =
+        let more : length (decimal n) ≡ suc (length (decimal (n / 10))) = omega (arith, length_large n h) in
+        rw more (ap (λ (s : List ℕ). s ++ (digit (n % 10) ∷ [])) rest ∙ sym (decimal_large n h))
 
 -- ---- high digits before low ones
 

@@ -2,7 +2,7 @@
 use Rattle.std.specs.Prelude.{ℕ, suc, ◌+◌, ◌*◌, ◌≤◌, ◌<◌, ◌≡◌, refl, List, [], ◌∷◌, ◌++◌, ℤ, pos, length, drop, get_or}
 use Rattle.std.proofs.Common.{sym, ap, ◌∙◌, append_assoc, arith, drop_of_length-le, drop-cons, le-leb}
 use Rattle.std.proofs.lemmas.Bool.{lt-leb}
-use Rattle.row.specs.declared.lines.Place.TheVariants.{Next, NoRoom}
+use Rattle.std.specs.Prelude.{⊤, None, Some}
 use Rattle.row.specs.Decimal.{signed_decimal}
 use Rattle.row.specs.computed.Numbers.{numbers_line, buffer_with, place_with}
 use Rattle.row.specs.computed.Puts.{Puts}
@@ -51,11 +51,11 @@ module _ {vs : List ℤ} {old new : List ℕ} {at i next : ℕ} (w : Written vs 
 
 module _ (vs : List ℤ) (old : List ℕ) (at : ℕ) where
   pub with_room_for : {new : List ℕ} {next k : ℕ} → at + 22 * (length vs + 1) ≤ length old → Puts (numbers_line vs) k old at new next
-      → (new ≡ buffer_with vs old at) × ((Next next ≡ place_with vs old at) × (next ≤ length old))
-  with_room_for h p = rw (le-leb (at + 22 * (length vs + 1)) (length old) h) (p.buffer, (ap Next p.place, p.within))
+      → (new ≡ buffer_with vs old at) × ((Some next ≡ place_with vs old at) × (next ≤ length old))
+  with_room_for h p = rw (le-leb (at + 22 * (length vs + 1)) (length old) h) (p.buffer, (ap Some p.place, p.within))
 
   pub without_room_for : length old < at + 22 * (length vs + 1)
-      → (old ≡ buffer_with vs old at) × ((NoRoom ≡ place_with vs old at) × Unit {0})
+      → (old ≡ buffer_with vs old at) × ((None ≡ place_with vs old at) × ⊤)
   without_room_for h = rw (lt-leb (at + 22 * (length vs + 1)) (length old) h) (refl, (refl, tt))
 
   -- the LF of no numbers

@@ -5,7 +5,7 @@ use Rattle.std.proofs.Common.{drop-set-lt, le-leb}
 use Rattle.std.proofs.Math.Seq.{paste, paste-zero, take-length, append_snoc, take-set-lt}
 use Rattle.std.proofs.lemmas.List.{set_split, set-append_left, take-set-le}
 use Rattle.std.proofs.lemmas.Bool.{lt-leb}
-use Rattle.row.specs.declared.lines.Place.TheVariants.{Next, NoRoom}
+use Rattle.std.specs.Prelude.{None, Some}
 use Rattle.row.specs.computed.Buffer.{line_room, placed, buffer_after, place_after}
 use Rattle.row.specs.laws.Buffer.{placed_length, placed_join}
 use Rattle.row.specs.computed.Puts.{Puts}
@@ -83,8 +83,8 @@ puts_text s old new at i h e copied =
 
 module _ (old : List ℕ) (at : ℕ) where
   pub with_room : {line new : List ℕ} {next k : ℕ} → at + line_room ≤ length old → Puts line k old at new next
-      → (new ≡ buffer_after line old at) × (Next next ≡ place_after line old at)
-  with_room h p = rw (le-leb (at + line_room) (length old) h) (p.buffer, ap Next p.place)
+      → (new ≡ buffer_after line old at) × (Some next ≡ place_after line old at)
+  with_room h p = rw (le-leb (at + line_room) (length old) h) (p.buffer, ap Some p.place)
 
-  pub without_room : (line : List ℕ) → length old < at + line_room → (old ≡ buffer_after line old at) × (NoRoom ≡ place_after line old at)
+  pub without_room : (line : List ℕ) → length old < at + line_room → (old ≡ buffer_after line old at) × (None ≡ place_after line old at)
   without_room line h = rw (lt-leb (at + line_room) (length old) h) (refl, refl)

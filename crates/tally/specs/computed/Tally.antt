@@ -1,7 +1,8 @@
 -- What a text line adds to a listing, for any tally whatever. Crate `job` says what the listing of a whole text is.
 use Rattle.std.specs.Prelude.{◌≡◌, Bool, true, false, cond, not, ◌&&◌, List, [], ℕ, ◌+◌, ◌*◌, ◌≤◌, leb, ltb, length}
 use Rattle.row.specs.declared.lines.Kind.{Kind}
-use Rattle.row.specs.declared.lines.Place.{Place}
+use Rattle.std.specs.declared.option.Option.{Option}
+use Rattle.std.specs.Option.{unwrap_or}
 use Rattle.row.specs.computed.Buffer.{line_room, has_room, placed}
 use Rattle.row.specs.computed.Long.{low_limit, long_of, none_counted, plus_of}
 use Rattle.row.specs.Lines.{block_line, total_line, refused_line}
@@ -34,9 +35,9 @@ pub record Gives (g : RowGiven) (old : List ℕ) (at : ℕ) (r : Listed) (new : 
   pub over : r.over ≡ g.over
   pub tally : r.tally ≡ g.tally
 
-abbrev pub place_after_row : Place → (at : ℕ) → ℕ
-place_after_row (Place.Next next) at = next
-place_after_row Place.NoRoom at = at
+-- the place after a line; the line's own where it was not written
+abbrev pub place_after_row : Option ℕ → (at : ℕ) → ℕ
+place_after_row place at = unwrap_or place at
 
 -- no block has more cycles
 abbrev pub most_block_cycles : ℕ

@@ -1,7 +1,7 @@
 -- What a text line gives, by the room, by the tally's counts and by what the reader answered; and a line written where there is room.
 use Rattle.std.specs.Prelude.{◌≡◌, refl, true, false, List, [], ℕ, ◌+◌, length, take}
 use Rattle.std.proofs.Common.{sym, ◌∙◌, append-nil, add-zero, take-append-drop}
-use Rattle.row.specs.declared.lines.Place.{Place}
+use Rattle.std.specs.declared.option.Option.{Option}
 use Rattle.row.specs.computed.Buffer.{has_room, placed, buffer_after, place_after}
 use Rattle.bench.specs.declared.Bench.{Bench}
 use Rattle.reader.specs.declared.Reader.{Reader}
@@ -20,7 +20,7 @@ module _ (line old : List ℕ) (at : ℕ) (room : has_room old at ≡ true) wher
   pub written : buffer_after line old at ≡ placed line old at
   written = rw room
 
-  pub goes_on : {p : Place} → p ≡ place_after line old at → place_after_row p at ≡ at + length line
+  pub goes_on : {p : Option ℕ} → p ≡ place_after line old at → place_after_row p at ≡ at + length line
   goes_on e = rw (e, room)
 
 module _ (t : Tally) (line old : List ℕ) (at : ℕ) where

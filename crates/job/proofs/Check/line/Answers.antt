@@ -8,15 +8,15 @@ pub returns-then-text-gt-LONGEST_TEXT : goal.returns-then-text-gt-LONGEST_TEXT
 returns-then-text-gt-LONGEST_TEXT c =
     let s = c.args in
     let w = c.refused-refused.ensures in
-    rw (c.last.ensures, c.next_place.ensures)
+    rw (c.last.ensures, c.unwrap_or.ensures)
     (step_long s.self s.text.now s.out.now s.place c.requires.0 (omega arith)
     (record { room = c.requires.1; buffer = w.buffer; place = w.place }))
 
-pub returns-then-text-at : goal.returns-then-text-at
-returns-then-text-at c =
+pub returns-then-text-self : goal.returns-then-text-self
+returns-then-text-self c =
     let s = c.args in
     let w = c.total-total.ensures in
-    rw (c.last-then-text-at.ensures, c.next_place-then-text-at.ensures)
+    rw (c.last-then-text-self.ensures, c.unwrap_or-then-text-self.ensures)
     (step_total s.self s.text.now s.out.now s.place c.requires.0 (omega arith) w.short (omega arith)
     (record { room = c.requires.1; buffer = w.buffer; place = w.place }))
 
@@ -27,8 +27,8 @@ returns-then-l c =
     rw c.last-then-l.ensures
     (step_refused s.self s.text.now s.out.now s.place c.requires.0 (omega arith) c.requires.1 (omega arith) reads c.if-l.true)
 
-pub overflow_add-check : goal.overflow_add-check
-overflow_add-check c =
+pub overflow_add-result : goal.overflow_add-result
+overflow_add-result c =
     let s = c.args in
     let reads = rw (slice_rest s.text.now s.self.at) at c.read-l.ensures.reads in
     let bytes = rw (slice_rest s.text.now s.self.at) at c.read-l.ensures.bytes_value in
@@ -37,8 +37,8 @@ overflow_add-check c =
       near s.self s.text.now s.out.now s.place c.requires.0 (omega arith) c.requires.1 (omega arith) reads c.if-l.false bytes,
     )
 
-pub overflow_add-check-2 : goal.overflow_add-check-2
-overflow_add-check-2 c =
+pub overflow_add-result-2 : goal.overflow_add-result-2
+overflow_add-result-2 c =
     let s = c.args in
     let reads = rw (slice_rest s.text.now s.self.at) at c.read-l.ensures.reads in
     let bytes = rw (slice_rest s.text.now s.self.at) at c.read-l.ensures.bytes_value in

@@ -6,6 +6,6 @@ pub returns-in-Header : goal.returns-in-Header
 returns-in-Header c =
     let s = c.args in
     let w = c.header-header.ensures in
-    rw c.next_place.ensures
+    rw c.unwrap_or.ensures
     (step_header s.self s.text.now s.out.now s.place c.in-Header.is
     (record { room = c.requires.1; buffer = w.buffer; place = w.place }))

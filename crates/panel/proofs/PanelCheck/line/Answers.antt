@@ -11,8 +11,8 @@ slice_bounds-keep-end c =
     let s = c.args in
     sym (length-take-le _ _ (omega (arith, c.taken-took.ensures, taken_few s.self.left s.piece.now)))
 
-pub overflow_sub-left : goal.overflow_sub-left
-overflow_sub-left c = let s = c.args in omega (arith, c.taken-took.ensures, taken_few s.self.left s.piece.now)
+pub overflow_sub-check : goal.overflow_sub-check
+overflow_sub-check c = let s = c.args in omega (arith, c.taken-took.ensures, taken_few s.self.left s.piece.now)
 
 pub returns-in-TooMany : goal.returns-in-TooMany
 returns-in-TooMany c =

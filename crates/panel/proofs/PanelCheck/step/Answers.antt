@@ -6,8 +6,8 @@ pub returns-in-Header : goal.returns-in-Header
 returns-in-Header c =
     let s = c.args in
     let w = c.header-place.ensures in
-    rw c.next_place.ensures
-    (hands_header s.self s.scratch.now s.piece.now s.last s.out.now c.in-Header.is c.requires.0 c.least.ensures
+    rw c.unwrap_or.ensures
+    (hands_header s.self s.scratch.now s.piece.now s.last s.out.now c.in-Header.is c.requires.0 c.min.ensures
     (record { room = c.requires.1; buffer = w.buffer; place = w.place }))
 
 pub returns-in-Lines : goal.returns-in-Lines

@@ -11,9 +11,9 @@ use Rattle.stream.specs.laws.Line.{next_long, next_none, next_refused, next_read
 pub returns-then-text-gt-LONGEST_TEXT : goal.returns-then-text-gt-LONGEST_TEXT
 returns-then-text-gt-LONGEST_TEXT c = rw c.ended.ensures (next_long c.args.self c.args.text.now c.requires (omega arith))
 
-pub returns-then-text-at : goal.returns-then-text-at
-returns-then-text-at c =
-    rw c.ended-then-text-at.ensures (next_none c.args.self c.args.text.now c.requires (omega arith) (omega arith))
+pub returns-then-text-self : goal.returns-then-text-self
+returns-then-text-self c =
+    rw c.ended-then-text-self.ensures (next_none c.args.self c.args.text.now c.requires (omega arith) (omega arith))
 
 pub returns-then-is_refused : goal.returns-then-is_refused
 returns-then-is_refused c =

@@ -25,17 +25,23 @@ has_room_lem :
     (t : Tally) (m : Bench) (f : Finished) → counts_right t ≡ true → f ≡ finish_of m → Room t f.cycles f.ticks
 has_room_lem t m f right is = rw is (room t _ _ right (cycles_most m) (ticks_most m))
 
-pub overflow_add-lines : goal.overflow_add-lines
-overflow_add-lines c = omega (arith, (has_room_lem c.args.self _ _ c.requires.0 c.finish-done.ensures).lines)
+pub overflow_add-row : goal.overflow_add-row
+overflow_add-row c = omega (arith, (has_room_lem c.args.self _ _ c.requires.0 c.finish-done.ensures).blocks)
 
-pub overflow_add-blocks : goal.overflow_add-blocks
-overflow_add-blocks c = omega (arith, (has_room_lem c.args.self _ _ c.requires.0 c.finish-done.ensures).blocks)
+pub overflow_add-row-2 : goal.overflow_add-row-2
+overflow_add-row-2 c = omega (arith, (has_room_lem c.args.self _ _ c.requires.0 c.finish-done.ensures).lines)
 
-pub plus-ticks-requires : goal.plus-ticks-requires
-plus-ticks-requires c = let r = has_room_lem c.args.self _ _ c.requires.0 c.finish-done.ensures in (r.low, r.few, r.high)
+pub overflow_add-result : goal.overflow_add-result
+overflow_add-result c = omega (arith, (has_room_lem c.args.self _ _ c.requires.0 c.finish-done.ensures).lines)
 
-pub overflow_add-tally : goal.overflow_add-tally
-overflow_add-tally c = omega (arith, (has_room_lem c.args.self _ _ c.requires.0 c.finish-done.ensures).cycles)
+pub overflow_add-result-2 : goal.overflow_add-result-2
+overflow_add-result-2 c = omega (arith, (has_room_lem c.args.self _ _ c.requires.0 c.finish-done.ensures).blocks)
+
+pub overflow_add-result-3 : goal.overflow_add-result-3
+overflow_add-result-3 c = omega (arith, (has_room_lem c.args.self _ _ c.requires.0 c.finish-done.ensures).cycles)
+
+pub plus-requires : goal.plus-requires
+plus-requires c = let r = has_room_lem c.args.self _ _ c.requires.0 c.finish-done.ensures in (r.low, r.few, r.high)
 
 pub returns-clause-gives : goal.returns-clause-gives
 unfolding block_listed
@@ -59,7 +65,7 @@ returns-clause-gives c =
     (record {
       short = rw (← c.kind_of.ensures) short;
       buffer = rw (← c.kind_of.ensures) (buffer_is ∙ written line s.out.now s.at room);
-      next = rw (← c.kind_of.ensures) (c.next_place.ensures ∙ goes_on line s.out.now s.at room place_is);
+      next = rw (← c.kind_of.ensures) (c.unwrap_or.ensures ∙ goes_on line s.out.now s.at room place_is);
       over = refl;
-      tally = rw c.plus-ticks.ensures;
+      tally = rw c.plus.ensures;
     })

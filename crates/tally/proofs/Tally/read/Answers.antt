@@ -60,8 +60,8 @@ returns-then-not-counts_right c =
     room refl refl in
     rw c.unread-then-not-counts_right.ensures (record { reads = b.0; bytes_value = b.1 })
 
-pub overflow_add-lines : goal.overflow_add-lines
-overflow_add-lines c = let k = counts _ (sym c.counts_right.ensures ∙ c.if-not-counts_right.false) in omega (arith, k.lines)
+pub overflow_add-self : goal.overflow_add-self
+overflow_add-self c = let k = counts _ (sym c.counts_right.ensures ∙ c.if-not-counts_right.false) in omega (arith, k.lines)
 
 pub block-requires : goal.block-requires
 block-requires c =
@@ -110,12 +110,12 @@ returns-in-Refused c =
     let is = gives s.self line s.out.now s.at _ room counted f.read_value c.in-Refused.is in
     let b =
     last_line_lem s.self line s.out.now s.at
-    {r = record { next = c.next_place.result; over = true; bytes = 0; tally = s.self }}
+    {r = record { next = c.unwrap_or.result; over = true; bytes = 0; tally = s.self }}
     (rw is
     (record {
       short = refused_short (s.self.lines + 1) number (omega (arith, k.lines)) (search rules);
       buffer = c.refused-place.ensures.buffer ∙ written _ s.out.now s.at room;
-      next = c.next_place.ensures ∙ goes_on (refused_line _ number) s.out.now s.at room c.refused-place.ensures.place;
+      next = c.unwrap_or.ensures ∙ goes_on (refused_line _ number) s.out.now s.at room c.refused-place.ensures.place;
       over = refl;
       tally = refl;
     }))
