@@ -12,13 +12,13 @@ ghost use Rattle.bench.specs.computed.Run.{report_of, run_of};
 ghost use Rattle.bench.specs.computed.Calls.{make_of, load_of, tick_of};
 
 use block::Block;
-use block::questions::load_no;
+use block::questions::ask_load;
 use circle::step::DIAGONAL;
 use plane::point::Point;
 use plane::travel::inside;
 use run::in_work::InWork;
 use run::run_work;
-use settings::{Settings, capacity, settings_no, standard};
+use settings::{Settings, ask_settings, capacity, standard};
 use work::{Work, begin, is_nothing, work_sound, work_tick};
 
 #[derive(Clone, Copy)]
@@ -85,7 +85,7 @@ pub struct Ran {
 pub fn sound(settings: Settings, at: Point, remainder: u64, work: Work) -> bool
     ensures { result ≡ sound_parts settings at remainder work }
 {
-    if settings_no(settings) != 0 {
+    if ask_settings(settings).is_err() {
         return false;
     }
     let travel = settings.travel;
@@ -143,16 +143,15 @@ impl Bench {
     pub fn make(settings: Settings) -> Answered
         ensures { result ≡ make_of settings }
     {
-        let no = settings_no(settings);
-        if no != 0 {
-            return Answered {
-                answer: Answer::Refused(no),
+        match ask_settings(settings) {
+            Ok(()) => Answered {
+                answer: Answer::Done,
+                bench: fresh(settings),
+            },
+            Err(no) => Answered {
+                answer: Answer::Refused(no.number()),
                 bench: fresh(standard()),
-            };
-        }
-        Answered {
-            answer: Answer::Done,
-            bench: fresh(settings),
+            },
         }
     }
 
@@ -165,10 +164,9 @@ impl Bench {
         let at = self.at;
         let work = self.work;
         let travel = settings.travel;
-        let no = load_no(capacity(settings), travel, is_nothing(work), at, b);
-        if no != 0 {
+        if let Err(no) = ask_load(capacity(settings), travel, is_nothing(work), at, b) {
             return Answered {
-                answer: Answer::Refused(no),
+                answer: Answer::Refused(no.number()),
                 bench: self,
             };
         }

@@ -1,11 +1,11 @@
-// Load's questions in document 01's order. Each answers the number of the first "no", or 0.
+// Load's questions in document 01's order. Each function answers the first question that is answered by no, where one is.
 ghost use Rattle.std.specs.Prelude.{◌≡◌, true};
 ghost use Rattle.plane.specs.Travel.{inside_of};
 ghost use Rattle.plane.specs.Point.{Near};
 ghost use Rattle.plane.specs.computed.Travel.{Wide};
 ghost use Rattle.block.specs.Block.{square_of, arc_of};
 ghost use Rattle.block.specs.computed.Questions.{Begins};
-ghost use Rattle.block.specs.Questions.{feed_right, offset_right, arc_no, path_no, load_no};
+ghost use Rattle.block.specs.Questions.{feed_right, offset_right, ask_arc, ask_path, ask_load};
 
 use crate::{Block, Path};
 use arc::arc::Arc;
@@ -13,6 +13,7 @@ use arc::centre::back;
 use circle::plane::{Offset, Turn};
 use plane::point::Point;
 use plane::travel::{Travel, inside};
+use question::Question;
 
 pub fn feed_right(capacity: u64, feed: u64) -> bool
     ensures { result ≡ feed_right capacity feed }
@@ -56,57 +57,61 @@ pub fn arc_of(start: Point, b: Block, turn: Turn, centre: Offset) -> Arc
 }
 
 // Questions 15 and 16 of an arc that begins here.
-fn arc_no(travel: Travel, start: Point, a: Arc) -> u64
+fn ask_arc(travel: Travel, start: Point, a: Arc) -> Result<(), Question>
     requires { Begins travel start a }
-    ensures { result ≡ arc_no travel a start }
+    ensures { result ≡ ask_arc travel a start }
 {
     if !a.ends_on_circle() {
-        return 15;
+        return Err(Question::EndOnCircle);
     }
     if !a.stays(travel, start) {
-        return 16;
+        return Err(Question::VisitsInTravel);
     }
-    0
+    Ok(())
 }
 
 // Questions 13 to 16.
 #[tactic(auto, using(plane::specs::laws::Travel::inside, plane::specs::laws::Travel::travel_near), unfolding(line::specs::Line::differ))]
-fn path_no(travel: Travel, start: Point, b: Block) -> u64
+fn ask_path(travel: Travel, start: Point, b: Block) -> Result<(), Question>
     requires { Wide travel × (inside_of travel start ≡ true) × (inside_of travel b.end ≡ true) }
-    ensures { result ≡ path_no travel start b b.path }
+    ensures { result ≡ ask_path travel start b b.path }
 {
-    let end = b.end;
-    let path = b.path;
-    match path {
+    match b.path {
         Path::Line => {
-            if start == end {
-                return 13;
+            if start == b.end {
+                return Err(Question::Moves);
             }
-            0
+            Ok(())
         }
         Path::Arc(turn, centre) => {
             if !offset_right(centre) {
-                return 14;
+                return Err(Question::Centre);
             }
-            arc_no(travel, start, arc_of(start, b, turn, centre))
+            ask_arc(travel, start, arc_of(start, b, turn, centre))
         }
     }
 }
 
 // Questions 10 to 16.
-pub fn load_no(capacity: u64, travel: Travel, room: bool, start: Point, b: Block) -> u64
+#[tactic(auto, unfolding(crate::specs::Questions::ask_load))]
+pub fn ask_load(
+    capacity: u64,
+    travel: Travel,
+    room: bool,
+    start: Point,
+    b: Block,
+) -> Result<(), Question>
     requires { Wide travel × (inside_of travel start ≡ true) }
-    ensures { result ≡ load_no capacity travel room start b }
+    ensures { result ≡ ask_load capacity travel room start b }
 {
     if !room {
-        return 10;
+        return Err(Question::Room);
     }
     if !feed_right(capacity, b.feed) {
-        return 11;
+        return Err(Question::Feed);
     }
-    let end = b.end;
-    if !inside(travel, end) {
-        return 12;
+    if !inside(travel, b.end) {
+        return Err(Question::EndInTravel);
     }
-    path_no(travel, start, b)
+    ask_path(travel, start, b)
 }

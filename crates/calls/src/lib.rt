@@ -14,7 +14,7 @@ ghost use Rattle.calls.specs.computed.Asked.{Asking, marks};
 use crate::answer::{answer_number, report_number, tick_number};
 use bench::{Answer, Bench};
 use block::Block;
-use block::questions::load_no;
+use block::questions::ask_load;
 use encoding::encode::encode;
 use encoding::given::settings;
 use machine::waiting::left_after;
@@ -98,9 +98,8 @@ pub fn load_sound(words: &mut [i64; 134], k: Bench, start: Point, b: Block) -> A
     let travel = settings.travel;
     let work = k.work;
     let len = len_in(words);
-    let no = load_no(capacity(settings), travel, len < 16, start, b);
-    if no != 0 {
-        return Answer::Refused(no);
+    if let Err(no) = ask_load(capacity(settings), travel, len < 16, start, b) {
+        return Answer::Refused(no.number());
     }
     Answer::Width(take(words, work, start, b))
 }

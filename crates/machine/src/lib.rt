@@ -14,10 +14,10 @@ ghost use Rattle.machine.specs.computed.Asked.{Taking};
 
 use bench::{Answer, Bench, Report, Tick};
 use block::Block;
-use block::questions::load_no;
+use block::questions::ask_load;
 use plane::point::Point;
 use queue::{Queue, Waiting};
-use settings::{Settings, capacity, settings_no, standard};
+use settings::{Settings, ask_settings, capacity, standard};
 use work::rest::{cycles_left, root_of};
 use work::{Work, begin, is_nothing};
 
@@ -93,16 +93,15 @@ impl Machine {
     pub fn make(settings: Settings) -> Answered
         ensures { result ≡ make_of settings }
     {
-        let no = settings_no(settings);
-        if no != 0 {
-            return Answered {
-                answer: Answer::Refused(no),
+        match ask_settings(settings) {
+            Ok(()) => Answered {
+                answer: Answer::Done,
+                machine: fresh(settings),
+            },
+            Err(no) => Answered {
+                answer: Answer::Refused(no.number()),
                 machine: fresh(standard()),
-            };
-        }
-        Answered {
-            answer: Answer::Done,
-            machine: fresh(settings),
+            },
         }
     }
 
@@ -151,9 +150,8 @@ impl Machine {
         let settings = k.settings;
         let travel = settings.travel;
         let start = waiting::start_of(k, q);
-        let no = load_no(capacity(settings), travel, q.len < 16, start, b);
-        if no != 0 {
-            return self.refused(no);
+        if let Err(no) = ask_load(capacity(settings), travel, q.len < 16, start, b) {
+            return self.refused(no.number());
         }
         self.take(start, b)
     }

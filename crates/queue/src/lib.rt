@@ -10,7 +10,7 @@ ghost use Rattle.queue.specs.Queue.{waiting, empty_queue, pushed_of, first_of, p
 ghost use Rattle.queue.specs.computed.Queue.{queue_sound};
 ghost use Rattle.queue.specs.computed.Test.{taken_off};
 
-use block::questions::load_no;
+use block::questions::ask_load;
 use block::root::{cycles_by, is_root};
 use block::{Block, Path};
 use plane::point::Point;
@@ -53,7 +53,7 @@ pub fn take_off(capacity: u64, travel: Travel, start: Point, w: Waiting, count: 
     ensures { result ≡ taken_off capacity travel start w count }
 {
     let b = w.block;
-    if load_no(capacity, travel, true, start, b) != 0 {
+    if ask_load(capacity, travel, true, start, b).is_err() {
         return None;
     }
     if !is_root(start, b, w.root) {

@@ -3,9 +3,10 @@
 
 ghost use Rattle.std.specs.Prelude.{◌≡◌};
 ghost use Rattle.settings.specs.Settings.{capacity_of, standard_settings};
-ghost use Rattle.settings.specs.computed.Settings.{axis_right, travel_right, settings_no};
+ghost use Rattle.settings.specs.computed.Settings.{axis_right, travel_right, settings_no, ask_settings};
 
 use plane::travel::{Range, Travel};
+use question::Question;
 
 #[derive(Clone, Copy)]
 pub struct Settings {
@@ -30,21 +31,21 @@ fn travel_right(travel: Travel) -> bool
     axis_right(travel.x) && axis_right(travel.y)
 }
 
-// The number of the first "no", or 0.
-#[tactic(auto, unfolding(crate::specs::computed::Settings::settings_no))]
-pub fn settings_no(s: Settings) -> u64
-    ensures { result ≡ settings_no s }
+// The first question that is answered by no, where one is.
+#[tactic(auto, unfolding(crate::specs::computed::Settings::ask_settings))]
+pub fn ask_settings(s: Settings) -> Result<(), Question>
+    ensures { result ≡ ask_settings s }
 {
     if !(1..=1_000).contains(&s.scale) {
-        return 1;
+        return Err(Question::Scale);
     }
     if !(1_000..=20_000).contains(&s.clock) {
-        return 2;
+        return Err(Question::Clock);
     }
     if !travel_right(s.travel) {
-        return 3;
+        return Err(Question::Travel);
     }
-    0
+    Ok(())
 }
 
 // Feed numbers are thousandths of a pulse per minute: 60,000 of them are a pulse per second.

@@ -12,8 +12,10 @@ use Rattle.plane.specs.computed.Travel.{Wide}
 use Rattle.plane.specs.laws.Travel.{inside, travel_near}
 use Rattle.block.specs.declared.Block.{Block}
 use Rattle.block.specs.declared.Path.{Path}
-use Rattle.block.specs.Questions.{feed_right, path_no, load_no}
-use Rattle.whole.specs.laws.Ask.{answered}
+use Rattle.block.specs.Questions.{feed_right, load_no, ask_load}
+use Rattle.block.specs.computed.Questions.{path_no}
+use Rattle.question.specs.declared.Question.{Question}
+use Rattle.question.specs.laws.Ask.{answered}
 use Rattle.line.specs.Line.{increment_x, increment_y}
 use Rattle.line.specs.computed.Line.{short_of}
 use Rattle.work.specs.declared.Work.{Work}
@@ -85,11 +87,11 @@ module _ {t : Travel} (start : Point) (w : Wide t) (here : inside_of t start ≡
 
   along : (p : Path) → inside_of t b.end ≡ true → path_no t start b p ≡ 0 → Loadable start b p
   along Path.Line e asked = short (travel_near w (inside here)) (travel_near w (inside e))
-  along (Path.Arc turn centre) e asked = (travel_near w (inside here), (answered 13 asked).0)
+  along (Path.Arc turn centre) e asked = (travel_near w (inside here), (answered Question.Centre _ asked).0)
 
   pub loadable : (q0 : ℕ) (idle : Bool) → load_no q0 t idle start b ≡ 0 → Loadable start b b.path
-  unfolding load_no
+  unfolding ask_load
   loadable q0 idle asked =
-      let feed = answered {yes = feed_right q0 b.feed} 10 (answered {yes = idle} 9 asked).1 in
-      let end = answered 11 feed.1 in
+      let feed = answered {yes = feed_right q0 b.feed} Question.Feed _ (answered {yes = idle} Question.Room _ asked).1 in
+      let end = answered Question.EndInTravel _ feed.1 in
       along b.path end.0 end.1

@@ -17,9 +17,11 @@ use Rattle.arc.specs.laws.Step.{cycles_bounds}
 use Rattle.block.specs.declared.Block.{Block}
 use Rattle.block.specs.declared.Path.{Path}
 use Rattle.block.specs.Block.{arc_of, cycles_along, block_cycles}
-use Rattle.block.specs.Questions.{offset_right, feed_right, path_no, load_no}
+use Rattle.block.specs.Questions.{offset_right, feed_right, load_no, ask_load}
+use Rattle.block.specs.computed.Questions.{path_no}
 use Rattle.block.specs.computed.Chain.{Accepted}
-use Rattle.whole.specs.laws.Ask.{answered}
+use Rattle.question.specs.declared.Question.{Question}
+use Rattle.question.specs.laws.Ask.{answered}
 use Rattle.block.proofs.laws.Begin.{begins}
 
 -- the questions 11 to 16, each answered by yes
@@ -30,10 +32,10 @@ pub record Yes (q0 : ℕ) (t : Travel) (start : Point) (b : Block) : Type 0 wher
   pub path : path_no t start b b.path ≡ 0
 
 pub yes : (q0 : ℕ) (t : Travel) (room : Bool) (start : Point) (b : Block) → load_no q0 t room start b ≡ 0 → Yes q0 t start b
-unfolding load_no
+unfolding ask_load
 yes q0 t room start b e =
-    let feed = answered {yes = feed_right q0 b.feed} 10 (answered {yes = room} 9 e).1 in
-    let end = answered 11 feed.1 in
+    let feed = answered {yes = feed_right q0 b.feed} Question.Feed _ (answered {yes = room} Question.Room _ e).1 in
+    let end = answered Question.EndInTravel _ feed.1 in
     let f = both feed.0 in
     record { some = leb-true 1 b.feed f.0; most = leb-true b.feed q0 f.1; end_in_lem = end.0; path = end.1 }
 
@@ -59,15 +61,15 @@ module _ {t : Travel} (start : Point) (b : Block)
   unfolding arc_of
   ready Path.Line e = short
   ready (Path.Arc turn centre) e =
-      let offset = answered {yes = offset_right centre} 13 e in
-      let ends = answered 14 offset.1 in
+      let offset = answered {yes = offset_right centre} Question.Centre _ e in
+      let ends = answered Question.EndOnCircle _ offset.1 in
       let g = begins start b turn centre wide here there offset.0 in
       let near = travel_near wide (inside here) in
       (near, offset.0, record { centre = g.centre; here = near; there = travel_near wide (inside there); on = g.on; end_on = ends.0 })
 
   along : (p : Path) → path_no t start b p ≡ 0 → (1 ≤ cycles_along start b p) × (cycles_along start b p ≤ 8000000)
   along Path.Line e = (
-    cycles_some start b.end (differ_apart start b.end (answered {next = 0} 12 e).0),
+    cycles_some start b.end (differ_apart start b.end (answered Question.Moves _ e).0),
     omega (arith, cycles_bound start b.end sides.0 sides.1),
   )
   along (Path.Arc turn centre) e =

@@ -11,7 +11,7 @@ use Rattle.block.specs.declared.Path.{Path}
 use Rattle.block.specs.Block.{arc_of, cycles_along, point_along, width_along, block_cycles, block_point, block_width}
 use Rattle.block.specs.Charge.{block_charge, charges_to, block_charges}
 use Rattle.block.specs.Feed.{at_feed}
-use Rattle.block.specs.Questions.{feed_right, path_no, load_no}
+use Rattle.block.specs.Questions.{feed_right, ask_path, load_no, ask_load}
 
 module _ (f : ℕ) (start : Point) (b : Block) where
   cycles_along_lem : (p : Path) → cycles_along start (at_feed f b) p ≡ cycles_along start b p
@@ -53,13 +53,13 @@ module _ (f : ℕ) (start : Point) (b : Block) where
   pub charges_at_feed : block_charges start (at_feed f b) ≡ block_charges start b
   charges_at_feed = rw cycles_at_feed (charges_to_lem (block_cycles start b))
 
-  path_no_lem : (t : Travel) (p : Path) → path_no t start (at_feed f b) p ≡ path_no t start b p
+  path_same : (t : Travel) (p : Path) → ask_path t start (at_feed f b) p ≡ ask_path t start b p
   unfolding arc_of arc_after arc_cycles
-  path_no_lem t Path.Line = refl
-  path_no_lem t (Path.Arc turn centre) = refl
+  path_same t Path.Line = refl
+  path_same t (Path.Arc turn centre) = refl
 
   -- where question 11 has the same answer, so has load
   pub load_at_feed : (q g : ℕ) (t : Travel) (room : Bool) → feed_right q f ≡ feed_right g b.feed
       → load_no q t room start (at_feed f b) ≡ load_no g t room start b
-  unfolding load_no
-  load_at_feed q g t room same = rw (same, path_no_lem t b.path)
+  unfolding ask_load
+  load_at_feed q g t room same = rw (same, path_same t b.path)

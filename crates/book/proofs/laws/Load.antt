@@ -16,9 +16,11 @@ use Rattle.arc.specs.computed.Arc.{centres}
 use Rattle.block.specs.declared.Block.{Block}
 use Rattle.block.specs.declared.Path.{Path}
 use Rattle.block.specs.Block.{arc_of}
-use Rattle.block.specs.Questions.{path_no, load_no}
+use Rattle.block.specs.Questions.{load_no, ask_load}
+use Rattle.block.specs.computed.Questions.{path_no}
 use Rattle.block.proofs.laws.Accepted.{yes}
-use Rattle.whole.specs.laws.Ask.{answered}
+use Rattle.question.specs.declared.Question.{Question}
+use Rattle.question.specs.laws.Ask.{answered}
 use Rattle.block.proofs.laws.Begin.{OffsetRight, offset_right_lem, start_on}
 use Rattle.book.proofs.laws.Way.{PathRight}
 
@@ -39,7 +41,7 @@ pub record LoadRight (q0 : ℕ) (t : Travel) (start : Point) (b : Block) : Type 
 -- question 10, and the others
 pub room_asked : (q0 : ℕ) (t : Travel) (room : Bool) (start : Point) (b : Block) → load_no q0 t room start b ≡ 0
     → (room ≡ true) × (load_no q0 t true start b ≡ 0)
-unfolding load_no
+unfolding ask_load
 room_asked q0 t true start b e = (refl, e)
 room_asked q0 t false start b e = absurd (omega arith)
 
@@ -47,11 +49,11 @@ module _ (q0 : ℕ) (t : Travel) (wide : Wide t) where
   path_right : (start : Point) (b : Block) → Bounded t start → Bounded t b.end → (p : Path) → path_no t start b p ≡ 0
       → PathRight t start b p
   unfolding arc_of
-  path_right start b here there Path.Line e = record { end_inside = there; apart = differ_apart start b.end (answered 12 e).0 }
+  path_right start b here there Path.Line e = record { end_inside = there; apart = differ_apart start b.end (answered Question.Moves _ e).0 }
   path_right start b here there (Path.Arc turn centre) e =
-      let offset = answered 13 e in
-      let end = answered 14 offset.1 in
-      let visits = answered 15 end.1 in
+      let offset = answered Question.Centre _ e in
+      let end = answered Question.EndOnCircle _ offset.1 in
+      let visits = answered Question.VisitsInTravel _ end.1 in
       record {
         offset = offset.0;
         at = record {

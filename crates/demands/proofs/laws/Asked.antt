@@ -1,7 +1,10 @@
 -- Questions put one after the other give the number of the first no, or none.
-use Rattle.std.specs.Prelude.{◌≡◌, refl, Bool, true, false, ◌↔◌, ℕ, zero, suc}
+use Rattle.std.specs.Prelude.{◌≡◌, refl, Bool, true, false, ◌↔◌, ℕ, zero, suc, Result, ⊤}
 use Rattle.std.proofs.Common.{sym, ap, subst, ◌∙◌, inl, inr, arith}
 use Rattle.std.proofs.lemmas.Bool.{false≢true}
+use Rattle.question.specs.laws.Number.{number_some}
+use Rattle.question.specs.Question.{ask as ask_question, number_of as question_number, number_told}
+use Rattle.question.specs.declared.Question.{Question}
 use Rattle.whole.specs.Ask.{ask}
 use Rattle.book.specs.Book.{Reply}
 use Rattle.demands.specs.Asked.{Questions, none, question, and_then, FirstNo, AllYes, AsAsked}
@@ -23,6 +26,17 @@ pub asked : {holds : Type 0} {qs : Questions} {next : ℕ} (test : Bool) (number
     → Verdict (question (suc number) holds qs) (ask test next (suc number))
 asked {holds} {qs} {next} true number is later = let y = is.0 refl in record { told = onward holds qs (suc number) next y (later y).told }
 asked false number is later = record { told = inl (refl, λ y. false≢true (is.1 y)) }
+
+-- the same of a question that a refusal names
+pub questioned : {holds : Type 0} {qs : Questions} (test : Bool) (q : Question) (next : Result ⊤ Question) → (test ≡ true) ↔ holds
+    → (holds → Verdict qs (number_told next)) → Verdict (question (question_number q) holds qs) (number_told (ask_question test next q))
+questioned {holds} {qs} true q next is later = let y = is.0 refl in record { told = onward holds qs (question_number q) (number_told next) y (later y).told }
+questioned {holds} {qs} false q next is later =
+    record { told = by (question_number q) (number_some q) }
+  where
+    by : (n : ℕ) → (n ≡ 0 → ⊥) → Tells (question n holds qs) n
+    by zero some = absurd (some refl)
+    by (suc n) some = inl (refl, λ y. false≢true (is.1 y))
 
 pub none_asked : Verdict none 0
 none_asked = record { told = tt }

@@ -1,6 +1,7 @@
 -- A bench is sound by the code's test exactly where it is by the paper's list; the test of short increments refuses nothing else.
 use Rattle.std.specs.Prelude.{◌≡◌, refl, true, ◌↔◌, ◌≢◌, ℕ, ◌≤◌}
 use Rattle.std.proofs.Common.{arith, leb-true, le-leb}
+use Rattle.question.specs.declared.Question.{Question}
 use Rattle.whole.specs.laws.Order.{from_≤ℤ, to_≤ℤ, abs_sub}
 use Rattle.whole.specs.laws.Test.{both, joined}
 use Rattle.plane.specs.declared.point.Point.{Point}
@@ -24,7 +25,7 @@ use Rattle.work.specs.declared.Work.{Work}
 use Rattle.work.specs.computed.Work.{work_sound}
 use Rattle.work.specs.laws.Sound.{line_work, line_sound_lem, arc_work, arc_sound_lem}
 use Rattle.settings.specs.declared.Settings.{Settings}
-use Rattle.settings.specs.computed.Settings.{in_range, axis_right, travel_right, settings_no}
+use Rattle.settings.specs.computed.Settings.{in_range, axis_right, travel_right, settings_no, ask_settings}
 use Rattle.settings.specs.Settings.{capacity_of}
 use Rattle.settings.specs.laws.Right.{settings_right}
 use Rattle.bench.specs.declared.Bench.{Bench}
@@ -33,7 +34,7 @@ use Rattle.bench.specs.laws.Sound.{sound, sound_test}
 use Rattle.demands.specs.Asked.{AllYes}
 use Rattle.demands.specs.Bench.{AxisRight, TravelRight, settings_questions, InTravel, VisitsInTravel}
 use Rattle.demands.specs.Bench.{LineSound, ArcSound, WorkSound, BenchSound}
-use Rattle.demands.proofs.laws.Asked.{Verdict, asked, none_asked, passed}
+use Rattle.demands.proofs.laws.Asked.{Verdict, questioned, none_asked, passed}
 
 -- ---- settings
 
@@ -66,11 +67,11 @@ travel_right_lem s = (
 )
 
 pub settings_verdict : (s : Settings) → Verdict (settings_questions s) (settings_no s)
-unfolding settings_no
+unfolding ask_settings
 settings_verdict s =
-    asked (in_range 1 1000 s.scale) 0 (in_range_lem 1 1000 s.scale) (λ _.
-    asked (in_range 1000 20000 s.clock) 1 (in_range_lem 1000 20000 s.clock) (λ _.
-    asked (travel_right s.travel) 2 (travel_right_lem s) (λ _. none_asked)))
+    questioned (in_range 1 1000 s.scale) Question.Scale _ (in_range_lem 1 1000 s.scale) (λ _.
+    questioned (in_range 1000 20000 s.clock) Question.Clock _ (in_range_lem 1000 20000 s.clock) (λ _.
+    questioned (travel_right s.travel) Question.Travel _ (travel_right_lem s) (λ _. none_asked)))
 
 pub settings_pass : (s : Settings) → (settings_no s ≡ 0) ↔ AllYes (settings_questions s)
 settings_pass s = passed (settings_verdict s)

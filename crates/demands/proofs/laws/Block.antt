@@ -1,6 +1,7 @@
 -- Load's questions of a path, 13 to 16: the number by the code's tests is that of the first no.
 use Rattle.std.specs.Prelude.{◌≡◌, refl, Bool, true, not, ◌&&◌, ◌↔◌, ℕ, zero, suc, eqb, nat_abs}
 use Rattle.std.proofs.Common.{ap, arith, le-leb, ne_eqb}
+use Rattle.question.specs.declared.Question.{Question}
 use Rattle.whole.specs.laws.Test.{joined}
 use Rattle.plane.specs.declared.point.Point.{Point}
 use Rattle.plane.specs.Travel.{visits_inside}
@@ -13,14 +14,15 @@ use Rattle.arc.specs.computed.Arc.{arc_after, arc_cycles}
 use Rattle.block.specs.declared.Block.{Block}
 use Rattle.block.specs.declared.Path.{Path}
 use Rattle.block.specs.Block.{square_of, arc_of}
-use Rattle.block.specs.Questions.{offset_right, path_no}
+use Rattle.block.specs.Questions.{offset_right}
+use Rattle.block.specs.computed.Questions.{path_no}
 use Rattle.block.proofs.laws.Begin.{offset_right_lem, square_some, square_most, start_on}
 use Rattle.work.specs.declared.Work.{Work}
 use Rattle.work.specs.Work.{is_nothing}
 use Rattle.settings.specs.declared.Settings.{Settings}
 use Rattle.work.specs.laws.Left.{nothing_is}
 use Rattle.demands.specs.Block.{CentreRight, EndOnCircle, path_questions}
-use Rattle.demands.proofs.laws.Asked.{Verdict, asked, none_asked}
+use Rattle.demands.proofs.laws.Asked.{Verdict, questioned, none_asked}
 use Rattle.demands.proofs.laws.Bench.{line_differs, visits_is}
 
 pub nothing_iff : (w : Work) → (is_nothing w ≡ true) ↔ (w ≡ Work.Nothing)
@@ -49,11 +51,11 @@ module _ (s : Settings) (start : Point) (b : Block) where
 
   pub path_verdict : (p : Path) → Verdict (path_questions s start b p) (path_no s.travel start b p)
   unfolding arc_of
-  path_verdict Path.Line = asked (differ start b.end) 12 (line_differs start b.end) (λ _. none_asked)
+  path_verdict Path.Line = questioned (differ start b.end) Question.Moves _ (line_differs start b.end) (λ _. none_asked)
   path_verdict (Path.Arc turn centre) =
       let a = arc_of start b turn centre in
-      asked (offset_right centre) 13 (centre_is centre) (λ right.
-      asked (on_circle (square_of centre) (seen_from (back_from start centre) b.end)) 14 (end_is centre right) (λ there.
+      questioned (offset_right centre) Question.Centre _ (centre_is centre) (λ right.
+      questioned (on_circle (square_of centre) (seen_from (back_from start centre) b.end)) Question.EndOnCircle _ (end_is centre right) (λ there.
       let here = (on_circle_to _ _ (start_on start centre (offset_right_lem centre ((centre_is centre).1 right)))).circle in
-      asked (visits_inside s.travel (arc_after a start) (arc_cycles a start)) 15 (visits_is s.travel a start here there)
+      questioned (visits_inside s.travel (arc_after a start) (arc_cycles a start)) Question.VisitsInTravel _ (visits_is s.travel a start here there)
       (λ _. none_asked)))

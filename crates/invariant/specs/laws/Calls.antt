@@ -9,8 +9,9 @@ use Rattle.plane.specs.declared.point.Point.{Point}
 use Rattle.plane.specs.declared.travel.Travel.{Travel}
 use Rattle.plane.specs.laws.Travel.{inside, inside_test_lem}
 use Rattle.block.specs.declared.Block.{Block}
-use Rattle.block.specs.Questions.{feed_right, load_no}
-use Rattle.whole.specs.laws.Ask.{answered}
+use Rattle.block.specs.Questions.{feed_right, load_no, ask_load}
+use Rattle.question.specs.declared.Question.{Question}
+use Rattle.question.specs.laws.Ask.{answered}
 use Rattle.work.specs.declared.Work.{Work}
 use Rattle.work.specs.Work.{is_nothing, begun_of}
 use Rattle.work.specs.computed.Work.{work_sound, advance_of}
@@ -55,13 +56,13 @@ module _ (m : Bench) (e : sound_of m ≡ true) where
   stopped_sound = moved (record { inside = inside parts.in_travel; below = omega (arith, right.clock_some); sound = refl })
 
   pub load_keeps : (b : Block) → sound_of (load_of m b).bench ≡ true
-  unfolding load_of load_no begun_of
+  unfolding load_of ask_load begun_of
   load_keeps b = rw e (by (load_no q0 t (is_nothing m.work) m.at b) refl)
     where
       loaded : load_no q0 t (is_nothing m.work) m.at b ≡ 0 → work_sound q0 t m.at (begun_of m.at b).work ≡ true
       loaded none =
-          let feed = answered {yes = feed_right q0 b.feed} 10 (answered {yes = is_nothing m.work} 9 none).1 in
-          let end = answered 11 feed.1 in
+          let feed = answered {yes = feed_right q0 b.feed} Question.Feed _ (answered {yes = is_nothing m.work} Question.Room _ none).1 in
+          let end = answered Question.EndInTravel _ feed.1 in
           let f = both feed.0 in
           begun_sound m.at b right.wide parts.in_travel
           (record { some = leb-true 1 b.feed f.0; most = leb-true b.feed q0 f.1 }) end.0 b.path

@@ -14,8 +14,10 @@ use Rattle.line.specs.laws.Points.{point_start}
 use Rattle.block.specs.declared.Block.{Block}
 use Rattle.block.specs.declared.Path.{Path}
 use Rattle.block.specs.Block.{arc_of}
-use Rattle.block.specs.Questions.{offset_right, path_no}
-use Rattle.whole.specs.laws.Ask.{answered}
+use Rattle.block.specs.Questions.{offset_right}
+use Rattle.block.specs.computed.Questions.{path_no}
+use Rattle.question.specs.declared.Question.{Question}
+use Rattle.question.specs.laws.Ask.{answered}
 use Rattle.block.proofs.laws.Begin.{begins}
 use Rattle.work.specs.computed.Work.{work_sound}
 use Rattle.work.specs.Work.{work_along}
@@ -29,7 +31,7 @@ module _ {t : Travel} {q0 : ℕ} (start : Point) (b : Block) (wide : Wide t) (he
   unfolding work_sound arc_of
   begun_sound Path.Line short asked =
       let s = both short in
-      let some = cycles_some start b.end (differ_apart start b.end (answered {next = 0} 12 asked).0) in
+      let some = cycles_some start b.end (differ_apart start b.end (answered Question.Moves _ asked).0) in
       line_sound_lem (record {
         start = inside here;
         end = inside end;
@@ -40,8 +42,8 @@ module _ {t : Travel} {q0 : ℕ} (start : Point) (b : Block) (wide : Wide t) (he
         };
       })
   begun_sound (Path.Arc turn centre) right asked =
-      let offset = answered {yes = offset_right centre} 13 asked in
-      let ends = answered 14 offset.1 in
+      let offset = answered {yes = offset_right centre} Question.Centre _ asked in
+      let ends = answered Question.EndOnCircle _ offset.1 in
       let g = begins start b turn centre wide here end right.1 in
       arc_sound_lem (record {
         feed = feed;
@@ -50,6 +52,6 @@ module _ {t : Travel} {q0 : ℕ} (start : Point) (b : Block) (wide : Wide t) (he
           on = g.on;
           end_on = ends.0;
           stays =
-              (answered {next = 0} 15 ends.1).0;
+              (answered Question.VisitsInTravel _ ends.1).0;
         };
       })

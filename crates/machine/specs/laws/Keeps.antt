@@ -8,9 +8,10 @@ use Rattle.std.proofs.Math.Dec.{ltb}
 use Rattle.plane.specs.declared.point.Point.{Point}
 use Rattle.plane.specs.declared.travel.Travel.{Travel}
 use Rattle.block.specs.declared.Block.{Block}
-use Rattle.block.specs.Questions.{load_no}
+use Rattle.block.specs.Questions.{load_no, ask_load}
 use Rattle.block.specs.Chain.{chain_end}
-use Rattle.whole.specs.laws.Ask.{answered}
+use Rattle.question.specs.declared.Question.{Question}
+use Rattle.question.specs.laws.Ask.{answered}
 use Rattle.queue.specs.declared.Queue.{Queue}
 use Rattle.queue.specs.Queue.{empty_queue, first_of, popped_of}
 use Rattle.queue.specs.laws.Sound.{QueueSound, queue_sound_lem, empty_sound, none_sound, push_sound, first_sound}
@@ -130,7 +131,7 @@ module _ (m : Machine) (e : sound_of m ≡ true) where
     -- in work where nothing is, else behind the others
     taken_sound : load_no q0 t (ltb m.queue.len 16) start b ≡ 0 → (idle : Bool) → is_nothing m.bench.work ≡ idle
         → sound_of (takes m b idle (begun_of start b)) ≡ true
-    unfolding load_no chain_end
+    unfolding ask_load chain_end
     taken_sound asked true idle =
         let none = none_waits m.queue (parts.right.none idle) in
         let here : start ≡ m.bench.at = rw (none, nothing_is m.bench.work idle) refl in
@@ -138,7 +139,7 @@ module _ (m : Machine) (e : sound_of m ≡ true) where
         (begun_sound m.bench b parts.bench idle (rw (here, parts.right.none idle) at asked) m.queue
         (none_sound q0 t b.end m.queue parts.right.queue.sixteen (parts.right.none idle)))
     taken_sound asked false busy =
-        let room = (answered {yes = ltb m.queue.len 16} 9 asked).0 in
+        let room = (answered {yes = ltb m.queue.len 16} Question.Room _ asked).0 in
         record_sound m.bench _ parts.bench (λ idle. absurd (true≢false (sym idle ∙ busy)))
         (push_sound q0 t (end_of m.bench.at m.bench.work) m.queue b parts.right.queue (ltb-true _ 16 room) (rw room at asked))
 

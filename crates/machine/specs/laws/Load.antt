@@ -10,10 +10,11 @@ use Rattle.plane.specs.declared.travel.Travel.{Travel}
 use Rattle.plane.specs.Travel.{inside_of}
 use Rattle.block.specs.declared.Block.{Block}
 use Rattle.block.specs.Block.{block_cycles}
-use Rattle.block.specs.Questions.{load_no}
+use Rattle.block.specs.Questions.{ask_load}
 use Rattle.block.specs.Chain.{chain_end, chain_cycles, root_of}
 use Rattle.block.specs.computed.Chain.{Accepted}
-use Rattle.whole.specs.laws.Ask.{answered}
+use Rattle.question.specs.declared.Question.{Question}
+use Rattle.question.specs.laws.Ask.{answered}
 use Rattle.block.proofs.laws.Chain.{cycles_more, chain_end_inside, chain_cycles_most}
 use Rattle.block.proofs.laws.Accepted.{cycles_range}
 use Rattle.queue.specs.Queue.{waiting, pushed_of, waiting_at}
@@ -79,8 +80,8 @@ module _ {m : Machine} {start : Point} {b : Block} (g : Taking m start b) where
   i' = sound m g.sound
 
   room : ltb m.queue.len 16 ≡ true
-  unfolding load_no
-  room = (answered {yes = ltb m.queue.len 16} 9 g.asked).0
+  unfolding ask_load
+  room = (answered {yes = ltb m.queue.len 16} Question.Room _ g.asked).0
 
   pub room_left : m.queue.len < 16
   room_left = ltb-true _ 16 room

@@ -6,9 +6,10 @@ use Rattle.plane.specs.declared.travel.Range.{Range}
 use Rattle.plane.specs.Travel.{within_of}
 use Rattle.plane.specs.computed.Travel.{Wide}
 use Rattle.plane.specs.laws.Travel.{InRange, Bounded, within, axis_near}
-use Rattle.whole.specs.laws.Ask.{answered}
+use Rattle.question.specs.declared.Question.{Question}
+use Rattle.question.specs.laws.Ask.{answered}
 use Rattle.settings.specs.declared.Settings.{Settings}
-use Rattle.settings.specs.computed.Settings.{in_range, axis_right, travel_right, settings_no}
+use Rattle.settings.specs.computed.Settings.{in_range, axis_right, travel_right, settings_no, ask_settings}
 use Rattle.settings.specs.Settings.{standard_settings}
 
 pub record Right (s : Settings) : Type 0 where
@@ -36,12 +37,12 @@ axis_right_lem {r} e =
     }
 
 pub settings_right : (s : Settings) → settings_no s ≡ 0 → Right s
-unfolding settings_no travel_right
+unfolding ask_settings travel_right
 settings_right s e =
-    let scale = answered {yes = in_range 1 1000 s.scale} 0 e in
-    let clock = answered 1 scale.1 in
+    let scale = answered {yes = in_range 1 1000 s.scale} Question.Scale _ e in
+    let clock = answered Question.Clock _ scale.1 in
     let range = both clock.0 in
-    let travel = both (answered {next = 0} 2 clock.1).0 in
+    let travel = both (answered Question.Travel _ clock.1).0 in
     let x = axis_right_lem travel.0 in
     let y = axis_right_lem travel.1 in
     record {
@@ -54,5 +55,5 @@ settings_right s e =
 
 -- the settings of a refused make pass
 pub standard_passes : settings_no standard_settings ≡ 0
-unfolding settings_no travel_right axis_right standard_settings within_of
+unfolding ask_settings travel_right axis_right standard_settings within_of
 standard_passes = refl

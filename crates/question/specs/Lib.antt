@@ -1,0 +1,3 @@
+-- To be believed: Question. Proved: laws.
+pub mod Question
+pub mod laws
