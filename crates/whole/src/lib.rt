@@ -2,7 +2,6 @@
 // Every function answers for every argument, but `sign::join`, whose callers show that the number is one of i64.
 #![tactic(auto)]
 
-pub mod equal;
 pub mod root;
 pub mod sign;
 pub mod width;
