@@ -6,6 +6,7 @@ ghost use Rattle.std.specs.Io.{StartsWith};
 ghost use Rattle.arrayvec.specs.ArrayVec.{array_vec_len};
 ghost use Rattle.std.specs.IoError.{error_kind};
 ghost use Rattle.std.specs.Process.{exit_status};
+ghost use Rattle.input.specs.computed.Ended.{EndsWith};
 
 use arrayvec::ArrayVec;
 use std::io::{Error, ErrorKind, Stderr, Write};
@@ -61,6 +62,24 @@ pub fn unwritten(to: &mut Stderr, what: &[u8], error: Error) -> ExitCode
         return ExitCode::from(ENDED_BY_PIPE);
     }
     fail(to, what, error)
+}
+
+// Where a program with a text to read and an answer to write stopped.
+#[derive(Drop)]
+pub enum Stopped {
+    Reading(Error),
+    Writing(Error),
+}
+
+// The status that such a program ends with; where it stopped, the text says of what.
+pub fn ended(to: &mut Stderr, came: Result<(), Stopped>, reading: &[u8], writing: &[u8]) -> ExitCode
+    ensures { EndsWith came (exit_status result) }
+{
+    match came {
+        Ok(()) => ExitCode::SUCCESS,
+        Err(Stopped::Reading(error)) => fail(to, reading, error),
+        Err(Stopped::Writing(error)) => unwritten(to, writing, error),
+    }
 }
 
 // The same of what it will not do.

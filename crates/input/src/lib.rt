@@ -11,7 +11,7 @@ use std::io::{ErrorKind, Read};
 
 mod failure;
 
-pub use failure::{ENDED_BY_PIPE, fail, refuse, unwritten};
+pub use failure::{ENDED_BY_PIPE, Stopped, ended, fail, refuse, unwritten};
 
 // A read that was interrupted is tried again, this often. The programs handle no signal, so none is expected; the bound is there because a
 // proved loop has to end.

@@ -5,7 +5,7 @@ ghost use Rattle.settings.specs.Settings.{standard_settings};
 ghost use Rattle.job.specs.computed.Check.{Lists};
 
 use bench::Bench;
-use input::{fail, unwritten};
+use input::{Stopped, ended};
 use job::Check;
 use reader::LONGEST_TEXT;
 use settings::standard;
@@ -38,15 +38,14 @@ fn write_listing(to: &mut Stdout, text: &[u8]) -> io::Result<()> {
 fn main(rt: HostRuntime) -> ExitCode {
     // One byte more than a text may have, so that a longer one is seen to be longer.
     let mut text = [0u8; LONGEST_TEXT + 1];
-    match input::read(&mut rt.stdin(), &mut text) {
-        Ok(len) => match write_listing(&mut rt.stdout(), &text[..len]) {
-            Ok(()) => ExitCode::SUCCESS,
-            Err(error) => unwritten(
-                &mut rt.stderr(),
-                b"jobcheck: cannot write the listing",
-                error,
-            ),
-        },
-        Err(error) => fail(&mut rt.stderr(), b"jobcheck: cannot read the job", error),
-    }
+    let came = match input::read(&mut rt.stdin(), &mut text) {
+        Ok(len) => write_listing(&mut rt.stdout(), &text[..len]).map_err(Stopped::Writing),
+        Err(error) => Err(Stopped::Reading(error)),
+    };
+    ended(
+        &mut rt.stderr(),
+        came,
+        b"jobcheck: cannot read the job",
+        b"jobcheck: cannot write the listing",
+    )
 }

@@ -5,7 +5,7 @@ ghost use Rattle.settings.specs.Settings.{standard_settings};
 ghost use Rattle.stream.specs.computed.Stream.{Tells};
 
 use bench::Bench;
-use input::{fail, unwritten};
+use input::{Stopped, ended};
 use reader::LONGEST_TEXT;
 use settings::standard;
 use std::io;
@@ -37,15 +37,14 @@ fn write_ticks(to: &mut Stdout, text: &[u8]) -> io::Result<()> {
 fn main(rt: HostRuntime) -> ExitCode {
     // One byte more than a text may have, so that a longer one is seen to be longer.
     let mut text = [0u8; LONGEST_TEXT + 1];
-    match input::read(&mut rt.stdin(), &mut text) {
-        Ok(len) => match write_ticks(&mut rt.stdout(), &text[..len]) {
-            Ok(()) => ExitCode::SUCCESS,
-            Err(error) => unwritten(
-                &mut rt.stderr(),
-                b"jobticks: cannot write the tick bytes",
-                error,
-            ),
-        },
-        Err(error) => fail(&mut rt.stderr(), b"jobticks: cannot read the job", error),
-    }
+    let came = match input::read(&mut rt.stdin(), &mut text) {
+        Ok(len) => write_ticks(&mut rt.stdout(), &text[..len]).map_err(Stopped::Writing),
+        Err(error) => Err(Stopped::Reading(error)),
+    };
+    ended(
+        &mut rt.stderr(),
+        came,
+        b"jobticks: cannot read the job",
+        b"jobticks: cannot write the tick bytes",
+    )
 }

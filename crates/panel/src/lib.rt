@@ -117,7 +117,8 @@ impl PanelCheck {
         self.stage.is_over()
     }
 
-    // The row of a line that has come to its end.
+    // The row of a line that has come to its end. Here and below the room stays a clause: `HandsAny` speaks of the lent buffer before and
+    // after, which a type that held its loan with the fact could not give back in a PieceRead.
     fn row(self, line: &[u8], took: usize, out: &mut [u8]) -> PieceRead
         requires { has_room out.old 0 ≡ true }
         ensures { HandsAny (line_handed self.tally self.left took line.now) out.old result out.new }

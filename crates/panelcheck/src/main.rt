@@ -97,6 +97,7 @@ fn list(from_in: &mut Stdin, to: &mut Stdout) -> Result<(), Failed> {
     let mut piece = [0u8; PIECE];
     let mut rows = [0u8; ROWS];
     let mut check = start();
+    // What is left of the piece is from .. len: a slice of it would be a loan over the next read into it.
     let mut from = 0;
     let mut len = 0;
     let mut last = false;

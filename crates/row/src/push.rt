@@ -1,5 +1,7 @@
 // Bytes, texts and numbers put into a buffer from a place on. Each answers the next place; each caller shows that there is room.
-ghost use Rattle.std.specs.Prelude.{◌≡◌, ◌++◌, ◌∷◌, [], ◌+◌, ◌≤◌, ◌<◌, length};
+// Not by Display: its clauses say the bytes on Ok alone, and `buffer` of `lines::block` knows no other case; rows are timed beside C's.
+// The place is no field of a writer: `Puts` speaks of the buffer before and after each piece, and a loan held by a writer ends but once.
+ghost use Rattle.std.specs.Prelude.{◌≡◌, ◌++◌, ◌∷◌, [], ◌+◌, ◌^◌, ◌≤◌, ◌<◌, length};
 ghost use Rattle.row.specs.Decimal.{decimal, signed_decimal};
 ghost use Rattle.row.specs.computed.Long.{long_of, last_digits};
 ghost use Rattle.row.specs.computed.Puts.{Puts};
@@ -49,17 +51,18 @@ fn width(n: u64) -> usize
     w
 }
 
-// The last `count` digits of n, zeros too.
+// The digits of n, which has no more than `count`, and zeros before them. The first one takes no division.
 fn last_digits(out: &mut [u8], at: usize, count: usize, n: u64) -> usize
-    requires { at + count ≤ length out.old }
+    requires { (at + count ≤ length out.old) × (0 < count) × (n < 10 ^ count) }
     ensures { Puts (last_digits count n) count out.old at out.new result }
 {
     let end = at + count;
     let mut rest = n;
-    for i in (at..end).rev() {
+    for i in (at + 1..end).rev() {
         out[i] = b'0' + (rest % 10) as u8;
         rest /= 10;
     }
+    out[at] = b'0' + rest as u8;
     end
 }
 

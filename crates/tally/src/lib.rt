@@ -44,7 +44,8 @@ pub struct Tally {
 pub struct Listed {
     pub next: usize,
     pub over: bool,
-    // Bytes of the line, without its LF; 0 where the listing is over or there was no room.
+    // Bytes of the line, without its LF; 0 where the listing is over or there was no room. No Option beside `over`: without room nothing is
+    // read and nothing is over, which `bytes_value` of `read` tells apart.
     pub bytes: usize,
     pub tally: Tally,
 }

@@ -101,6 +101,20 @@ all_digits = by_digits (λ n. last_digits (length (decimal n)) n ≡ decimal n) 
         let more : length (decimal n) ≡ suc (length (decimal (n / 10))) = omega (arith, length_large n h) in
         rw more (ap (λ (s : List ℕ). s ++ (digit (n % 10) ∷ [])) rest ∙ sym (decimal_large n h))
 
+pub below_digits : (n : ℕ) → n < 10 ^ length (decimal n)
+below_digits = by_digits (λ n. n < 10 ^ length (decimal n)) small large
+  where
+    small : (n : ℕ) → n < 10 → n < 10 ^ length (decimal n)
+    small n h = rw (length_small n h) (omega arith)
+
+    large : (n : ℕ) → 10 ≤ n → n / 10 < 10 ^ length (decimal (n / 10)) → n < 10 ^ length (decimal n)
+    large n h rest =
+        let more : length (decimal n) ≡ suc (length (decimal (n / 10))) = omega (arith, length_large n h) in
+        rw (more, pow-suc 10 (length (decimal (n / 10)))) (omega (arith, rest))
+
+pub tenth_below : (k m : ℕ) → m < 10 ^ suc k → m / 10 < 10 ^ k
+tenth_below k m h = let below : m < 10 ^ k * 10 = rw (pow-suc 10 k) at h in omega arith
+
 -- ---- high digits before low ones
 
 some_power : (k : ℕ) → 0 < 10 ^ k

@@ -15,7 +15,7 @@ last_digits-last-requires c =
     let low : c.args.n.low < 2 ^ 64 = search rules in
     let high : c.args.n.high < 2 ^ 32 = search rules in
     let p = c.digits-first.ensures in
-    omega (arith, p.place, p.len, high_digits c.args.n.low c.args.n.high low high)
+    (omega (arith, p.place, p.len, high_digits c.args.n.low c.args.n.high low high), omega arith, omega arith)
 
 pub byte-requires : goal.byte-requires
 byte-requires c =
