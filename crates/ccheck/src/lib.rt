@@ -57,11 +57,9 @@ pub fn vz_check_fill(
     }
     let m = bench_read(bench);
     let given = *progress;
-    let p = decode_progress(m, given);
-    let check = p.check;
-    if !p.ok {
+    let Some(check) = decode_progress(m, given) else {
         return -9;
-    }
+    };
     let f = check.fill(text, out);
     let next = f.check;
     let tally = next.tally;

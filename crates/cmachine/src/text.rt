@@ -99,12 +99,9 @@ pub fn vz_read_line(words: &mut [i64; 134], known: &mut [i64; 2], line: &[u8]) -
     if !is_sound(words) {
         return -9;
     }
-    let given = *known;
-    let d = decode_known(given);
-    if !d.ok {
+    let Some(before) = decode_known(known) else {
         return -9;
-    }
-    let before = d.reader;
+    };
     let k = bench_in(words);
     let settings = k.settings;
     let start = start_in(words, k);

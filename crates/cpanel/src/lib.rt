@@ -72,11 +72,9 @@ pub fn vz_panel_read(
     }
     let m = bench_read(bench);
     let given = *panel;
-    let p = decode_panel(m, given);
-    let check = p.check;
-    if !p.ok {
+    let Some(check) = decode_panel(m, given) else {
         return -9;
-    }
+    };
     let f = check.read(scratch, piece, is_last(last), rows);
     let told = f.told;
     let next = f.check;

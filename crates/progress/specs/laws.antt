@@ -1,3 +1,4 @@
+pub mod Told
 pub mod Number
 pub mod Long
 pub mod Right

@@ -1,7 +1,7 @@
 // The G and F known as 2 words, and back. `specs/Known.antt` says which word is what.
 ghost use Rattle.std.specs.Prelude.{◌≡◌};
 ghost use Rattle.progress.specs.Known.{motion_word, feed_word, known_of, encode_known, feed_read, reader_of};
-ghost use Rattle.progress.specs.computed.Known.{decode_known};
+ghost use Rattle.progress.specs.computed.Known.{reader_told};
 ghost use Rattle.progress.specs.computed.Right.{known_right};
 
 use encoding::encode::turn_word;
@@ -51,13 +51,6 @@ pub fn encode_known(k: Reader) -> [i64; 2]
     [known.motion, known.feed]
 }
 
-// The reader counts only where the words are one's.
-#[derive(Drop)]
-pub struct DecodedKnown {
-    pub ok: bool,
-    pub reader: Reader,
-}
-
 // As a text can write it: seven digits and three decimals.
 fn feed_of(word: i64) -> Option<Feed>
     ensures { result ≡ feed_read word }
@@ -92,16 +85,16 @@ pub fn known_right(k: Known) -> bool
     within(motions, k.motion) && within(feeds, k.feed)
 }
 
-pub fn decode_known(words: [i64; 2]) -> DecodedKnown
-    ensures { result ≡ decode_known words }
+// What is known, where the words tell it.
+pub fn decode_known(words: &[i64; 2]) -> Option<Reader>
+    ensures { result ≡ reader_told words.now }
 {
     let known = Known {
         motion: words[0],
         feed: words[1],
     };
-    let reader = reader_of(known);
-    DecodedKnown {
-        ok: known_right(known),
-        reader: reader,
+    if !known_right(known) {
+        return None;
     }
+    Some(reader_of(known))
 }

@@ -1,8 +1,9 @@
-// A check's progress as 9 words, and back. `specs/Progress.antt` says which word is what.
+// A check's progress as 9 words, and back. `specs/Progress.antt` says which word is what. The stage stays a number in `Progress`: these are
+// the words of the C interface, which may hold any.
 ghost use Rattle.std.specs.Prelude.{◌≡◌};
 ghost use Rattle.progress.specs.Progress.{stage_word, progress_of, progress_words, encode_progress, stage_of, tally_of, check_of};
 ghost use Rattle.progress.specs.Progress.{progress_in};
-ghost use Rattle.progress.specs.computed.Progress.{decode_progress};
+ghost use Rattle.progress.specs.computed.Progress.{check_told};
 ghost use Rattle.progress.specs.computed.Right.{count_words_right, progress_right};
 
 use crate::known::{Known, known_of, known_right, reader_of};
@@ -77,13 +78,6 @@ pub fn encode_progress(c: Check) -> [i64; 9]
     ensures { result ≡ encode_progress c }
 {
     in_order(progress_of(c))
-}
-
-// The check counts only where the words are one's.
-#[derive(Drop)]
-pub struct DecodedProgress {
-    pub ok: bool,
-    pub check: Check,
 }
 
 fn stage_of(n: u64) -> Stage
@@ -181,13 +175,13 @@ fn progress_right(p: Progress) -> bool
     counts_right(p)
 }
 
-pub fn decode_progress(m: Bench, words: [i64; 9]) -> DecodedProgress
-    ensures { result ≡ decode_progress m words }
+// The check at this bench, where the words are one's progress.
+pub fn decode_progress(m: Bench, words: [i64; 9]) -> Option<Check>
+    ensures { result ≡ check_told m words }
 {
     let p = progress_in(words);
-    let check = check_of(m, p);
-    DecodedProgress {
-        ok: progress_right(p),
-        check: check,
+    if !progress_right(p) {
+        return None;
     }
+    Some(check_of(m, p))
 }

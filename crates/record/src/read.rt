@@ -21,7 +21,8 @@ pub struct Figures {
     pub len: i64,
 }
 
-// The seven words of a block that waits: its kind, its end, its feed number, its centre seen from its start, its root.
+// The seven words of a block that waits: its kind, its end, its feed number, its centre seen from its start, its root. The kind stays a
+// number: these are the words of the C interface, which may hold any.
 #[derive(Clone, Copy)]
 pub struct BlockWords {
     pub kind: i64,

@@ -1,4 +1,5 @@
-// What a call writes: the words that it changes, and no other.
+// What a call writes: the words that it changes, and no other. That the words are sound stands in the contracts and in no type: they lie in
+// the array of the caller in C, and are changed in place.
 ghost use Rattle.std.specs.Prelude.{◌≡◌, true, ◌≤◌, ◌<◌, set};
 ghost use Rattle.work.specs.declared.Work.{Work};
 ghost use Rattle.machine.specs.Calls.{mark_of, next_of};

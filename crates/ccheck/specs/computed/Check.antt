@@ -7,7 +7,7 @@ use Rattle.job.specs.computed.Check.{check_from, Fills}
 use Rattle.job.specs.Check.{is_over}
 use Rattle.encoding.specs.Words.{mark_word, encode_of}
 use Rattle.encoding.specs.computed.Words.{bench_read, sound_words}
-use Rattle.progress.specs.declared.progress.DecodedProgress.{DecodedProgress}
+use Rattle.progress.specs.computed.Progress.{DecodedProgress}
 use Rattle.progress.specs.Progress.{encode_progress}
 use Rattle.progress.specs.computed.Progress.{decode_progress}
 use Rattle.ccheck.specs.Check.{Refuses}

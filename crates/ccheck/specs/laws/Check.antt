@@ -1,9 +1,11 @@
 -- A fill by whether the words are a check.
-use Rattle.std.specs.Prelude.{◌≡◌, refl, true, List, ℕ, ℤ, negsuc}
+use Rattle.std.specs.Prelude.{◌≡◌, refl, true, Some, None, List, ℕ, ℤ, negsuc}
 use Rattle.std.proofs.Common.{sym, subst, ◌∙◌, true≢false}
 use Rattle.std.proofs.Math.Bool.{false}
-use Rattle.encoding.specs.computed.Words.{sound_words}
-use Rattle.progress.specs.declared.progress.DecodedProgress.{DecodedProgress}
+use Rattle.encoding.specs.computed.Words.{bench_read, sound_words}
+use Rattle.job.specs.declared.Check.{Check}
+use Rattle.progress.specs.computed.Progress.{check_told as progress_told}
+use Rattle.progress.specs.laws.Told.{told_none, told_some}
 use Rattle.ccheck.specs.computed.Check.{check_told, is_check, Hands, TellsFill}
 use Rattle.ccheck.specs.Check.{Refuses}
 
@@ -16,18 +18,19 @@ module _ (ws ps : List ℤ) where
   unfolding is_check
   fill_no_record bad = let no : is_check ws ps ≡ false = rw bad in TellsFill.no_check no refuses
 
-  module _ {p : DecodedProgress} (f : p ≡ check_told ws ps) (ok : sound_words ws ≡ true) where
-    is : is_check ws ps ≡ p.ok
+  module _ (ok : sound_words ws ≡ true) where
+    is : is_check ws ps ≡ (check_told ws ps).ok
     unfolding is_check
-    is = rw (ok, f)
+    is = rw ok refl
 
-    pub fill_no_progress : {text old : List ℕ} → p.ok ≡ false → TellsFill ws ps text old (negsuc 8) 0 ws ps old
-    fill_no_progress bad = TellsFill.no_check (is ∙ bad) refuses
+    pub fill_no_progress : None ≡ progress_told (bench_read ws) ps → {text old : List ℕ} → TellsFill ws ps text old (negsuc 8) 0 ws ps old
+    fill_no_progress none = TellsFill.no_check (is ∙ told_none (check_told ws ps).ok (check_told ws ps).check none) refuses
 
-    pub fill_rows : p.ok ≡ true → {text old : List ℕ} {answer : ℤ} {len : ℕ} {ws' ps' : List ℤ} {new : List ℕ}
-        → Hands p.check text old answer len ws' ps' new → TellsFill ws ps text old answer len ws' ps' new
-    fill_rows progress {text} {old} {answer} {len} {ws'} {ps'} {new} rows =
-        TellsFill.check (is ∙ progress) (subst (λ (g : DecodedProgress). Hands g.check text old answer len ws' ps' new) f rows)
+    pub fill_rows : {c : Check} → Some c ≡ progress_told (bench_read ws) ps → {text old : List ℕ} {answer : ℤ} {len : ℕ}
+        {ws' ps' : List ℤ} {new : List ℕ} → Hands c text old answer len ws' ps' new → TellsFill ws ps text old answer len ws' ps' new
+    fill_rows told {text} {old} {answer} {len} {ws'} {ps'} {new} rows =
+        let t = told_some (check_told ws ps).ok (check_told ws ps).check told in
+        TellsFill.check (is ∙ t.0) (subst (λ (k : Check). Hands k text old answer len ws' ps' new) t.1 rows)
 
 module _ {ws ps : List ℤ} {text old : List ℕ} {answer : ℤ} {len : ℕ} {ws' ps' : List ℤ} {new : List ℕ} where
   pub rows_told : is_check ws ps ≡ true → TellsFill ws ps text old answer len ws' ps' new

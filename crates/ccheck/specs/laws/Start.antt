@@ -12,7 +12,7 @@ use Rattle.job.specs.laws.Listing.{made_rests, listing_is}
 use Rattle.job.specs.laws.Reached.{start_reached as rests_reached}
 use Rattle.encoding.specs.Words.{encode_of}
 use Rattle.encoding.specs.laws.Record.{machine_back, sound_words_lem}
-use Rattle.progress.specs.declared.progress.DecodedProgress.{DecodedProgress}
+use Rattle.progress.specs.computed.Progress.{DecodedProgress}
 use Rattle.progress.specs.Progress.{encode_progress}
 use Rattle.progress.specs.laws.Inverse.{ReachedCheck, reached_fits, progress_decode}
 use Rattle.ccheck.specs.computed.Check.{start_progress, check_told, is_check, Hands, TellsFill}

@@ -1,5 +1,5 @@
 -- A line by whether the words are such, and by what it asks.
-use Rattle.std.specs.Prelude.{◌≡◌, Bool, true, false, cond, List, ℕ, zero, suc, ◌≤◌, ltb, ℤ, negsuc, length}
+use Rattle.std.specs.Prelude.{◌≡◌, Bool, true, false, Some, None, cond, List, ℕ, zero, suc, ◌≤◌, ltb, ℤ, negsuc, length}
 use Rattle.std.proofs.Math.Path.{refl}
 use Rattle.std.proofs.Common.{sym, ap, ◌∙◌, arith}
 use Rattle.plane.specs.declared.point.Point.{Point}
@@ -26,9 +26,9 @@ use Rattle.record.specs.computed.Words.{machine_in, sound_words}
 use Rattle.record.specs.laws.Write.{told_sound}
 use Rattle.calls.specs.computed.Asked.{Asking}
 use Rattle.calls.specs.laws.Load.{own_words, settings_pass}
-use Rattle.progress.specs.declared.known.DecodedKnown.{DecodedKnown}
 use Rattle.progress.specs.Known.{encode_known}
-use Rattle.progress.specs.computed.Known.{decode_known}
+use Rattle.progress.specs.computed.Known.{decode_known, reader_told}
+use Rattle.progress.specs.laws.Told.{told_none, told_some}
 use Rattle.cmachine.specs.declared.text.Heard.{Heard}
 use Rattle.cmachine.specs.Texts.{read_number}
 use Rattle.cmachine.specs.computed.Texts.{heard_of, loads_of, tells_line, told_line_of}
@@ -86,24 +86,27 @@ module _ (ws ks : List ℤ) (line : List ℕ) where
   unfolding told_line_of
   line_no_record bad = rw bad
 
-  module _ {d : DecodedKnown} (f : d ≡ decode_known ks) (t : sound_words ws ≡ true) where
-    pub line_not_known : d.ok ≡ false → tells_line (negsuc 8) ws ks ≡ told_line_of ws ks line
+  module _ (t : sound_words ws ≡ true) where
+    pub line_not_known : None ≡ reader_told ks → tells_line (negsuc 8) ws ks ≡ told_line_of ws ks line
     unfolding told_line_of
-    line_not_known bad = rw (← f, t, bad)
+    line_not_known e = rw (t, told_none (decode_known ks).ok (decode_known ks).reader e)
 
-    module _ {k : Bench} {start : Point} (g : Asking ws k start) where
+    module _ {before : Reader} (e : Some before ≡ reader_told ks) {k : Bench} {start : Point} (g : Asking ws k start) where
+      known : ((decode_known ks).ok ≡ true) × (before ≡ (decode_known ks).reader)
+      known = told_some (decode_known ks).ok (decode_known ks).reader e
+
       -- what the line asks there
       abbrev asks : (scale : ℕ) → Point → Asked
-      asks scale place = asked_of scale d.reader place (length line) (meaning_of line)
+      asks scale place = asked_of scale before place (length line) (meaning_of line)
 
       asks_own : asks k.settings.scale start
           ≡ (let m = machine_in ws in asks m.bench.settings.scale (start_of m.bench m.queue))
       unfolding machine_in
       asks_own = rw (g.start_is, g.bench_is) refl
 
-      pub line_told_lem : d.ok ≡ true → {a : Asked} → a ≡ asks k.settings.scale start → {h : Heard} {after : List ℤ}
-          → h ≡ heard_of (taken_of d.reader (machine_in ws) a)
-          → after ≡ over (encode_of (taken_of d.reader (machine_in ws) a).machine) ws
+      pub line_told_lem : {a : Asked} → a ≡ asks k.settings.scale start → {h : Heard} {after : List ℤ}
+          → h ≡ heard_of (taken_of before (machine_in ws) a)
+          → after ≡ over (encode_of (taken_of before (machine_in ws) a).machine) ws
           → tells_line (read_number h.read) after (encode_known h.reader) ≡ told_line_of ws ks line
       unfolding told_line_of read_line_of
-      line_told_lem known a_is h_is after_is = rw (h_is, after_is, a_is ∙ asks_own, ← f, t, known, told_sound ws t) refl
+      line_told_lem a_is h_is after_is = rw (h_is, after_is, a_is ∙ asks_own, t, known.0, known.1, told_sound ws t) refl

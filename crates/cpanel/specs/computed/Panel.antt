@@ -1,5 +1,5 @@
 -- What the panel's two calls answer in C and the words after them, for any words whatever.
-use Rattle.std.specs.Prelude.{◌≡◌, Bool, true, false, ◌&&◌, List, ℕ, leb, ℤ, negsuc}
+use Rattle.std.specs.Prelude.{◌≡◌, Bool, true, false, Option, Some, None, cond, ◌&&◌, List, ℕ, leb, ℤ, negsuc}
 use Rattle.settings.specs.declared.Settings.{Settings}
 use Rattle.bench.specs.declared.Bench.{Bench}
 use Rattle.bench.specs.computed.Calls.{make_of}
@@ -10,7 +10,6 @@ use Rattle.encoding.specs.computed.Words.{bench_read, same_words, sound_words}
 use Rattle.panel.specs.declared.PanelCheck.{PanelCheck}
 use Rattle.panel.specs.declared.PieceRead.{PieceRead}
 use Rattle.panel.specs.computed.Piece.{scratch_bytes, start_of, ReadsPiece}
-use Rattle.cpanel.specs.declared.decode.DecodedPanel.{DecodedPanel}
 use Rattle.cpanel.specs.Words.{encode_panel, panel_in}
 use Rattle.cpanel.specs.Read.{told_number, is_last, ToldRead, tells_read, unchanged}
 
@@ -28,9 +27,18 @@ within_limits c = leb c.left longest_text && leb c.held scratch_bytes
 unfoldable pub panel_right : (progress : Bool) (held : ℤ) → PanelCheck → Bool
 panel_right progress held c = progress && (is_count held && within_limits c)
 
+-- whether words are a panel's check, and the one that they tell, whatever they are
+pub record DecodedPanel : Type 0 where
+  pub ok : Bool
+  pub check : PanelCheck
+
 -- Words are a panel's check if they are those of the one that they tell, and this is within the limits.
 unfoldable pub decode_panel : Bench → List ℤ → DecodedPanel
 decode_panel m ws = let c = panel_in m ws in record { ok = same_words ws (encode_panel c) && within_limits c; check = c }
+
+-- the one that they tell, where they are one's
+abbrev pub panel_check_told : Bench → List ℤ → Option PanelCheck
+panel_check_told m ws = cond (decode_panel m ws).ok (Some (decode_panel m ws).check) None
 
 -- the one that the words of a bench and of the panel tell, if they are a sound bench's and one's
 abbrev pub panel_told : (ws ps : List ℤ) → DecodedPanel

@@ -1,5 +1,5 @@
 -- A read by whether the words are a panel's check.
-use Rattle.std.specs.Prelude.{◌≡◌, Bool, true, List, ℕ, ℤ, pos, negsuc}
+use Rattle.std.specs.Prelude.{◌≡◌, Bool, true, Some, None, List, ℕ, ℤ, pos, negsuc}
 use Rattle.std.proofs.Math.Path.{refl}
 use Rattle.std.proofs.Common.{sym, ap, subst, ◌∙◌, true≢false, SFits}
 use Rattle.std.proofs.Math.Bool.{false}
@@ -13,45 +13,48 @@ use Rattle.encoding.specs.computed.Words.{bench_read, same_words, sound_words}
 use Rattle.encoding.specs.laws.Same.{same_true}
 use Rattle.encoding.specs.laws.Record.{words_are}
 use Rattle.progress.specs.Progress.{check_in}
+use Rattle.progress.specs.laws.Told.{told_none, told_some}
 use Rattle.panel.specs.declared.PanelCheck.{PanelCheck}
 use Rattle.panel.specs.declared.Told.{Told}
 use Rattle.panel.specs.declared.PieceRead.{PieceRead}
 use Rattle.panel.specs.computed.Over.{is_over}
 use Rattle.panel.specs.computed.Piece.{piece_of, tell_of, ReadsPiece}
-use Rattle.cpanel.specs.declared.decode.DecodedPanel.{DecodedPanel}
 use Rattle.cpanel.specs.Words.{encode_panel, panel_in}
 use Rattle.cpanel.specs.Read.{told_number, is_last, ToldRead, tells_read, unchanged}
-use Rattle.cpanel.specs.computed.Panel.{decode_panel, panel_told, is_panel, told_by, Hands, TellsRead}
+use Rattle.cpanel.specs.computed.Panel.{decode_panel, panel_check_told, panel_told, is_panel, told_by, Hands, TellsRead}
 
 pub told_fits : (t : Told) → SFits w64 (told_number t)
 told_fits Told.Short = sfits_lit tt
 told_fits Told.More = sfits_lit tt
 told_fits Told.Over = sfits_lit tt
 
-is : (ws ps : List ℤ) {p : DecodedPanel} → p ≡ panel_told ws ps → sound_words ws ≡ true → is_panel ws ps ≡ p.ok
+is : (ws ps : List ℤ) → sound_words ws ≡ true → is_panel ws ps ≡ (panel_told ws ps).ok
 unfolding is_panel
-is ws ps f ok = rw (ok, f)
+is ws ps ok = rw ok refl
 
 module _ (ws ps : List ℤ) {scratch piece : List ℕ} {last : ℤ} {old : List ℕ} where
   pub read_no_record : sound_words ws ≡ false → TellsRead ws ps scratch piece last old (unchanged (negsuc 8) ws ps scratch old)
   unfolding is_panel
   read_no_record bad = let no : is_panel ws ps ≡ false = rw bad in TellsRead.no_check no refl
 
-  module _ {p : DecodedPanel} (f : p ≡ panel_told ws ps) (ok : sound_words ws ≡ true) where
-    pub read_no_panel : p.ok ≡ false → TellsRead ws ps scratch piece last old (unchanged (negsuc 8) ws ps scratch old)
-    read_no_panel bad = TellsRead.no_check (is ws ps f ok ∙ bad) refl
+  module _ (ok : sound_words ws ≡ true) where
+    pub read_no_panel : None ≡ panel_check_told (bench_read ws) ps
+        → TellsRead ws ps scratch piece last old (unchanged (negsuc 8) ws ps scratch old)
+    read_no_panel none = TellsRead.no_check (is ws ps ok ∙ told_none (panel_told ws ps).ok (panel_told ws ps).check none) refl
 
-    pub read_hands : p.ok ≡ true → {end : Bool} → end ≡ is_last last → {read : PieceRead} {free rows : List ℕ}
-        → ReadsPiece p.check scratch piece end old read free rows → {answer : ℤ} {ws' ps' : List ℤ} → answer ≡ told_number read.told
+    pub read_hands : {c : PanelCheck} → Some c ≡ panel_check_told (bench_read ws) ps → {end : Bool} → end ≡ is_last last
+        → {read : PieceRead} {free rows : List ℕ}
+        → ReadsPiece c scratch piece end old read free rows → {answer : ℤ} {ws' ps' : List ℤ} → answer ≡ told_number read.told
         → ws' ≡ encode_of read.check.tally.bench → ps' ≡ encode_panel read.check
         → TellsRead ws ps scratch piece last old (tells_read answer read.took read.wrote ws' ps' free rows)
-    read_hands panel {end} at_last {read} {free} {rows} h told words come =
-        TellsRead.check (is ws ps f ok ∙ panel)
+    read_hands {c} panel {end} at_last {read} {free} {rows} h told words come =
+        let t = told_some (panel_told ws ps).ok (panel_told ws ps).check panel in
+        TellsRead.check (is ws ps ok ∙ t.0)
         (record {
           read = read;
           reads =
-              subst (λ (g : DecodedPanel). ReadsPiece g.check scratch piece (is_last last) old read free rows) f
-              (subst (λ (b : Bool). ReadsPiece p.check scratch piece b old read free rows) at_last h);
+              subst (λ (k : PanelCheck). ReadsPiece k scratch piece (is_last last) old read free rows) t.1
+              (subst (λ (b : Bool). ReadsPiece c scratch piece b old read free rows) at_last h);
           told = rw (told, words, come);
         })
 

@@ -15,7 +15,7 @@ use Rattle.panel.specs.computed.Rest.{rest_of, Lists, ReachedPanel}
 use Rattle.panel.specs.laws.Listing.{panel_is}
 use Rattle.panel.specs.laws.Piece.{start_panel_lem}
 use Rattle.panel.specs.laws.Pieces.{Reads-on, reads_on}
-use Rattle.cpanel.specs.declared.decode.DecodedPanel.{DecodedPanel}
+use Rattle.cpanel.specs.computed.Panel.{DecodedPanel}
 use Rattle.cpanel.specs.Words.{encode_panel}
 use Rattle.cpanel.specs.Read.{is_last, ToldRead}
 use Rattle.cpanel.specs.computed.Panel.{start_panel, panel_told, is_panel, Hands, TellsRead}

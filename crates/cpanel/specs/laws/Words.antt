@@ -1,6 +1,6 @@
 -- Words and panel's checks, exactly: the code's test passes where the words are those of what they tell, and one that a start reaches is
 -- told by its words.
-use Rattle.std.specs.Prelude.{◌≡◌, Bool, ◌&&◌, ◌^◌, ◌<◌, ℤ, length, take}
+use Rattle.std.specs.Prelude.{◌≡◌, Bool, Some, None, ◌&&◌, ◌^◌, ◌<◌, ℤ, length, take}
 use Rattle.std.proofs.Math.Path.{refl, sym, ap}
 use Rattle.std.proofs.Common.{◌∙◌, arith, SFits}
 use Rattle.std.proofs.Math.Bool.{true, false}
@@ -16,16 +16,17 @@ use Rattle.encoding.specs.computed.Words.{same_words}
 use Rattle.encoding.specs.laws.Right.{count_again, count_right, words_at, each}
 use Rattle.encoding.specs.laws.Same.{same_true, same_self, same_words_lem}
 use Rattle.encoding.specs.laws.Record.{count_word}
-use Rattle.progress.specs.declared.progress.DecodedProgress.{DecodedProgress}
+use Rattle.job.specs.declared.Check.{Check}
+use Rattle.progress.specs.computed.Progress.{DecodedProgress, check_told}
+use Rattle.progress.specs.laws.Told.{told_none, told_some}
 use Rattle.progress.specs.Progress.{encode_progress, check_in}
 use Rattle.progress.specs.computed.Progress.{decode_progress}
 use Rattle.progress.specs.laws.Inverse.{reached_fits, progress_decode}
 use Rattle.panel.specs.declared.PanelCheck.{PanelCheck}
 use Rattle.panel.specs.computed.Piece.{scratch_bytes}
 use Rattle.panel.specs.computed.Rest.{ReachedPanel}
-use Rattle.cpanel.specs.declared.decode.DecodedPanel.{DecodedPanel}
 use Rattle.cpanel.specs.Words.{as_check, encode_panel, panel_of, panel_in}
-use Rattle.cpanel.specs.computed.Panel.{within_limits, panel_right, decode_panel}
+use Rattle.cpanel.specs.computed.Panel.{within_limits, panel_right, decode_panel, panel_check_told}
 
 -- ---- the code's test
 
@@ -59,11 +60,28 @@ module _ (m : Bench) (ws : List ℤ) (all : length ws ≡ 10) (held : SFits w64 
       associates true b c = refl
       associates false b c = refl
 
-  pub panel_decoded : {p : DecodedProgress} {c : PanelCheck} {ok : Bool} → p ≡ decode_progress m (take 9 ws)
-      → c ≡ panel_of p.check (count_of (at ws 9)) → ok ≡ panel_right p.ok (at ws 9) c
-      → ◌≡◌ {A = DecodedPanel} (record { ok = ok; check = c }) (decode_panel m ws)
-  unfolding decode_progress decode_panel panel_in
-  panel_decoded e f g = rw (g, f, e, panel_same)
+  -- the words are one's where the nine tell a progress and the tests pass, and tell this one
+  pub panel_missing : None ≡ check_told m (take 9 ws) → None ≡ panel_check_told m ws
+  unfolding panel_right
+  panel_missing none = rw (sym panel_same, told_none (decode_progress m (take 9 ws)).ok (decode_progress m (take 9 ws)).check none) refl
+
+  module _ {p : Check} (e : Some p ≡ check_told m (take 9 ws)) {c : PanelCheck} (f : c ≡ panel_of p (count_of (at ws 9))) where
+    told : ((decode_progress m (take 9 ws)).ok ≡ true) × (p ≡ (decode_progress m (take 9 ws)).check)
+    told = told_some (decode_progress m (take 9 ws)).ok (decode_progress m (take 9 ws)).check e
+
+    own : c ≡ panel_in m ws
+    unfolding decode_progress panel_in
+    own = f ∙ ap (λ (k : Check). panel_of k (count_of (at ws 9))) told.1
+
+    test : panel_right true (at ws 9) c ≡ (decode_panel m ws).ok
+    test = rw own (rw told.0 at panel_same)
+
+    pub panel_wrong : panel_right true (at ws 9) c ≡ false → None ≡ panel_check_told m ws
+    panel_wrong bad = rw (sym test ∙ bad) refl
+
+    pub panel_decoded : panel_right true (at ws 9) c ≡ true → Some c ≡ panel_check_told m ws
+    unfolding decode_panel
+    panel_decoded right = rw (sym test ∙ right, own) refl
 
 -- ---- from a panel's check to words and back
 

@@ -54,7 +54,7 @@ use Rattle.calls.specs.computed.Calls.{Told, tells, call_of, told_of}
 use Rattle.calls.specs.computed.Calls.{made_of, ToldRun, tells_run, ran, told_run_of}
 use Rattle.calls.specs.laws.Told.{told_call, told_refused, run_refused}
 use Rattle.calls.specs.laws.Load.{own_words}
-use Rattle.progress.specs.declared.known.DecodedKnown.{DecodedKnown}
+use Rattle.progress.specs.computed.Known.{DecodedKnown}
 use Rattle.progress.specs.Known.{encode_known, feed_read, reader_of}
 use Rattle.progress.specs.computed.Known.{known_in, decode_known}
 use Rattle.progress.specs.laws.Inverse.{known_decode}
