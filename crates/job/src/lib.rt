@@ -110,6 +110,7 @@ impl Check {
         }
     }
 
+    // A match and no closures: what comes next is one of three cases of an enum that C keeps as a word, and each is one call.
     fn step(self, text: &[u8], out: &mut [u8], place: usize) -> Step
         requires { (is_over self ≡ false) × (has_room out.old place ≡ true) }
         ensures { Steps self text.now out.old place result out.new }

@@ -219,6 +219,7 @@ impl PanelCheck {
         }
     }
 
+    // A match and no closures, as in crate job.
     fn step(self, scratch: &mut [u8], piece: &[u8], last: bool, out: &mut [u8]) -> PieceRead
         requires { (scratch_bytes ≤ length scratch.old) × (has_room out.old 0 ≡ true) }
         ensures { Hands (piece_of self scratch.old piece.now last) out.old result

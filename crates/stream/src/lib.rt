@@ -11,7 +11,7 @@ use tally::MOST_BLOCK_TICKS;
 
 #[derive(Drop)]
 pub struct Stream {
-    // All is handed out.
+    // All is handed out. No `Option` of what is left: `ended_of` says that place, reader and bench stay as they were.
     pub over: bool,
     // Where the next line begins in the text.
     pub at: usize,
