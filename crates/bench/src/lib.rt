@@ -16,6 +16,7 @@ use block::questions::ask_load;
 use circle::step::DIAGONAL;
 use plane::point::Point;
 use plane::travel::inside;
+use question::Question;
 use run::in_work::InWork;
 use run::run_work;
 use settings::{Settings, ask_settings, capacity, standard};
@@ -33,31 +34,24 @@ pub struct Bench {
     pub work: Work,
 }
 
-// What make and load answer, and in crate machine hold, release and stop: done, the register width of an accepted block, or the number
-// of a question.
+// What make and load answer, and in crate machine hold, release and stop, where no question refuses: done, or the register width of the
+// block.
 #[derive(Drop)]
 pub enum Answer {
     Done,
     Width(u64),
-    Refused(u64),
 }
 
 #[derive(Drop)]
 pub struct Answered {
-    pub answer: Answer,
+    pub answer: Result<Answer, Question>,
     pub bench: Bench,
-}
-
-// What a tick answers.
-#[derive(Clone, Copy)]
-pub enum Tick {
-    Byte(u8),
-    Refused(u64),
 }
 
 #[derive(Drop)]
 pub struct Ticked {
-    pub tick: Tick,
+    // The tick byte.
+    pub tick: Result<u8, Question>,
     pub bench: Bench,
 }
 
@@ -69,12 +63,11 @@ pub enum Report {
     Ended,
     Spent,
     Full,
-    Refused(u64),
 }
 
 #[derive(Drop)]
 pub struct Ran {
-    pub report: Report,
+    pub report: Result<Report, Question>,
     pub ticks: u64,
     // How many of the ticks did a cycle: crate machine takes them off its figure. No caller is told.
     pub cycles: u64,
@@ -145,11 +138,11 @@ impl Bench {
     {
         match ask_settings(settings) {
             Ok(()) => Answered {
-                answer: Answer::Done,
+                answer: Ok(Answer::Done),
                 bench: fresh(settings),
             },
             Err(no) => Answered {
-                answer: Answer::Refused(no.number()),
+                answer: Err(no),
                 bench: fresh(standard()),
             },
         }
@@ -166,14 +159,14 @@ impl Bench {
         let travel = settings.travel;
         if let Err(no) = ask_load(capacity(settings), travel, is_nothing(work), at, b) {
             return Answered {
-                answer: Answer::Refused(no.number()),
+                answer: Err(no),
                 bench: self,
             };
         }
         let begun = begin(at, b);
         let next = begun.work;
         Answered {
-            answer: Answer::Width(begun.width),
+            answer: Ok(Answer::Width(begun.width)),
             bench: self.moved(at, self.remainder, next),
         }
     }
@@ -188,13 +181,13 @@ impl Bench {
         let work = self.work;
         if self.held {
             return Ticked {
-                tick: Tick::Byte(0),
+                tick: Ok(0),
                 bench: self,
             };
         }
         if is_nothing(work) {
             return Ticked {
-                tick: Tick::Byte(0),
+                tick: Ok(0),
                 bench: self,
             };
         }
@@ -202,7 +195,7 @@ impl Bench {
         let here = a.at;
         let next = a.work;
         Ticked {
-            tick: Tick::Byte(a.byte),
+            tick: Ok(a.byte),
             bench: self.moved(here, a.remainder, next),
         }
     }
@@ -217,7 +210,7 @@ impl Bench {
         let work = self.work;
         if !sound(settings, at, self.remainder, work) {
             return Ran {
-                report: Report::Refused(9),
+                report: Err(Question::Sound),
                 ticks: 0,
                 cycles: 0,
                 bench: self,
@@ -250,7 +243,7 @@ impl Bench {
     {
         if is_nothing(self.work) {
             return Ran {
-                report: Report::Idle,
+                report: Ok(Report::Idle),
                 ticks: 0,
                 cycles: 0,
                 bench: self,
@@ -258,7 +251,7 @@ impl Bench {
         }
         if self.held {
             return Ran {
-                report: Report::Held,
+                report: Ok(Report::Held),
                 ticks: 0,
                 cycles: 0,
                 bench: self,
@@ -266,7 +259,7 @@ impl Bench {
         }
         let r = run_work(self.in_work(), budget, out);
         Ran {
-            report: report_of(r.ended, budget <= r.ticks),
+            report: Ok(report_of(r.ended, budget <= r.ticks)),
             ticks: r.ticks,
             cycles: r.cycles,
             bench: self.moved(r.at, r.remainder, r.work),

@@ -2,37 +2,38 @@
 ghost use Rattle.std.specs.Prelude.{◌≡◌};
 ghost use Rattle.calls.specs.Calls.{answer_number, tick_number, report_number};
 
-use bench::{Answer, Report, Tick};
+use bench::{Answer, Report};
 use encoding::number::{refusal, word};
+use question::Question;
 
-pub fn answer_number(answer: Answer) -> i64
+pub fn answer_number(answer: Result<Answer, Question>) -> i64
     ensures { result ≡ answer_number answer }
 {
     match answer {
-        Answer::Done => 0,
-        Answer::Width(n) => word(n),
-        Answer::Refused(n) => refusal(n),
+        Ok(Answer::Done) => 0,
+        Ok(Answer::Width(bits)) => word(bits),
+        Err(no) => refusal(no.number()),
     }
 }
 
-pub fn tick_number(tick: Tick) -> i64
+pub fn tick_number(tick: Result<u8, Question>) -> i64
     ensures { result ≡ tick_number tick }
 {
     match tick {
-        Tick::Byte(b) => b as i64,
-        Tick::Refused(n) => refusal(n),
+        Ok(byte) => i64::from(byte),
+        Err(no) => refusal(no.number()),
     }
 }
 
-pub fn report_number(report: Report) -> i64
+pub fn report_number(report: Result<Report, Question>) -> i64
     ensures { result ≡ report_number report }
 {
     match report {
-        Report::Idle => 0,
-        Report::Held => 1,
-        Report::Ended => 2,
-        Report::Spent => 3,
-        Report::Full => 4,
-        Report::Refused(n) => refusal(n),
+        Ok(Report::Idle) => 0,
+        Ok(Report::Held) => 1,
+        Ok(Report::Ended) => 2,
+        Ok(Report::Spent) => 3,
+        Ok(Report::Full) => 4,
+        Err(no) => refusal(no.number()),
     }
 }

@@ -19,6 +19,7 @@ use encoding::encode::encode;
 use encoding::given::settings;
 use machine::waiting::left_after;
 use plane::point::Point;
+use question::Question;
 use record::read::{bench_in, left_in, len_in, start_in};
 use record::sound::is_sound;
 use record::write::{store_mark, store_stop, store_ticks, take};
@@ -89,7 +90,12 @@ pub fn stop(words: &mut [i64; 134]) -> i64
 
 // Load's questions at the words of a sound record, whose bench this is and behind which the next block starts here. A refused block writes
 // nothing.
-pub fn load_sound(words: &mut [i64; 134], k: Bench, start: Point, b: Block) -> Answer
+pub fn load_sound(
+    words: &mut [i64; 134],
+    k: Bench,
+    start: Point,
+    b: Block,
+) -> Result<Answer, Question>
     requires { Asking words.old k start }
     ensures value { result ≡ (load_of (machine_in words.old) b).answer }
     ensures words_after { words.new ≡ over (encode_of (load_of (machine_in words.old) b).machine) words.old }
@@ -98,10 +104,8 @@ pub fn load_sound(words: &mut [i64; 134], k: Bench, start: Point, b: Block) -> A
     let travel = settings.travel;
     let work = k.work;
     let len = len_in(words);
-    if let Err(no) = ask_load(capacity(settings), travel, len < 16, start, b) {
-        return Answer::Refused(no.number());
-    }
-    Answer::Width(take(words, work, start, b))
+    ask_load(capacity(settings), travel, len < 16, start, b)?;
+    Ok(Answer::Width(take(words, work, start, b)))
 }
 
 // Gives the machine a block, which begins where the last one before it ends.

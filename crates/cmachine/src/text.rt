@@ -54,16 +54,16 @@ fn load(
 {
     let answer = load_sound(words, k, start, b);
     match answer {
-        Answer::Done => Heard {
+        Ok(Answer::Done) => Heard {
             read: Read::Nothing,
             reader: after,
         },
-        Answer::Width(bits) => Heard {
+        Ok(Answer::Width(bits)) => Heard {
             read: Read::Loaded(bits),
             reader: after,
         },
-        Answer::Refused(no) => Heard {
-            read: Read::Refused(no),
+        Err(no) => Heard {
+            read: Read::Refused(no.number()),
             reader: before,
         },
     }

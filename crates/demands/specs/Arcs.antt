@@ -1,5 +1,5 @@
 -- Demand 2, arcs: "The points of an accepted arc are the least-error points of its circle, in order of angle."
-use Rattle.std.specs.Prelude.{◌≡◌, Bool, true, false, ◌≢◌, ◌↔◌, List, [], ◌∷◌, ℕ, ◌+◌, ◌-◌, ◌*◌, ◌≤◌, ◌<◌, ℤ, pos, nat_abs, ◌+ℤ◌, ◌-ℤ◌}
+use Rattle.std.specs.Prelude.{◌≡◌, Bool, true, false, ◌≢◌, ◌↔◌, List, [], ◌∷◌, ℕ, ◌+◌, ◌-◌, ◌*◌, ◌≤◌, ◌<◌, ℤ, pos, nat_abs, ◌+ℤ◌, ◌-ℤ◌, Ok}
 use Rattle.std.specs.Prelude.{◌*ℤ◌, ◌<ℤ◌}
 use Rattle.whole.specs.Width.{width_of}
 use Rattle.plane.specs.declared.point.Point.{Point}
@@ -23,7 +23,6 @@ use Rattle.work.specs.Work.{cycles_left, charges_for}
 use Rattle.settings.specs.Settings.{capacity_of}
 use Rattle.bench.specs.declared.Bench.{Bench}
 use Rattle.bench.specs.declared.Answer.{Answer}
-use Rattle.bench.specs.declared.Tick.{Tick}
 use Rattle.bench.specs.declared.Ticked.{Ticked as BenchTicked}
 use Rattle.bench.specs.Bench.{moved_of}
 use Rattle.machine.specs.declared.Machine.{Machine}
@@ -63,7 +62,7 @@ pub record ArcLoaded (m : Machine) (b : Block) (turn : Turn) (centre : Offset) (
   -- "the fewest bits that hold .. for an arc its m on an axis": such a circle point there is, and only one
   pub axis : ℕ
   pub on_axis : (n : ℕ) → Circle (square_of centre) (offset (pos n) (pos 0)) ↔ (n ≡ axis)
-  pub width : r.answer ≡ Answer.Width (width_of axis)
+  pub width : r.answer ≡ Ok (Answer.Width (width_of axis))
 
 -- ---- a tick
 
@@ -86,12 +85,12 @@ arc_due {m} s = arc_step_charge s.pulses * capacity_of m.settings
 -- answer and record of its cycle
 abbrev pub arc_cycled : {m : Bench} {a : Arc} → ArcStep m a → (ended : Bool) → Work → BenchTicked
 arc_cycled {m} {a} s ended work =
-    record { tick = Tick.Byte (cycle_byte s.pulses ended); bench = moved_of m s.at (arc_sum m a - arc_due s) work }
+    record { tick = Ok (cycle_byte s.pulses ended); bench = moved_of m s.at (arc_sum m a - arc_due s) work }
 
 -- a working tick of a bench with an arc in work
 pub record ArcTick (m : Bench) (a : Arc) (r : BenchTicked) : Type 0 where
   pub step : ArcStep m a
-  pub waits : arc_sum m a < arc_due step → r ≡ record { tick = Tick.Byte 0; bench = moved_of m m.at (arc_sum m a) (Work.Arc a) }
+  pub waits : arc_sum m a < arc_due step → r ≡ record { tick = Ok 0; bench = moved_of m m.at (arc_sum m a) (Work.Arc a) }
   -- ".. one a cycle, to the end."
   pub going : arc_due step ≤ arc_sum m a → step.at ≢ a.end → r ≡ arc_cycled step false (Work.Arc a)
   pub last : arc_due step ≤ arc_sum m a → step.at ≡ a.end → r ≡ arc_cycled step true Work.Nothing

@@ -1,5 +1,5 @@
 -- Demand 2, lines: "The pulses of an accepted line are those of Koren's DDA with its register sized to the move and half filled."
-use Rattle.std.specs.Prelude.{◌≡◌, false, ℕ, ◌+◌, ◌-◌, ◌*◌, ◌≤◌, ◌<◌, max, eqb, nat_abs}
+use Rattle.std.specs.Prelude.{◌≡◌, false, ℕ, ◌+◌, ◌-◌, ◌*◌, ◌≤◌, ◌<◌, max, eqb, nat_abs, Ok}
 use Rattle.whole.specs.Sign.{is_negative}
 use Rattle.whole.specs.Width.{width_of}
 use Rattle.plane.specs.declared.point.Point.{Point}
@@ -17,7 +17,6 @@ use Rattle.work.specs.Work.{following}
 use Rattle.settings.specs.Settings.{capacity_of}
 use Rattle.bench.specs.declared.Bench.{Bench}
 use Rattle.bench.specs.declared.Answer.{Answer}
-use Rattle.bench.specs.declared.Tick.{Tick}
 use Rattle.bench.specs.declared.Ticked.{Ticked as BenchTicked}
 use Rattle.bench.specs.Bench.{moved_of}
 use Rattle.machine.specs.declared.Machine.{Machine}
@@ -46,7 +45,7 @@ one_more l = record { start = l.start; end = l.end; feed = l.feed; cycles = l.cy
 pub record LineTick (m : Bench) (l : Line) (r : BenchTicked) : Type 0 where
   -- 02 §2: "A tick adds 1,000 × f."
   pub waits : m.remainder + 1000 * l.feed < straight * capacity_of m.settings
-      → r ≡ record { tick = Tick.Byte 0; bench = moved_of m m.at (m.remainder + 1000 * l.feed) (Work.Line l) }
+      → r ≡ record { tick = Ok 0; bench = moved_of m m.at (m.remainder + 1000 * l.feed) (Work.Line l) }
   -- 02 §2: "A cycle is due when the remainder reaches its charge times q0": as 01 has it, that "is taken off and one cycle is done". The
   -- byte tells the registers' pulses, the cycle, and the end after q cycles.
   pub cycles : straight * capacity_of m.settings ≤ m.remainder + 1000 * l.feed
@@ -54,7 +53,7 @@ pub record LineTick (m : Bench) (l : Line) (r : BenchTicked) : Type 0 where
       let last = eqb (l.done + 1) (line_cycles l.start l.end) in
       let rest = m.remainder + 1000 * l.feed - straight * capacity_of m.settings in
       r ≡ record {
-        tick = Tick.Byte (cycle_byte pulses last);
+        tick = Ok (cycle_byte pulses last);
         bench = moved_of m (shifted_of m.at pulses) rest (following last (Work.Line (one_more l)));
       })
 
@@ -62,7 +61,7 @@ pub record LineTick (m : Bench) (l : Line) (r : BenchTicked) : Type 0 where
 pub record LineLoaded (m : Machine) (b : Block) (r : Answered) : Type 0 where
   -- "Each load also answers the register width ..: the fewest bits that hold the larger of |a|, |b|"
   pub width : (let start = next_start m in
-      r.answer ≡ Answer.Width (width_of (max (nat_abs (increment_x start b.end)) (nat_abs (increment_y start b.end)))))
+      r.answer ≡ Ok (Answer.Width (width_of (max (nat_abs (increment_x start b.end)) (nat_abs (increment_y start b.end))))))
   -- in work it has no cycle done
   pub taken : Taken m b (Work.Line (line_of (next_start m) b.end b.feed)) r.machine
 

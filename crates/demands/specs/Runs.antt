@@ -1,5 +1,5 @@
 -- Demand 2, runs: "A run does every tick that its budget, buffer and block allow.", for every sound record, made-up ones too.
-use Rattle.std.specs.Prelude.{◌≡◌, true, false, ◌≢◌, ◌↔◌, List, [], ◌∷◌, ℕ, ◌+◌, ◌-◌, ◌*◌, ◌/◌, ◌≤◌, ◌<◌, min, max, length, take, drop}
+use Rattle.std.specs.Prelude.{◌≡◌, true, false, ◌≢◌, ◌↔◌, List, [], ◌∷◌, ℕ, ◌+◌, ◌-◌, ◌*◌, ◌/◌, ◌≤◌, ◌<◌, min, max, length, take, drop, Ok}
 use Rattle.std.specs.Borrow.{MutBor}
 use contract.Lifetimes.{Lfts}
 use Rattle.plane.specs.Byte.{cycles_marked}
@@ -8,7 +8,6 @@ use Rattle.charges.specs.Paid.{most_paid}
 use Rattle.work.specs.Work.{added_of, cycles_left, charges_for, charges_left, end_of}
 use Rattle.settings.specs.Settings.{capacity_of}
 use Rattle.bench.specs.declared.Bench.{Bench}
-use Rattle.bench.specs.declared.Tick.{Tick}
 use Rattle.queue.specs.Queue.{waiting}
 use Rattle.machine.specs.declared.Machine.{Machine}
 use Rattle.machine.specs.declared.Ticked.{Ticked}
@@ -23,7 +22,7 @@ use Rattle.demands.specs.Taken.{ComesIn}
 -- ticks called one by one, each getting the record that the one before returned, answer these bytes and leave the record m'
 pub data TicksTo : Machine → List ℕ → Machine → Type 0 where
   none : {m : Machine} → TicksTo m [] m
-  one : {m m' : Machine} {bytes : List ℕ} (r : Ticked) (byte : ℕ) → Ticks m r → r.tick ≡ Tick.Byte byte
+  one : {m m' : Machine} {bytes : List ℕ} (r : Ticked) (byte : ℕ) → Ticks m r → r.tick ≡ Ok byte
       → TicksTo r.machine bytes m' → TicksTo m (byte ∷ bytes) m'
 
 -- the report of a run that leaves the buffer as new

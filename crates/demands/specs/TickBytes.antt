@@ -1,6 +1,6 @@
 -- Demand 2, the tick bytes of a job: the answers of its ticks. "Each block is loaded once the one before has ended, remainder kept.": so
 -- none ever waits, and the stream works at the bench alone; the bytes are those of the machine's own calls.
-use Rattle.std.specs.Prelude.{◌≡◌, true, List, [], ◌∷◌, ◌++◌, ℕ, length, take}
+use Rattle.std.specs.Prelude.{◌≡◌, true, List, [], ◌∷◌, ◌++◌, ℕ, length, take, Ok}
 use Rattle.std.specs.Borrow.{Bor, MutBor}
 use contract.Lifetimes.{Lfts}
 use Rattle.plane.specs.Byte.{cycles_marked}
@@ -31,7 +31,7 @@ use Rattle.demands.specs.Texts.{Filling, FrontOf}
 pub data BlocksTick : Machine → List Made → List ℕ → Type 0 where
   none : {m : Machine} → BlocksTick m [] []
   block : {m m' : Machine} {later : List Made} {bytes rest : List ℕ} (made : Made) (r : Answered) → made.start ≡ m.bench.at
-      → Loads m made.block r → r.answer ≡ Answer.Width (block_width made.start made.block)
+      → Loads m made.block r → r.answer ≡ Ok (Answer.Width (block_width made.start made.block))
       → TicksTo r.machine bytes m' → length bytes ≡ ticks_left r.machine.bench → m'.bench.work ≡ Work.Nothing
       → BlocksTick m' later rest → BlocksTick m (made ∷ later) (bytes ++ rest)
 

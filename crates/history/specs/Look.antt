@@ -1,6 +1,6 @@
 -- 02 §1, Where will it be?: "It gives the record and the signed pulse sum per axis that the same ticks would give on a copy. The machine
 -- itself comes back unchanged." What it refuses is in crate demands.
-use Rattle.std.specs.Prelude.{◌≡◌, List, [], ◌∷◌, ◌++◌, ℕ, zero, suc, ◌+◌, ◌≤◌, ◌+ℤ◌, ◌-ℤ◌}
+use Rattle.std.specs.Prelude.{◌≡◌, List, [], ◌∷◌, ◌++◌, ℕ, zero, suc, ◌+◌, ◌≤◌, ◌+ℤ◌, ◌-ℤ◌, Ok}
 use Rattle.plane.specs.Byte.{code_x, code_y}
 use Rattle.settings.specs.declared.Settings.{Settings}
 use Rattle.bench.specs.declared.Answer.{Answer}
@@ -21,7 +21,7 @@ only_ticks (suc n) = Call.tick ∷ only_ticks n
 
 -- r, looked from the record m, tells what the ticks did that gave the replies rs and the record m'
 pub record Foretold (m : Machine) (r : Ahead) (rs : List Reply) (m' : Machine) : Type 0 where
-  pub answer : r.answer ≡ Answer.Done
+  pub answer : r.answer ≡ Ok Answer.Done
   pub then : r.then ≡ m'
   pub pulses_x : r.sums.x ≡ pulses_sent code_x rs
   pub pulses_y : r.sums.y ≡ pulses_sent code_y rs

@@ -13,6 +13,7 @@ use finish::works;
 use machine::Machine;
 use machine::waiting::next;
 use plane::point::Point;
+use question::Question;
 use run::skip::skip_work;
 
 // How far a caller may look.
@@ -25,10 +26,10 @@ pub struct Sums {
     pub y: i64,
 }
 
-// What a look-ahead answers: Done, or the number of a question.
+// What a look-ahead answers.
 #[derive(Drop)]
 pub struct Ahead {
-    pub answer: Answer,
+    pub answer: Result<Answer, Question>,
     // The record that the ticks would give, and their pulses; of a refusal the machine's own record, and 0.
     pub then: Machine,
     pub sums: Sums,
@@ -43,11 +44,11 @@ struct Passed {
     pub ticks: u64,
 }
 
-fn refused(own: Machine, number: u64) -> Ahead
-    ensures { result ≡ refusing own number }
+fn refused(own: Machine, no: Question) -> Ahead
+    ensures { result ≡ refusing own no }
 {
     Ahead {
-        answer: Answer::Refused(number),
+        answer: Err(no),
         then: own,
         sums: Sums { x: 0, y: 0 },
         machine: own,
@@ -105,11 +106,11 @@ pub fn look_sound(m: Machine, ticks: u64) -> Ahead
     ensures { result ≡ ahead_of m ticks }
 {
     if MOST_TICKS < ticks {
-        return refused(m, 38);
+        return refused(m, Question::LookLength);
     }
     let then = after_ticks(m, ticks);
     Ahead {
-        answer: Answer::Done,
+        answer: Ok(Answer::Done),
         then,
         sums: way(m.bench.at, then.bench.at),
         machine: m,
@@ -121,7 +122,7 @@ pub fn look_ahead(m: Machine, ticks: u64) -> Ahead
     ensures { result ≡ ahead_of m ticks }
 {
     if !m.is_sound() {
-        return refused(m, 9);
+        return refused(m, Question::Sound);
     }
     look_sound(m, ticks)
 }

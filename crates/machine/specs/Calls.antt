@@ -1,12 +1,12 @@
 -- 02 §3, Sixteen blocks waiting: how the next block comes into work, and what a tick, a hold and a release make of the record.
-use Rattle.std.specs.Prelude.{Bool, cond, ℕ, zero, suc}
+use Rattle.std.specs.Prelude.{Bool, cond, ℕ, zero, suc, Result}
+use Rattle.question.specs.declared.Question.{Question}
 use Rattle.queue.specs.declared.Queue.{Queue}
 use Rattle.queue.specs.Queue.{first_of, popped_of}
 use Rattle.work.specs.declared.Work.{Work}
 use Rattle.work.specs.Work.{is_nothing, begun_of}
 use Rattle.bench.specs.declared.Bench.{Bench}
 use Rattle.bench.specs.declared.Answer.{Answer}
-use Rattle.bench.specs.declared.Tick.{Tick}
 use Rattle.bench.specs.declared.Ticked.{Ticked as BenchTicked}
 use Rattle.bench.specs.Bench.{moved_of}
 use Rattle.bench.specs.Bench.{marked_of}
@@ -15,7 +15,7 @@ use Rattle.machine.specs.declared.Answered.{Answered}
 use Rattle.machine.specs.declared.Ticked.{Ticked}
 use Rattle.machine.specs.Machine.{machine_of}
 
-abbrev pub answers : Answer → Machine → Answered
+abbrev pub answers : Result Answer Question → Machine → Answered
 answers a m = record { answer = a; machine = m }
 
 -- ---- a block comes into work
@@ -35,7 +35,7 @@ next_of k q = cond (is_nothing k.work) (first_in k q q.len) (machine_of k q)
 
 -- ---- tick
 
-abbrev pub ticks : Tick → Machine → Ticked
+abbrev pub ticks : Result ℕ Question → Machine → Ticked
 ticks t m = record { tick = t; machine = m }
 
 -- the bench's tick, and then the next block where one has ended

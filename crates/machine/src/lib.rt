@@ -2,9 +2,9 @@
 // comes back by value from each call, beside the answer. A call tests the record first, so that any record whatever gets an answer.
 #![tactic(auto)]
 
-ghost use Rattle.std.specs.Prelude.{◌≡◌, true, length};
+ghost use Rattle.std.specs.Prelude.{◌≡◌, true, length, Ok, Err};
 ghost use Rattle.run.specs.computed.Run.{written};
-ghost use Rattle.bench.specs.declared.Answer.TheVariants.{Done, Refused};
+ghost use Rattle.bench.specs.declared.Answer.TheVariants.{Done};
 ghost use Rattle.machine.specs.computed.Machine.{sound_of};
 ghost use Rattle.machine.specs.Machine.{fresh_of};
 ghost use Rattle.machine.specs.computed.Run.{run_of};
@@ -12,10 +12,11 @@ ghost use Rattle.machine.specs.Calls.{answers, mark_of};
 ghost use Rattle.machine.specs.computed.Calls.{if_sound, make_of, load_with, load_of, tick_of, hold_of, release_of, stop_of};
 ghost use Rattle.machine.specs.computed.Asked.{Taking};
 
-use bench::{Answer, Bench, Report, Tick};
+use bench::{Answer, Bench, Report};
 use block::Block;
 use block::questions::ask_load;
 use plane::point::Point;
+use question::Question;
 use queue::{Queue, Waiting};
 use settings::{Settings, ask_settings, capacity, standard};
 use work::rest::{cycles_left, root_of};
@@ -36,19 +37,19 @@ pub struct Machine {
 
 #[derive(Drop)]
 pub struct Answered {
-    pub answer: Answer,
+    pub answer: Result<Answer, Question>,
     pub machine: Machine,
 }
 
 #[derive(Drop)]
 pub struct Ticked {
-    pub tick: Tick,
+    pub tick: Result<u8, Question>,
     pub machine: Machine,
 }
 
 #[derive(Drop)]
 pub struct Ran {
-    pub report: Report,
+    pub report: Result<Report, Question>,
     pub ticks: u64,
     pub machine: Machine,
 }
@@ -81,11 +82,11 @@ impl Machine {
     }
 
     // The answer of a call that is refused: the record stays as it was.
-    fn refused(self, number: u64) -> Answered
-        ensures { result ≡ answers (Refused number) self }
+    fn refused(self, no: Question) -> Answered
+        ensures { result ≡ answers (Err no) self }
     {
         Answered {
-            answer: Answer::Refused(number),
+            answer: Err(no),
             machine: self,
         }
     }
@@ -95,11 +96,11 @@ impl Machine {
     {
         match ask_settings(settings) {
             Ok(()) => Answered {
-                answer: Answer::Done,
+                answer: Ok(Answer::Done),
                 machine: fresh(settings),
             },
             Err(no) => Answered {
-                answer: Answer::Refused(no.number()),
+                answer: Err(no),
                 machine: fresh(standard()),
             },
         }
@@ -108,7 +109,7 @@ impl Machine {
     // A block that no question refused: into work where nothing is, else behind those that wait.
     fn take(self, start: Point, b: Block) -> Answered
         requires { Taking self start b }
-        ensures { result ≡ load_with self b 0 }
+        ensures { result ≡ load_with self b (Ok tt) }
     {
         let k = self.bench;
         let work = k.work;
@@ -123,7 +124,7 @@ impl Machine {
             next.bench = k.moved(at, k.remainder, first);
             next.root = root;
             return Answered {
-                answer: Answer::Width(begun.width),
+                answer: Ok(Answer::Width(begun.width)),
                 machine: next,
             };
         }
@@ -133,7 +134,7 @@ impl Machine {
             root: root,
         });
         Answered {
-            answer: Answer::Width(begun.width),
+            answer: Ok(Answer::Width(begun.width)),
             machine: next,
         }
     }
@@ -143,7 +144,7 @@ impl Machine {
         ensures { result ≡ load_of self b }
     {
         if !self.is_sound() {
-            return self.refused(9);
+            return self.refused(Question::Sound);
         }
         let k = self.bench;
         let q = self.queue;
@@ -151,7 +152,7 @@ impl Machine {
         let travel = settings.travel;
         let start = waiting::start_of(k, q);
         if let Err(no) = ask_load(capacity(settings), travel, q.len < 16, start, b) {
-            return self.refused(no.number());
+            return self.refused(no);
         }
         self.take(start, b)
     }
@@ -162,7 +163,7 @@ impl Machine {
     {
         if !self.is_sound() {
             return Ticked {
-                tick: Tick::Refused(9),
+                tick: Err(Question::Sound),
                 machine: self,
             };
         }
@@ -184,7 +185,7 @@ impl Machine {
     {
         if !self.is_sound() {
             return Ran {
-                report: Report::Refused(9),
+                report: Err(Question::Sound),
                 ticks: 0,
                 machine: self,
             };
@@ -204,17 +205,17 @@ impl Machine {
 
     // The record with another mark.
     fn marked(self, mark: bool) -> Answered
-        ensures { result ≡ if_sound self (answers Done (mark_of self mark)) }
+        ensures { result ≡ if_sound self (answers (Ok Done) (mark_of self mark)) }
     {
         if !self.is_sound() {
-            return self.refused(9);
+            return self.refused(Question::Sound);
         }
         let mut k = self.bench;
         k.held = mark;
         let mut next = self;
         next.bench = k;
         Answered {
-            answer: Answer::Done,
+            answer: Ok(Answer::Done),
             machine: next,
         }
     }
@@ -236,7 +237,7 @@ impl Machine {
         ensures { result ≡ stop_of self }
     {
         if !self.is_sound() {
-            return self.refused(9);
+            return self.refused(Question::Sound);
         }
         let k = self.bench;
         let at = k.at;
@@ -247,7 +248,7 @@ impl Machine {
             queue: Queue::empty(),
         };
         Answered {
-            answer: Answer::Done,
+            answer: Ok(Answer::Done),
             machine: idle,
         }
     }

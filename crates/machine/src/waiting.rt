@@ -10,8 +10,9 @@ ghost use Rattle.machine.specs.Calls.{next_of};
 ghost use Rattle.machine.specs.computed.Asked.{work_off, cycles_told, Coming};
 
 use crate::Machine;
-use bench::{Bench, Tick};
+use bench::Bench;
 use plane::point::Point;
+use question::Question;
 use queue::Queue;
 use settings::capacity;
 use whole::root::is_nearest_root;
@@ -67,18 +68,13 @@ pub fn start_of(k: Bench, q: Queue) -> Point
 }
 
 // The cycles still to do after a tick that answered this.
-pub fn left_after(left: u64, tick: Tick) -> u64
+pub fn left_after(left: u64, tick: Result<u8, Question>) -> u64
     requires { cycles_told tick ≤ left }
     ensures { result ≡ left - cycles_told tick }
 {
     match tick {
-        Tick::Byte(byte) => {
-            if byte < 16 {
-                return left;
-            }
-            left - 1
-        }
-        Tick::Refused(_) => left,
+        Ok(byte) if 16 <= byte => left - 1,
+        _ => left,
     }
 }
 

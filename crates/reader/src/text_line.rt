@@ -52,17 +52,17 @@ fn load(k: Reader, next: Reader, m: Bench, b: Block) -> ReadLine
     let answer = a.answer;
     let after = a.bench;
     match answer {
-        Answer::Done => ReadLine {
+        Ok(Answer::Done) => ReadLine {
             answer: Read::Nothing,
             reader: next,
             bench: after,
         },
-        Answer::Width(bits) => ReadLine {
+        Ok(Answer::Width(bits)) => ReadLine {
             answer: Read::Loaded(bits),
             reader: next,
             bench: after,
         },
-        Answer::Refused(no) => refused(k, m, no),
+        Err(no) => refused(k, m, no.number()),
     }
 }
 

@@ -1,6 +1,6 @@
 // What a call writes: the words that it changes, and no other. That the words are sound stands in the contracts and in no type: they lie in
 // the array of the caller in C, and are changed in place.
-ghost use Rattle.std.specs.Prelude.{◌≡◌, true, ◌≤◌, ◌<◌, set};
+ghost use Rattle.std.specs.Prelude.{◌≡◌, true, ◌≤◌, ◌<◌, set, Ok};
 ghost use Rattle.work.specs.declared.Work.{Work};
 ghost use Rattle.machine.specs.Calls.{mark_of, next_of};
 ghost use Rattle.machine.specs.computed.Calls.{load_with};
@@ -147,7 +147,7 @@ pub fn push(words: &mut [i64; 134], w: Waiting, left: u64)
 pub fn take(words: &mut [i64; 134], work: Work, start: Point, b: Block) -> u64
     requires { Loading words.old work start b }
     ensures value { result ≡ (begun_of start b).width }
-    ensures words_after { words.new ≡ over (encode_of (load_with (machine_in words.old) b 0).machine) words.old }
+    ensures words_after { words.new ≡ over (encode_of (load_with (machine_in words.old) b (Ok tt)).machine) words.old }
 {
     let begun = begin(start, b);
     let root = root_of(begun.work);

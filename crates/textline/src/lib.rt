@@ -40,17 +40,17 @@ fn load(k: Reader, next: Reader, m: Machine, b: Block) -> ReadLine
     let answer = a.answer;
     let after = a.machine;
     match answer {
-        Answer::Done => ReadLine {
+        Ok(Answer::Done) => ReadLine {
             answer: Read::Nothing,
             reader: next,
             machine: after,
         },
-        Answer::Width(bits) => ReadLine {
+        Ok(Answer::Width(bits)) => ReadLine {
             answer: Read::Loaded(bits),
             reader: next,
             machine: after,
         },
-        Answer::Refused(no) => refused(k, m, no),
+        Err(no) => refused(k, m, no.number()),
     }
 }
 

@@ -1,7 +1,9 @@
 -- 01, "Pulses worked by hand": the starred rows, each as document 01 has it, and what it is for a row to hold. After them examples worked
 -- out by hand, of 02 §2: an arc, a line with a diagonal cycle, and a remainder that no history leaves; of 02 §3: blocks that wait.
-use Rattle.std.specs.Prelude.{Bool, true, false, ◌&&◌, List, [], ◌∷◌, ◌++◌, ℕ, zero, suc, ◌*◌, eqb, ℤ, pos, negsuc, length}
+use Rattle.std.specs.Prelude.{Bool, true, false, ◌&&◌, List, [], ◌∷◌, ◌++◌, ℕ, zero, suc, ◌*◌, eqb, ℤ, pos, negsuc, length, Result, Ok, Err}
 use Rattle.std.specs.Bool.{beq}
+use Rattle.question.specs.Question.{number_told}
+use Rattle.question.specs.declared.Question.{Question}
 use Rattle.whole.specs.Equal.{equal_z}
 use Rattle.plane.specs.declared.point.Point.{Point}
 use Rattle.plane.specs.declared.travel.Range.{Range}
@@ -26,7 +28,6 @@ use Rattle.work.specs.Work.{work_along}
 use Rattle.run.specs.computed.Run.{Strip, strip_of}
 use Rattle.settings.specs.declared.Settings.{Settings}
 use Rattle.bench.specs.declared.Answer.{Answer}
-use Rattle.bench.specs.declared.Tick.{Tick}
 use Rattle.machine.specs.declared.Machine.{Machine}
 use Rattle.machine.specs.Machine.{fresh_of}
 use Rattle.machine.specs.computed.Calls.{load_of, tick_of}
@@ -88,10 +89,8 @@ abbrev pub widest : Range
 widest = record { lower = negsuc 999999; upper = pos 1000000 }
 
 -- the number of a refusal, else 0
-abbrev pub number_of : Answer → ℕ
-number_of Answer.Done = 0
-number_of (Answer.Width bits) = 0
-number_of (Answer.Refused number) = number
+abbrev pub number_of : Result Answer Question → ℕ
+number_of a = number_told a
 
 -- p 50, w 5,000 and the widest travel but for this upper X bound
 abbrev pub bounded_by : (upper : ℕ) → Settings
@@ -137,9 +136,9 @@ loaded m [] = m
 loaded m (b ∷ later) = loaded (load_of m b).machine later
 
 -- the byte of a tick, and after so many ticks all bytes, and the machine; no byte is 64
-abbrev pub byte_of : Tick → ℕ
-byte_of (Tick.Byte b) = b
-byte_of (Tick.Refused number) = 64
+abbrev pub byte_of : Result ℕ Question → ℕ
+byte_of (Ok b) = b
+byte_of (Err number) = 64
 
 unfoldable pub bytes_of : (n : ℕ) → Machine → List ℕ
 bytes_of zero m = []

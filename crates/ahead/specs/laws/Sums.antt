@@ -1,9 +1,10 @@
 -- The pulses of ticks lead from point to point, so their sum is the way.
-use Rattle.std.specs.Prelude.{◌≡◌, Bool, cond, ◌||◌, List, [], ◌∷◌, ◌++◌, ℕ, zero, suc, ◌+◌, eqb, ℤ, pos, ◌+ℤ◌}
+use Rattle.std.specs.Prelude.{◌≡◌, Bool, cond, ◌||◌, List, [], ◌∷◌, ◌++◌, ℕ, zero, suc, ◌+◌, eqb, ℤ, pos, ◌+ℤ◌, Result, Ok, Err}
 use Rattle.std.proofs.Math.Path.{sym, ap}
 use Rattle.std.proofs.Common.{◌∙◌, arith}
 use Rattle.std.proofs.Math.Bool.{true, false}
 use Rattle.std.proofs.Math.IntN.{+ℤ_idr}
+use Rattle.question.specs.declared.Question.{Question}
 use Rattle.whole.specs.laws.Difference.{ring, var, num, ◌⊕◌}
 use Rattle.plane.specs.declared.point.Point.{Point}
 use Rattle.plane.specs.declared.travel.Travel.{Travel}
@@ -25,7 +26,6 @@ use Rattle.work.specs.computed.Work.{work_sound, line_cycle, arc_cycle, cycle_of
 use Rattle.work.specs.laws.Sound.{line_work, arc_work}
 use Rattle.settings.specs.Settings.{capacity_of}
 use Rattle.bench.specs.declared.Bench.{Bench}
-use Rattle.bench.specs.declared.Tick.{Tick}
 use Rattle.bench.specs.computed.Bench.{sound_of}
 use Rattle.bench.specs.Bench.{moved_of}
 use Rattle.bench.specs.computed.Calls.{ticks, working, tick_of}
@@ -106,7 +106,7 @@ tick_leads m e = rw e (by (m.held || is_nothing m.work))
   where
     by : (still : Bool)
         → (let a = advance_of (capacity_of m.settings) m.at m.remainder m.work in
-        let k = cond still (ticks (Tick.Byte 0) m) (working m a) in
+        let k = cond still (ticks (Ok 0) m) (working m a) in
         Leads m.at (in_front k.tick []) k.bench.at)
     by true = leads_zero m.at
     by false =
@@ -115,9 +115,9 @@ tick_leads m e = rw e (by (m.held || is_nothing m.work))
 
 -- ---- ticks one after the other
 
-pub after_tick : {from mid to : Point} (k : Tick) (bytes : List ℕ) → Leads from (in_front k []) mid → Leads mid bytes to
+pub after_tick : {from mid to : Point} (k : Result ℕ Question) (bytes : List ℕ) → Leads from (in_front k []) mid → Leads mid bytes to
     → Leads from (in_front k bytes) to
-after_tick {from} (Tick.Byte b) bytes h g =
+after_tick {from} (Ok b) bytes h g =
     record {
       x = onward from.x (pulse_of (code_x b)) (pulses_in code_x bytes) (one from.x (code_x b) h.x) g.x;
       y = onward from.y (pulse_of (code_y b)) (pulses_in code_y bytes) (one from.y (code_y b) h.y) g.y;
@@ -125,7 +125,7 @@ after_tick {from} (Tick.Byte b) bytes h g =
   where
     one : (u : ℤ) (c : ℕ) {v : ℤ} → v ≡ u +ℤ (pulse_of c +ℤ pos 0) → v ≡ u +ℤ pulse_of c
     one u c e = e ∙ ap (λ (z : ℤ). u +ℤ z) (+ℤ_idr (pulse_of c))
-after_tick {from} (Tick.Refused n) bytes h g =
+after_tick {from} (Err n) bytes h g =
     record {
       x = g.x ∙ ap (λ (z : ℤ). z +ℤ pulses_in code_x bytes) (h.x ∙ +ℤ_idr from.x);
       y = g.y ∙ ap (λ (z : ℤ). z +ℤ pulses_in code_y bytes) (h.y ∙ +ℤ_idr from.y);

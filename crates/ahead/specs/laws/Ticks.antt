@@ -1,5 +1,5 @@
 -- The record after ticks: as it was where they are no working ones, else what a run leaves; and the bytes of a run's first ticks.
-use Rattle.std.specs.Prelude.{◌≡◌, Bool, true, false, ◌&&◌, ◌||◌, not, List, [], ◌∷◌, length, take}
+use Rattle.std.specs.Prelude.{◌≡◌, Bool, true, false, ◌&&◌, ◌||◌, not, List, [], ◌∷◌, length, take, Ok}
 use Rattle.std.proofs.Math.Path.{refl, ap}
 use Rattle.std.proofs.Common.{sym, subst, ◌∙◌, arith}
 use Prim.Native.Nat.{ℕ, zero, suc, ◌≤◌}
@@ -9,7 +9,6 @@ use Rattle.work.specs.computed.Work.{advance_of}
 use Rattle.run.specs.computed.Run.{Strip, in_front, strip_of}
 use Rattle.settings.specs.Settings.{capacity_of}
 use Rattle.bench.specs.declared.Bench.{Bench}
-use Rattle.bench.specs.declared.Tick.{Tick}
 use Rattle.bench.specs.declared.Ticked.{Ticked}
 use Rattle.bench.specs.computed.Bench.{sound_of}
 use Rattle.bench.specs.Bench.{moved_of}
@@ -31,7 +30,7 @@ ticking_sound (suc n) m e = ticking_sound n (tick_of m).bench (tick_keeps m e)
 -- ---- idle or held
 
 module _ (m : Bench) (e : sound_of m ≡ true) (still : m.held || is_nothing m.work ≡ true) where
-  tick_still : tick_of m ≡ ticks (Tick.Byte 0) m
+  tick_still : tick_of m ≡ ticks (Ok 0) m
   unfolding tick_of
   tick_still = rw (e, still)
 

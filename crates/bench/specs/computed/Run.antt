@@ -1,5 +1,6 @@
 -- 01, Ticks and runs: what a run answers, the bytes that it writes, and the record that it hands back, for any record whatever.
-use Rattle.std.specs.Prelude.{Bool, true, false, cond, List, [], ℕ, min, leb, length}
+use Rattle.std.specs.Prelude.{Bool, true, false, cond, List, [], ℕ, min, leb, length, Result, Ok, Err}
+use Rattle.question.specs.declared.Question.{Question}
 use Rattle.plane.specs.Byte.{cycles_marked}
 use Rattle.work.specs.Work.{is_nothing}
 use Rattle.run.specs.computed.Run.{Strip, strip_of}
@@ -25,7 +26,7 @@ abbrev pub ran_over : Bench → (budget : ℕ) → Strip → Run
 ran_over m budget s =
     record {
       ran = record {
-        report = report_of s.ended (leb budget (length s.bytes));
+        report = Ok (report_of s.ended (leb budget (length s.bytes)));
         ticks = length s.bytes;
         cycles = cycles_marked s.bytes;
         bench = moved_of m s.at s.remainder s.work;
@@ -33,14 +34,14 @@ ran_over m budget s =
       bytes = s.bytes;
     }
 
-abbrev pub no_tick : Bench → Report → Run
+abbrev pub no_tick : Bench → Result Report Question → Run
 no_tick m r = record { ran = record { report = r; ticks = 0; cycles = 0; bench = m }; bytes = [] }
 
 -- "It answers idle or held (idle first) with 0 ticks"
 unfoldable pub run_of : Bench → (budget buffer : ℕ) → Run
 run_of m budget buffer =
     cond (sound_of m)
-    (cond (is_nothing m.work) (no_tick m Report.Idle)
-    (cond m.held (no_tick m Report.Held)
+    (cond (is_nothing m.work) (no_tick m (Ok Report.Idle))
+    (cond m.held (no_tick m (Ok Report.Held))
     (ran_over m budget (strip_of (capacity_of m.settings) (min budget buffer) m.at m.remainder m.work))))
-    (no_tick m (Report.Refused 9))
+    (no_tick m (Err Question.Sound))

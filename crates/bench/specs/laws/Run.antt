@@ -1,5 +1,6 @@
 -- A run by what the record is: refused, idle, held, or at work.
-use Rattle.std.specs.Prelude.{◌≡◌, refl, Bool, true, false, cond, List, ℕ, min, leb, length}
+use Rattle.std.specs.Prelude.{◌≡◌, refl, Bool, true, false, cond, List, ℕ, min, leb, length, Result, Ok, Err}
+use Rattle.question.specs.declared.Question.{Question}
 use Rattle.work.specs.Work.{is_nothing}
 use Rattle.run.specs.declared.Ran.{Ran as Work}
 use Rattle.run.specs.computed.Run.{Strip, strip_of, ran_of, written}
@@ -17,21 +18,21 @@ module _ (m : Bench) (budget : ℕ) (out : List ℕ) where
   Done r buffer = (r ≡ (run_of m budget (length out)).ran) × (buffer ≡ written (run_of m budget (length out)).bytes out)
 
   -- without a tick
-  untouched : (r : Report) → run_of m budget (length out) ≡ no_tick m r → Done (no_tick m r).ran out
+  untouched : (r : Result Report Question) → run_of m budget (length out) ≡ no_tick m r → Done (no_tick m r).ran out
   unfolding written
   untouched r e = rw e (refl, refl)
 
-  pub run_refused : sound_of m ≡ false → Done (no_tick m (Report.Refused 9)).ran out
+  pub run_refused : sound_of m ≡ false → Done (no_tick m (Err Question.Sound)).ran out
   unfolding run_of
-  run_refused unsound = untouched (Report.Refused 9) (rw unsound)
+  run_refused unsound = untouched (Err Question.Sound) (rw unsound)
 
-  pub run_idle : sound_of m ≡ true → is_nothing m.work ≡ true → Done (no_tick m Report.Idle).ran out
+  pub run_idle : sound_of m ≡ true → is_nothing m.work ≡ true → Done (no_tick m (Ok Report.Idle)).ran out
   unfolding run_of
-  run_idle sound idle = untouched Report.Idle (rw (sound, idle))
+  run_idle sound idle = untouched (Ok Report.Idle) (rw (sound, idle))
 
-  pub run_held : sound_of m ≡ true → is_nothing m.work ≡ false → m.held ≡ true → Done (no_tick m Report.Held).ran out
+  pub run_held : sound_of m ≡ true → is_nothing m.work ≡ false → m.held ≡ true → Done (no_tick m (Ok Report.Held)).ran out
   unfolding run_of
-  run_held sound busy held = untouched Report.Held (rw (sound, busy, held))
+  run_held sound busy held = untouched (Ok Report.Held) (rw (sound, busy, held))
 
   -- at work
   abbrev pub ticking : Strip
@@ -41,7 +42,7 @@ module _ (m : Bench) (budget : ℕ) (out : List ℕ) where
       → after ≡ written ticking.bytes out
       → Done
       (record {
-        report = report_of r.ended (leb budget r.ticks);
+        report = Ok (report_of r.ended (leb budget r.ticks));
         ticks = r.ticks;
         cycles = r.cycles;
         bench = moved_of m r.at r.remainder r.work;
@@ -57,7 +58,7 @@ ticks_are m budget buffer = by (sound_of m) (is_nothing m.work) m.held (ran_over
     (strip_of (capacity_of m.settings) (min budget buffer) m.at m.remainder m.work)) refl
   where
     by : (sound idle held : Bool) (run : Run) → run.ran.ticks ≡ length run.bytes
-        → (let r = cond sound (cond idle (no_tick m Report.Idle) (cond held (no_tick m Report.Held) run)) (no_tick m (Report.Refused 9)) in
+        → (let r = cond sound (cond idle (no_tick m (Ok Report.Idle)) (cond held (no_tick m (Ok Report.Held)) run)) (no_tick m (Err Question.Sound)) in
         r.ran.ticks ≡ length r.bytes)
     by true true held run e = refl
     by true false true run e = refl

@@ -1,7 +1,6 @@
 -- `load_sound` is right because it asks the questions of the definition, and what they do not refuse is taken.
-use Rattle.std.proofs.Common.{◌≡◌, refl, sym, ap, ◌∙◌}
-use Rattle.question.specs.Question.{number_told}
-use Rattle.question.specs.laws.Number.{number_some}
+use Rattle.std.proofs.Common.{refl, sym, ◌∙◌}
+use Rattle.std.proofs.lemmas.Result.{err_from_is_err_and}
 use Rattle.calls.specs.laws.Load.{settings_pass, asks, load_refuses, load_takes, load_taken}
 use Rattle.calls.proofs.load_sound.Goals as goal
 
@@ -11,20 +10,26 @@ capacity-requires c = settings_pass c.requires
 pub ask_load-requires : goal.ask_load-requires
 ask_load-requires c = asks c.requires
 
-pub returns-in-Err : goal.returns-in-Err
-returns-in-Err c =
-    let told = ap number_told (sym c.in-Err.is ∙ c.ask_load.ensures) in
-    let after = load_refuses c.requires c.args.b c.capacity.ensures c.len_in-len.ensures told (number_some _) in
-    rw c.number.ensures (record { value = after.0; words_after = after.1 })
+pub returns-in_err-ask_load-clause-value : goal.returns-in_err-ask_load-clause-value
+returns-in_err-ask_load-clause-value c =
+    let e = err_from_is_err_and c.from_residual.result c.from_residual.ensures.1 in
+    rw (e.1, e.2)
+    (load_refuses c.requires c.args.b c.capacity.ensures c.len_in-len.ensures (sym c.in_err-ask_load.was ∙ c.ask_load.ensures) refl).0
+
+pub returns-in_err-ask_load-clause-words_after : goal.returns-in_err-ask_load-clause-words_after
+returns-in_err-ask_load-clause-words_after c =
+    (load_refuses c.requires c.args.b c.capacity.ensures c.len_in-len.ensures (sym c.in_err-ask_load.was ∙ c.ask_load.ensures) refl).1
 
 pub take-requires : goal.take-requires
 take-requires c =
-    load_takes c.requires c.args.b c.capacity.ensures c.len_in-len.ensures
-    (ap number_told (sym c.in_default.is ∙ c.ask_load.ensures)) refl refl
+    load_takes c.requires c.args.b c.capacity.ensures c.len_in-len.ensures (sym c.in_ok-ask_load.was ∙ c.ask_load.ensures) refl refl
 
-pub returns : goal.returns
-returns c =
-    let told = ap number_told (sym c.in_default.is ∙ c.ask_load.ensures) in
-    let after =
-    load_taken c.requires c.args.b c.capacity.ensures c.len_in-len.ensures told refl c.take.ensures.value c.take.ensures.words_after in
-    record { value = after.0; words_after = after.1 }
+pub returns-clause-value : goal.returns-clause-value
+returns-clause-value c =
+    (load_taken c.requires c.args.b c.capacity.ensures c.len_in-len.ensures (sym c.in_ok-ask_load.was ∙ c.ask_load.ensures) refl
+    c.take.ensures.value c.take.ensures.words_after).0
+
+pub returns-clause-words_after : goal.returns-clause-words_after
+returns-clause-words_after c =
+    (load_taken c.requires c.args.b c.capacity.ensures c.len_in-len.ensures (sym c.in_ok-ask_load.was ∙ c.ask_load.ensures) refl
+    c.take.ensures.value c.take.ensures.words_after).1

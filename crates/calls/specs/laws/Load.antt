@@ -1,13 +1,15 @@
 -- What a load on the words of a sound record asks, and what it leaves.
-use Rattle.std.specs.Prelude.{◌≡◌, true, List, ℕ, ◌≤◌, ltb, ℤ}
+use Rattle.std.specs.Prelude.{◌≡◌, true, List, ℕ, ◌≤◌, ltb, ℤ, Result, Ok, Err, ⊤}
 use Rattle.std.proofs.Math.Path.{refl, sym, ap}
 use Rattle.std.proofs.Common.{◌∙◌}
+use Rattle.question.specs.Question.{number_told}
+use Rattle.question.specs.declared.Question.{Question}
 use Rattle.whole.specs.laws.Test.{both}
 use Rattle.plane.specs.declared.point.Point.{Point}
 use Rattle.plane.specs.Travel.{inside_of}
 use Rattle.plane.specs.computed.Travel.{Wide}
 use Rattle.block.specs.declared.Block.{Block}
-use Rattle.block.specs.Questions.{load_no}
+use Rattle.block.specs.Questions.{ask_load}
 use Rattle.work.specs.declared.Work.{Work}
 use Rattle.work.specs.Work.{begun_of}
 use Rattle.settings.specs.Settings.{capacity_of}
@@ -61,38 +63,39 @@ module _ {ws : List ℤ} {k : Bench} {start : Point} (g : Asking ws k start) whe
 
   -- ---- the questions
 
-  module _ (b : Block) {q0 len no : ℕ} (q0_is : q0 ≡ capacity_of k.settings) (len_is : len ≡ len_in ws)
-      (no_is : no ≡ load_no q0 k.settings.travel (ltb len 16) start b) where
-    number : no ≡ load_no (capacity_of m.bench.settings) m.bench.settings.travel (ltb m.queue.len 16) start b
+  module _ (b : Block) {q0 len : ℕ} {asked : Result ⊤ Question} (q0_is : q0 ≡ capacity_of k.settings) (len_is : len ≡ len_in ws)
+      (asked_is : asked ≡ ask_load q0 k.settings.travel (ltb len 16) start b) where
+    answer_is : asked ≡ ask_load (capacity_of m.bench.settings) m.bench.settings.travel (ltb m.queue.len 16) start b
     unfolding machine_in
-    number = rw (q0_is, len_is, g.bench_is) at no_is
+    answer_is = rw (q0_is, len_is, g.bench_is) at asked_is
 
-    asked : load_with m b no ≡ load_of m b
+    loads : load_with m b asked ≡ load_of m b
     unfolding load_of
-    asked = rw (told_sound ws g.sound, ← start_own, ← number) refl
+    loads = rw (told_sound ws g.sound, ← start_own, ← answer_is) refl
 
     -- what a load answers, and the words after it
-    abbrev Loads : Answer → (after : List ℤ) → Type 0
+    abbrev Loads : Result Answer Question → (after : List ℤ) → Type 0
     Loads answer after = (answer ≡ (load_of m b).answer) × (after ≡ over (encode_of (load_of m b).machine) ws)
 
-    pub load_refuses : (no ≡ 0 → ⊥) → Loads (Answer.Refused no) ws
-    load_refuses some =
-        let is = load_refused m b no some ∙ asked in
+    pub load_refuses : {q : Question} → asked ≡ Err q → Loads (Err q) ws
+    load_refuses refused =
+        let is = load_refused m b asked refused ∙ loads in
         (ap (λ (a : Answered). a.answer) is, sym (own_words ws g.sound) ∙ ap (λ (a : Answered). over (encode_of a.machine) ws) is)
 
-    pub load_takes : no ≡ 0 → {w : Work} → w ≡ k.work → Loading ws w start b
+    pub load_takes : asked ≡ Ok tt → {w : Work} → w ≡ k.work → Loading ws w start b
     unfolding machine_in
     load_takes none w_is =
         record {
           sound = g.sound;
           work = w_is ∙ ap (λ (k : Bench). k.work) g.bench_is;
-          taking = record { sound = told_sound ws g.sound; start_is = start_own; asked = sym number ∙ none };
+          taking = record { sound = told_sound ws g.sound; start_is = start_own; asked = ap number_told (sym answer_is ∙ none) };
         }
 
-    pub load_taken : no ≡ 0 → {width : ℕ} {after : List ℤ} → width ≡ (begun_of start b).width
-        → after ≡ over (encode_of (load_with m b 0).machine) ws → Loads (Answer.Width width) after
+    pub load_taken : asked ≡ Ok tt → {width : ℕ} {after : List ℤ} → width ≡ (begun_of start b).width
+        → after ≡ over (encode_of (load_with m b (Ok tt)).machine) ws → Loads (Ok (Answer.Width width)) after
     load_taken none {width} width_is after_is =
-        let is : load_with m b 0 ≡ load_of m b = ap (load_with m b) (sym none) ∙ asked in (
-          ap Answer.Width (width_is ∙ ap (λ (p : Point). (begun_of p b).width) start_own) ∙ ap (λ (a : Answered). a.answer) is,
+        let is : load_with m b (Ok tt) ≡ load_of m b = ap (load_with m b) (sym none) ∙ loads in (
+          ap (λ (n : ℕ). Ok (Answer.Width n)) (width_is ∙ ap (λ (p : Point). (begun_of p b).width) start_own)
+              ∙ ap (λ (a : Answered). a.answer) is,
           after_is ∙ ap (λ (a : Answered). over (encode_of a.machine) ws) is,
         )

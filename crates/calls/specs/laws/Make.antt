@@ -1,11 +1,13 @@
 -- What a make lays are the words of the fresh record.
-use Rattle.std.specs.Prelude.{◌≡◌, refl, List, [], ◌∷◌, ◌++◌, ℕ, zero, suc, ◌+◌, ◌≤◌, ◌<◌, ℤ, pos, length, drop, set, get_or}
+use Rattle.std.specs.Prelude.{◌≡◌, refl, List, [], ◌∷◌, ◌++◌, ℕ, zero, suc, ◌+◌, ◌≤◌, ◌<◌, ℤ, pos, length, drop, set, get_or, Result, Ok, Err, ⊤}
 use Rattle.std.proofs.Common.{sym, ap, subst, ◌∙◌, add-one, arith, length-drop, drop-drop}
 use Rattle.std.proofs.Math.Seq.{paste, paste-suc, take-length}
+use Rattle.question.specs.Question.{number_of}
+use Rattle.question.specs.declared.Question.{Question}
 use Rattle.block.specs.Chain.{chain_cycles}
 use Rattle.queue.specs.Queue.{empty_queue}
 use Rattle.settings.specs.declared.Settings.{Settings}
-use Rattle.settings.specs.computed.Settings.{settings_no}
+use Rattle.settings.specs.computed.Settings.{ask_settings}
 use Rattle.settings.specs.Settings.{standard_settings}
 use Rattle.bench.specs.declared.Bench.{Bench}
 use Rattle.bench.specs.declared.Answered.{Answered}
@@ -62,9 +64,9 @@ fresh_laid s = refl
 pub make_told : (ws : List ℤ) → length ws ≡ 134 → (s : Settings) {a : Answered} → a ≡ bench_make s
     → tells (answer_number a.answer) (set (set (set (over (bench_words a.bench) ws) 19 (pos 0)) 20 (pos 0)) 21 (pos 0)) ≡ made_of ws s
 unfolding made_of make_of bench_make
-make_told ws long s {a} is = ap (tells (answer_number a.answer)) (figures_laid ws long a.bench) ∙ rw is (by (settings_no s))
+make_told ws long s {a} is = ap (tells (answer_number a.answer)) (figures_laid ws long a.bench) ∙ rw is (by (ask_settings s))
   where
-    by : (n : ℕ) → tells (answer_number (bench_with s n).answer) (over (fresh_words (bench_with s n).bench) ws)
-        ≡ told_answer ws (make_with s n)
-    by zero = ap (λ (l : List ℤ). tells (pos 0) (over l ws)) (fresh_laid s)
-    by (suc n) = ap (λ (l : List ℤ). tells (refusal_of (suc n)) (over l ws)) (fresh_laid standard_settings)
+    by : (r : Result ⊤ Question) → tells (answer_number (bench_with s r).answer) (over (fresh_words (bench_with s r).bench) ws)
+        ≡ told_answer ws (make_with s r)
+    by (Ok passed) = ap (λ (l : List ℤ). tells (pos 0) (over l ws)) (fresh_laid s)
+    by (Err q) = ap (λ (l : List ℤ). tells (refusal_of (number_of q)) (over l ws)) (fresh_laid standard_settings)

@@ -1,8 +1,9 @@
 -- A call by whether the words are those of a sound record.
-use Rattle.std.specs.Prelude.{◌≡◌, refl, Bool, List, ℕ, ◌-◌, ◌≤◌, ℤ, pos, negsuc, length}
+use Rattle.std.specs.Prelude.{◌≡◌, refl, Bool, List, ℕ, ◌-◌, ◌≤◌, ℤ, pos, negsuc, length, Result}
 use Rattle.std.proofs.Math.Path.{ap}
 use Rattle.std.proofs.Common.{◌∙◌}
 use Rattle.std.proofs.Math.Bool.{true, false}
+use Rattle.question.specs.declared.Question.{Question}
 use Rattle.run.specs.computed.Run.{written}
 use Rattle.block.specs.declared.Block.{Block}
 use Rattle.bench.specs.declared.Bench.{Bench}
@@ -55,7 +56,7 @@ module _ (ws : List ℤ) (t : sound_words ws ≡ true) where
   unfolding call_of stop_of machine_in
   stop_told = rw (told_sound ws t) at (told_call WordCall.stop)
 
-  pub load_told : (b : Block) {answer : Answer} {after : List ℤ} → answer ≡ (load_of (machine_in ws) b).answer
+  pub load_told : (b : Block) {answer : Result Answer Question} {after : List ℤ} → answer ≡ (load_of (machine_in ws) b).answer
       → after ≡ over (encode_of (load_of (machine_in ws) b).machine) ws → tells (answer_number answer) after ≡ told_of ws (WordCall.load b)
   unfolding call_of
   load_told b is stored = rw (is, stored) (told_call (WordCall.load b))

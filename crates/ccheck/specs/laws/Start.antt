@@ -2,8 +2,9 @@
 -- to the next fill.
 use Rattle.std.specs.Prelude.{◌≡◌, true, List, ℕ, ℤ}
 use Rattle.std.proofs.Common.{sym, ap, subst}
+use Rattle.question.specs.laws.Ask.{passed as all_asked}
 use Rattle.settings.specs.declared.Settings.{Settings}
-use Rattle.settings.specs.computed.Settings.{settings_no}
+use Rattle.settings.specs.computed.Settings.{settings_no, ask_settings}
 use Rattle.bench.specs.computed.Calls.{make_of}
 use Rattle.tally.specs.computed.Tally.{tally_from as tally_start}
 use Rattle.job.specs.declared.Check.{Check}
@@ -49,7 +50,7 @@ module _ (s : Settings) where
   -- settings that pass: the listing at them
   pub start_lists : settings_no s ≡ 0 → Lists s (check_from (make_of s).bench)
   unfolding make_of
-  start_lists e = rw e (listing_is s e)
+  start_lists e = rw (all_asked (ask_settings s) e) (listing_is s e)
 
 module _ {ws ps : List ℤ} {c : Check} (t : Told ws ps c) {text old : List ℕ} {answer : ℤ} {len : ℕ} {ws' ps' : List ℤ} {new : List ℕ} where
   pub hands : TellsFill ws ps text old answer len ws' ps' new → Hands c text old answer len ws' ps' new

@@ -1,9 +1,12 @@
 -- The record after a call, which is sound where the one before it was, and whose words tell it: so a caller may hand them to the next call.
-use Rattle.std.specs.Prelude.{◌≡◌, Bool, ℕ, zero, suc, ltb}
+use Rattle.std.specs.Prelude.{◌≡◌, Bool, ℕ, zero, suc, ltb, Result, Ok, Err, ⊤}
 use Rattle.std.proofs.Math.Path.{refl}
 use Rattle.std.proofs.Math.Bool.{true, false}
+use Rattle.std.proofs.Common.{ap}
+use Rattle.question.specs.Question.{number_told}
+use Rattle.question.specs.declared.Question.{Question}
 use Rattle.block.specs.declared.Block.{Block}
-use Rattle.block.specs.Questions.{load_no}
+use Rattle.block.specs.Questions.{ask_load}
 use Rattle.queue.specs.Queue.{empty_queue}
 use Rattle.work.specs.Work.{is_nothing, begun_of}
 use Rattle.settings.specs.Settings.{capacity_of}
@@ -39,22 +42,22 @@ module _ (m : Machine) (e : sound_of m ≡ true) (rest : Blanks m.queue) where
   parts : Sound m
   parts = sound m e
 
-  abbrev asked : Block → ℕ
+  abbrev asked : Block → Result ⊤ Question
   asked b =
-      let s = m.bench.settings in load_no (capacity_of s) s.travel (ltb m.queue.len 16) (start_of m.bench m.queue) b
+      let s = m.bench.settings in ask_load (capacity_of s) s.travel (ltb m.queue.len 16) (start_of m.bench m.queue) b
 
   load_blanks : (b : Block) → Blanks (load_of m b).machine.queue
   unfolding load_of machine_of
   load_blanks b = rw e (by (asked b) refl)
     where
-      taken : asked b ≡ 0 → (idle : Bool) → Blanks (takes m b idle (begun_of (start_of m.bench m.queue) b)).queue
+      taken : asked b ≡ Ok tt → (idle : Bool) → Blanks (takes m b idle (begun_of (start_of m.bench m.queue) b)).queue
       taken none true = rest
       taken none false =
-          push_blanks m.queue _ (room_left {m = m} (record { sound = e; start_is = refl; asked = none })) rest
+          push_blanks m.queue _ (room_left {m = m} (record { sound = e; start_is = refl; asked = ap number_told none })) rest
 
-      by : (n : ℕ) → asked b ≡ n → Blanks (load_with m b n).machine.queue
-      by zero none = taken none (is_nothing m.bench.work)
-      by (suc n) some = rest
+      by : (r : Result ⊤ Question) → asked b ≡ r → Blanks (load_with m b r).machine.queue
+      by (Ok passed) none = taken none (is_nothing m.bench.work)
+      by (Err q) some = rest
 
   tick_blanks : Blanks (tick_of m).machine.queue
   unfolding tick_of

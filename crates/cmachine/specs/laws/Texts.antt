@@ -1,10 +1,11 @@
 -- A line by whether the words are such, and by what it asks.
-use Rattle.std.specs.Prelude.{◌≡◌, Bool, true, false, Some, None, cond, List, ℕ, zero, suc, ◌≤◌, ltb, ℤ, negsuc, length}
+use Rattle.std.specs.Prelude.{◌≡◌, Bool, true, false, Some, None, cond, List, ℕ, zero, suc, ◌≤◌, ltb, ℤ, negsuc, length, Result, Ok, Err, ⊤}
 use Rattle.std.proofs.Math.Path.{refl}
 use Rattle.std.proofs.Common.{sym, ap, ◌∙◌, arith}
+use Rattle.question.specs.declared.Question.{Question}
 use Rattle.plane.specs.declared.point.Point.{Point}
 use Rattle.block.specs.declared.Block.{Block}
-use Rattle.block.specs.Questions.{load_no}
+use Rattle.block.specs.Questions.{ask_load}
 use Rattle.words.specs.computed.Meaning.{meaning_of}
 use Rattle.settings.specs.Settings.{capacity_of}
 use Rattle.settings.specs.laws.Right.{settings_right}
@@ -34,16 +35,16 @@ use Rattle.cmachine.specs.Texts.{read_number}
 use Rattle.cmachine.specs.computed.Texts.{heard_of, loads_of, tells_line, told_line_of}
 
 -- a refused load hands the record back as it was
-pub load_same : (m : Machine) (b : Block) {number : ℕ} → (load_of m b).answer ≡ Answer.Refused number → (load_of m b).machine ≡ m
+pub load_same : (m : Machine) (b : Block) {q : Question} → (load_of m b).answer ≡ Err q → (load_of m b).machine ≡ m
 unfolding load_of
 load_same m b = by (sound_of m) (let s = m.bench.settings in
-    load_no (capacity_of s) s.travel (ltb m.queue.len 16) (start_of m.bench m.queue) b)
+    ask_load (capacity_of s) s.travel (ltb m.queue.len 16) (start_of m.bench m.queue) b)
   where
-    by : (sound : Bool) (asked : ℕ) {number : ℕ}
-        → (cond sound (load_with m b asked) (record { answer = Answer.Refused 9; machine = m })).answer ≡ Answer.Refused number
-        → (cond sound (load_with m b asked) (record { answer = Answer.Refused 9; machine = m })).machine ≡ m
-    by true zero e = let none : ◌≡◌ {A = ℕ} 0 1 = cc in absurd (omega (arith, none))
-    by true (suc n) e = refl
+    by : (sound : Bool) (asked : Result ⊤ Question) {q : Question}
+        → (cond sound (load_with m b asked) (record { answer = Err Question.Sound; machine = m })).answer ≡ Err q
+        → (cond sound (load_with m b asked) (record { answer = Err Question.Sound; machine = m })).machine ≡ m
+    by true (Ok passed) e = let none : ◌≡◌ {A = ℕ} 0 1 = cc in absurd (omega (arith, none))
+    by true (Err q) e = refl
     by false asked e = refl
 
 -- ---- what the words become, by what the line asks
@@ -56,15 +57,15 @@ module _ (ws : List ℤ) (before : Reader) where
   abbrev Hears : ReadLine → Heard → (after : List ℤ) → Type 0
   Hears r h after = (h ≡ heard_of r) × (after ≡ over (encode_of r.machine) ws)
 
-  pub line_loads : (after : Reader) (b : Block) {answer : Answer} {now : List ℤ} → answer ≡ (load_of m b).answer
-      → now ≡ over (encode_of (load_of m b).machine) ws → {a : Answer} → answer ≡ a
+  pub line_loads : (after : Reader) (b : Block) {answer : Result Answer Question} {now : List ℤ} → answer ≡ (load_of m b).answer
+      → now ≡ over (encode_of (load_of m b).machine) ws → {a : Result Answer Question} → answer ≡ a
       → Hears (loads_of before after m b) (heard_of (loaded before after m m a)) now
   line_loads after b {answer} {now} is stored {a} e = by a (sym is ∙ e)
     where
-      by : (a : Answer) → (load_of m b).answer ≡ a → Hears (loads_of before after m b) (heard_of (loaded before after m m a)) now
-      by Answer.Done e = rw e (refl, stored)
-      by (Answer.Width bits) e = rw e (refl, stored)
-      by (Answer.Refused number) e = rw e (refl, stored ∙ ap (λ (n : Machine). over (encode_of n) ws) (load_same m b e))
+      by : (a : Result Answer Question) → (load_of m b).answer ≡ a → Hears (loads_of before after m b) (heard_of (loaded before after m m a)) now
+      by (Ok Answer.Done) e = rw e (refl, stored)
+      by (Ok (Answer.Width bits)) e = rw e (refl, stored)
+      by (Err q) e = rw e (refl, stored ∙ ap (λ (n : Machine). over (encode_of n) ws) (load_same m b e))
 
   -- a line that asks for no block leaves them
   module _ (t : sound_words ws ≡ true) (a : Asked) where

@@ -1,6 +1,8 @@
 -- The register width of an accepted block has a few bits itself, so that its word is not negative.
-use Rattle.std.specs.Prelude.{◌≡◌, refl, true, ltb, nat_abs, ℕ, ◌^◌, zero, suc, ◌≤◌, ◌<◌, max}
-use Rattle.std.proofs.Common.{subst, arith, leb-true}
+use Rattle.std.specs.Prelude.{◌≡◌, refl, true, ltb, nat_abs, ℕ, ◌^◌, zero, suc, ◌≤◌, ◌<◌, max, Ok, Result, Err, ⊤}
+use Rattle.std.proofs.Common.{subst, arith, leb-true, ap}
+use Rattle.question.specs.Question.{number_told}
+use Rattle.question.specs.declared.Question.{Question}
 use Rattle.whole.specs.Root.{nearest_root}
 use Rattle.whole.specs.Width.{width_of}
 use Rattle.whole.specs.laws.Root.{nearest_root_lem}
@@ -14,7 +16,7 @@ use Rattle.block.specs.declared.Block.{Block}
 use Rattle.block.specs.declared.Path.{Path}
 use Rattle.block.specs.Block.{arc_of, width_along, block_width}
 use Rattle.block.proofs.laws.Begin.{offset_right_lem, square_some, square_most}
-use Rattle.block.specs.Questions.{load_no}
+use Rattle.block.specs.Questions.{ask_load}
 use Rattle.work.specs.Work.{begun_of}
 use Rattle.work.specs.computed.Asked.{Loadable}
 use Rattle.work.specs.laws.Left.{accepted_loadable}
@@ -48,21 +50,21 @@ width_few start b (Path.Arc turn o) h =
     few _ (root_few _ (square_some o r) (square_most o r))
 
 -- a load of a sound record that answers a width
-pub width_word : (m : Machine) → sound_of m ≡ true → (b : Block) {n : ℕ} → (load_of m b).answer ≡ Answer.Width n → n < 2 ^ 63
+pub width_word : (m : Machine) → sound_of m ≡ true → (b : Block) {n : ℕ} → (load_of m b).answer ≡ Ok (Answer.Width n) → n < 2 ^ 63
 unfolding load_of begun_of block_width
 width_word m e b = rw e (by (asked_of m) refl)
   where
     start : Point
     start = start_of m.bench m.queue
 
-    asked_of : Machine → ℕ
+    asked_of : Machine → Result ⊤ Question
     asked_of m =
         let s = m.bench.settings in
-        load_no (capacity_of s) s.travel (ltb m.queue.len 16) (start_of m.bench m.queue) b
+        ask_load (capacity_of s) s.travel (ltb m.queue.len 16) (start_of m.bench m.queue) b
 
-    by : (number : ℕ) → asked_of m ≡ number → {n : ℕ} → (load_with m b number).answer ≡ Answer.Width n → n < 2 ^ 63
-    by zero asked {n} is =
-        let h = accepted_loadable (taken_accepted {m = m} {start = start} (record { sound = e; start_is = refl; asked = asked })) in
+    by : (r : Result ⊤ Question) → asked_of m ≡ r → {n : ℕ} → (load_with m b r).answer ≡ Ok (Answer.Width n) → n < 2 ^ 63
+    by (Ok passed) asked {n} is =
+        let h = accepted_loadable (taken_accepted {m = m} {start = start} (record { sound = e; start_is = refl; asked = ap number_told asked })) in
         let w : width_along start b b.path ≡ n = cc in
         subst (λ (k : ℕ). k < 2 ^ 63) w (width_few start b b.path h)
-    by (suc number) asked {n} is = let none : ◌≡◌ {A = ℕ} 0 1 = cc in omega (arith, none)
+    by (Err q) asked {n} is = let none : ◌≡◌ {A = ℕ} 0 1 = cc in omega (arith, none)

@@ -2,8 +2,9 @@
 -- wrote to the next read.
 use Rattle.std.specs.Prelude.{◌≡◌, true, List, [], ◌++◌, ℕ, ℤ, take, drop}
 use Rattle.std.proofs.Common.{sym, ap, subst, ◌∙◌}
+use Rattle.question.specs.laws.Ask.{passed as all_asked}
 use Rattle.settings.specs.declared.Settings.{Settings}
-use Rattle.settings.specs.computed.Settings.{settings_no}
+use Rattle.settings.specs.computed.Settings.{settings_no, ask_settings}
 use Rattle.bench.specs.computed.Calls.{make_of}
 use Rattle.tally.specs.computed.Tally.{tally_from}
 use Rattle.job.specs.laws.Listing.{made_rests}
@@ -48,7 +49,7 @@ module _ (s : Settings) where
   -- settings that pass: the panel's listing at them
   pub start_lists : settings_no s ≡ 0 → Lists s (start_of (make_of s).bench)
   unfolding make_of
-  start_lists e = rw e (panel_is s e)
+  start_lists e = rw (all_asked (ask_settings s) e) (panel_is s e)
 
 module _ {ws ps : List ℤ} {c : PanelCheck} (t : Told ws ps c) {scratch piece : List ℕ} {last : ℤ} {old : List ℕ} {after : ToldRead} where
   pub hands : TellsRead ws ps scratch piece last old after → Hands c scratch piece (is_last last) old after

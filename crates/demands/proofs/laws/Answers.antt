@@ -1,14 +1,16 @@
 -- Each call answers by the first no of its questions.
-use Rattle.std.specs.Prelude.{◌≡◌, Bool, ◌||◌, ◌↔◌, List, ℕ, zero, suc, min, leb, ltb, length}
+use Rattle.std.specs.Prelude.{◌≡◌, Bool, ◌||◌, ◌↔◌, List, ℕ, min, leb, ltb, length, Ok, Err, Result, ⊤}
 use Rattle.std.proofs.Math.Path.{refl}
 use Rattle.std.proofs.Common.{◌∙◌, leb-true, le-leb, ltb-true, lt-ltb}
 use Rattle.std.proofs.Math.Bool.{true, false, cond}
 use Rattle.std.proofs.Math.ListN.{take}
 use Rattle.std.specs.Borrow.{MutBor}
 use contract.Lifetimes.{Lfts}
+use Rattle.question.specs.declared.Question.{Question}
 use Rattle.block.specs.declared.Block.{Block}
-use Rattle.whole.specs.Ask.{ask}
-use Rattle.block.specs.Questions.{load_no}
+use Rattle.question.specs.Question.{ask, number_of, number_told}
+use Rattle.question.specs.laws.Number.{number_some}
+use Rattle.block.specs.Questions.{ask_load}
 use Rattle.queue.specs.Queue.{empty_queue}
 use Rattle.work.specs.declared.Work.{Work}
 use Rattle.work.specs.Work.{is_nothing}
@@ -16,10 +18,9 @@ use Rattle.work.specs.computed.Work.{advance_of}
 use Rattle.run.specs.computed.Run.{Strip, strip_of, written}
 use Rattle.settings.specs.declared.Settings.{Settings}
 use Rattle.settings.specs.Settings.{feed_unit, capacity_of, standard_settings}
-use Rattle.settings.specs.computed.Settings.{settings_no}
+use Rattle.settings.specs.computed.Settings.{settings_no, ask_settings}
 use Rattle.bench.specs.declared.Bench.{Bench}
 use Rattle.bench.specs.declared.Answer.{Answer}
-use Rattle.bench.specs.declared.Tick.{Tick}
 use Rattle.bench.specs.declared.Report.{Report}
 use Rattle.bench.specs.computed.Bench.{sound_of as bench_sound}
 use Rattle.bench.specs.Bench.{moved_of}
@@ -44,27 +45,28 @@ use Rattle.demands.specs.Asked.{none, AsAsked}
 use Rattle.demands.specs.Bench.{settings_questions}
 use Rattle.demands.specs.Answers.{ran_reply, Unlooked}
 use Rattle.demands.specs.Questions.{sound_question, look_questions, FewerWaiting, next_start, load_questions}
-use Rattle.demands.proofs.laws.Asked.{Verdict, asked, none_asked, is_refused, Says, judged}
+use Rattle.demands.proofs.laws.Asked.{Verdict, questioned, none_asked, is_refused, Says, says_some, judged}
 use Rattle.demands.proofs.laws.Bench.{settings_verdict}
 use Rattle.demands.proofs.laws.Load.{block_verdict}
 use Rattle.demands.proofs.laws.Sound.{sound_is}
 
 -- ---- make
 
-make_says : (s : Settings) (n : ℕ) → Says n (answer_reply (make_with s n).answer)
-make_says s zero = refl
-make_says s (suc n) = refl
+make_says : (s : Settings) (asked : Result ⊤ Question) → Says (number_told asked) (answer_reply (make_with s asked).answer)
+make_says s (Ok passed) = refl
+make_says s (Err q) = says_some (number_of q) (number_some q)
 
-make_kept : (s : Settings) (n : ℕ) → (n ≡ 0 → ⊥) → (make_with s n).machine ≡ fresh_of standard_settings
-make_kept s zero some = absurd (some refl)
-make_kept s (suc n) some = refl
+make_kept : (s : Settings) (asked : Result ⊤ Question) → (number_told asked ≡ 0 → ⊥)
+    → (make_with s asked).machine ≡ fresh_of standard_settings
+make_kept s (Ok passed) some = absurd (some refl)
+make_kept s (Err q) some = refl
 
 pub make_answers : (s : Settings) (r : Answered) → Makes s r
     → AsAsked (settings_questions s) (answer_reply r.answer) (r.machine ≡ fresh_of standard_settings)
 unfolding make_of
 make_answers s r e =
-    let n = settings_no s in
-    rw e (judged n (settings_verdict s) (make_says s n) (make_kept s n))
+    let asked = ask_settings s in
+    rw e (judged (settings_no s) (settings_verdict s) (make_says s asked) (make_kept s asked))
 
 -- ---- load
 
@@ -72,35 +74,36 @@ pub fewer_is : (m : Machine) → (ltb m.queue.len 16 ≡ true) ↔ FewerWaiting 
 fewer_is m = (ltb-true m.queue.len 16, lt-ltb m.queue.len 16)
 
 module _ (m : Machine) (b : Block) where
-  load_says : (n : ℕ) → Says n (answer_reply (load_with m b n).answer)
-  load_says zero = refl
-  load_says (suc n) = refl
+  load_says : (asked : Result ⊤ Question) → Says (number_told asked) (answer_reply (load_with m b asked).answer)
+  load_says (Ok passed) = refl
+  load_says (Err q) = says_some (number_of q) (number_some q)
 
-  load_kept : (n : ℕ) → (n ≡ 0 → ⊥) → (load_with m b n).machine ≡ m
-  load_kept zero some = absurd (some refl)
-  load_kept (suc n) some = refl
+  load_kept : (asked : Result ⊤ Question) → (number_told asked ≡ 0 → ⊥) → (load_with m b asked).machine ≡ m
+  load_kept (Ok passed) some = absurd (some refl)
+  load_kept (Err q) some = refl
 
-  abbrev load_number : ℕ
-  load_number = load_no (capacity_of m.bench.settings) m.bench.settings.travel (ltb m.queue.len 16) (next_start m) b
+  abbrev block_asked : Result ⊤ Question
+  block_asked = ask_load (capacity_of m.bench.settings) m.bench.settings.travel (ltb m.queue.len 16) (next_start m) b
 
-  abbrev pub load_number_lem : ℕ
-  load_number_lem = ask (sound_of m) load_number 9
+  abbrev pub load_asked : Result ⊤ Question
+  load_asked = ask (sound_of m) block_asked Question.Sound
 
-  pub load_verdict : Verdict (load_questions m b) load_number_lem
+  pub load_verdict : Verdict (load_questions m b) (number_told load_asked)
   load_verdict =
-      asked (sound_of m) 8 (sound_is m)
+      questioned (sound_of m) Question.Sound _ (sound_is m)
       (λ _. block_verdict m.bench.settings (next_start m) b feed_unit (ltb m.queue.len 16) (fewer_is m))
 
-  load_by : (sound : Bool) (n : ℕ) → cond sound (load_with m b n) (answers (Answer.Refused 9) m) ≡ load_with m b (ask sound n 9)
-  load_by true n = refl
-  load_by false n = refl
+  load_by : (sound : Bool) (asked : Result ⊤ Question)
+      → cond sound (load_with m b asked) (answers (Err Question.Sound) m) ≡ load_with m b (ask sound asked Question.Sound)
+  load_by true asked = refl
+  load_by false asked = refl
 
-  pub load_is : load_of m b ≡ load_with m b load_number_lem
+  pub load_is : load_of m b ≡ load_with m b load_asked
   unfolding load_of
-  load_is = load_by (sound_of m) load_number
+  load_is = load_by (sound_of m) block_asked
 
   pub load_answers : (r : Answered) → Loads m b r → AsAsked (load_questions m b) (answer_reply r.answer) (r.machine ≡ m)
-  load_answers r e = rw (e ∙ load_is) (judged load_number_lem load_verdict (load_says load_number_lem) (load_kept load_number_lem))
+  load_answers r e = rw (e ∙ load_is) (judged (number_told load_asked) load_verdict (load_says load_asked) (load_kept load_asked))
 
 -- ---- the other calls on a record
 
@@ -112,7 +115,7 @@ tick_given k e = rw e (by (k.held || is_nothing k.work))
     by : (still : Bool)
         → is_refused
         (tick_reply
-        (cond still (bench_ticks (Tick.Byte 0) k)
+        (cond still (bench_ticks (Ok 0) k)
         (working k (advance_of (capacity_of k.settings) k.at k.remainder k.work))).tick) ≡ false
     by true = refl
     by false = refl
@@ -125,21 +128,21 @@ run_given k e budget buffer told = rw e (by (is_nothing k.work) k.held)
     strip : Strip
     strip = strip_of (capacity_of k.settings) (min budget buffer) k.at k.remainder k.work
 
-    ran : (ended spent : Bool) (n : ℕ) (bytes : List ℕ) → is_refused (run_reply (report_of ended spent) n bytes) ≡ false
+    ran : (ended spent : Bool) (n : ℕ) (bytes : List ℕ) → is_refused (run_reply (Ok (report_of ended spent)) n bytes) ≡ false
     ran true spent n bytes = refl
     ran false true n bytes = refl
     ran false false n bytes = refl
 
     by : (idle held : Bool)
-        → (let r = cond idle (bench_no_tick k Report.Idle) (cond held (bench_no_tick k Report.Held) (ran_over k budget strip)) in
+        → (let r = cond idle (bench_no_tick k (Ok Report.Idle)) (cond held (bench_no_tick k (Ok Report.Held)) (ran_over k budget strip)) in
         is_refused (run_reply r.ran.report r.ran.ticks (told r.ran.ticks r.bytes)) ≡ false)
     by true held = refl
     by false true = refl
     by false false = ran strip.ended _ _ _
 
 module _ (m : Machine) where
-  sound_verdict : Verdict (sound_question m none) (ask (sound_of m) 0 9)
-  sound_verdict = asked (sound_of m) 8 (sound_is m) (λ _. none_asked)
+  sound_verdict : Verdict (sound_question m none) (number_told (ask (sound_of m) (Ok tt) Question.Sound))
+  sound_verdict = questioned (sound_of m) Question.Sound _ (sound_is m) (λ _. none_asked)
 
   -- a call that answers 9 where the record is not sound, and else no refusal
   by_sound : {A : Type 0} (reply : A → Reply) (Kept : A → Type 0) (accepted refused : A)
@@ -148,7 +151,7 @@ module _ (m : Machine) where
       → (r : A) → r ≡ cond (sound_of m) accepted refused → AsAsked (sound_question m none) (reply r) (Kept r)
   by_sound reply Kept accepted refused yes_says no_says same r e = rw e (by (sound_of m) refl sound_verdict)
     where
-      by : (sound : Bool) → sound_of m ≡ sound → Verdict (sound_question m none) (ask sound 0 9)
+      by : (sound : Bool) → sound_of m ≡ sound → Verdict (sound_question m none) (number_told (ask sound (Ok tt) Question.Sound))
           → (let r = cond sound accepted refused in AsAsked (sound_question m none) (reply r) (Kept r))
       by true s v = judged 0 v (yes_says s) (λ some. absurd (some refl))
       by false s v = judged 9 v no_says (λ some. same)
@@ -161,23 +164,23 @@ module _ (m : Machine) where
 
   pub hold_answers : (r : Answered) → Holds m r → AsAsked (sound_question m none) (answer_reply r.answer) (r.machine ≡ m)
   unfolding hold_of
-  hold_answers r e = by_sound says Same (answers Answer.Done (mark_of m true)) (answers (Answer.Refused 9) m) (λ s. refl) refl refl r e
+  hold_answers r e = by_sound says Same (answers (Ok Answer.Done) (mark_of m true)) (answers (Err Question.Sound) m) (λ s. refl) refl refl r e
 
   pub release_answers : (r : Answered) → Releases m r → AsAsked (sound_question m none) (answer_reply r.answer) (r.machine ≡ m)
   unfolding release_of
-  release_answers r e = by_sound says Same (answers Answer.Done (mark_of m false)) (answers (Answer.Refused 9) m) (λ s. refl) refl refl r e
+  release_answers r e = by_sound says Same (answers (Ok Answer.Done) (mark_of m false)) (answers (Err Question.Sound) m) (λ s. refl) refl refl r e
 
   pub stop_answers : (r : Answered) → Stops m r → AsAsked (sound_question m none) (answer_reply r.answer) (r.machine ≡ m)
   unfolding stop_of
   stop_answers r e =
-      by_sound says Same (answers Answer.Done (machine_of (moved_of m.bench m.bench.at 0 Work.Nothing) empty_queue))
-      (answers (Answer.Refused 9) m) (λ s. refl) refl refl r e
+      by_sound says Same (answers (Ok Answer.Done) (machine_of (moved_of m.bench m.bench.at 0 Work.Nothing) empty_queue))
+      (answers (Err Question.Sound) m) (λ s. refl) refl refl r e
 
   -- a sound machine's bench refuses nothing
   pub tick_answers : (r : Ticked) → Ticks m r → AsAsked (sound_question m none) (tick_reply r.tick) (r.machine ≡ m)
   unfolding tick_of
   tick_answers r e =
-      by_sound (λ r. tick_reply r.tick) (λ r. r.machine ≡ m) _ (ticks (Tick.Refused 9) m)
+      by_sound (λ r. tick_reply r.tick) (λ r. r.machine ≡ m) _ (ticks (Err Question.Sound) m)
       (λ e. tick_given m.bench (sound m e).bench) refl refl r e
 
   pub run_answers : (κs : Lfts 1) (budget : ℕ) (out out' : MutBor (List ℕ)) (r : Ran) → Runs κs m budget out out' r
@@ -189,24 +192,27 @@ module _ (m : Machine) where
       (λ k. run_reply k.ran.report k.ran.ticks (take k.ran.ticks (written k.bytes out.now)))
       (λ k. (k.ran.machine ≡ m) × (k.ran.ticks ≡ 0) × (written k.bytes out.now ≡ out.now))
       (ran_on m (bench_run m.bench budget (length out.now)))
-      (no_tick m (Report.Refused 9))
+      (no_tick m (Err Question.Sound))
       (λ e. run_given m.bench (sound m e).bench budget (length out.now) (λ n bytes. take n (written bytes out.now))) refl
       (refl, refl, refl) (run_of m budget (length out.now)) refl)
 
 -- ---- a look-ahead
 
 module _ (m : Machine) (ticks : ℕ) where
-  look_verdict : Verdict (look_questions m ticks) (ask (sound_of m) (ask (leb ticks 1000000) 0 38) 9)
+  abbrev look_asked : (sound most : Bool) → Result ⊤ Question
+  look_asked sound most = ask sound (ask most (Ok tt) Question.LookLength) Question.Sound
+
+  look_verdict : Verdict (look_questions m ticks) (number_told (look_asked (sound_of m) (leb ticks 1000000)))
   look_verdict =
-      asked (sound_of m) 8 (sound_is m) (λ _.
-      asked (leb ticks 1000000) 37 (leb-true ticks 1000000, le-leb ticks 1000000) (λ _. none_asked))
+      questioned (sound_of m) Question.Sound _ (sound_is m) (λ _.
+      questioned (leb ticks 1000000) Question.LookLength _ (leb-true ticks 1000000, le-leb ticks 1000000) (λ _. none_asked))
 
   pub look_answers : (r : Ahead) → Looks m ticks r → AsAsked (look_questions m ticks) (answer_reply r.answer) (Unlooked m r)
   unfolding ahead_of
   look_answers r e = rw e (by (sound_of m) (leb ticks 1000000) look_verdict)
     where
-      by : (sound most : Bool) → Verdict (look_questions m ticks) (ask sound (ask most 0 38) 9)
-          → (let a = cond sound (cond most (looked m (ticking_of ticks m)) (refusing m 38)) (refusing m 9) in
+      by : (sound most : Bool) → Verdict (look_questions m ticks) (number_told (look_asked sound most))
+          → (let a = cond sound (cond most (looked m (ticking_of ticks m)) (refusing m Question.LookLength)) (refusing m Question.Sound) in
           AsAsked (look_questions m ticks) (answer_reply a.answer) (Unlooked m a))
       by true true v = judged 0 v refl (λ some. absurd (some refl))
       by true false v = judged 38 v refl (λ some. (refl, refl, refl))

@@ -1,10 +1,11 @@
 -- An arc's load, its ticks and its walk, by the paper's circle points.
-use Rattle.std.specs.Prelude.{◌≡◌, Bool, true, false, ◌||◌, ◌≢◌, List, [], ◌∷◌, ℕ, zero, suc, ◌+◌, ◌-◌, ◌*◌, ◌≤◌, T, leb, length, ℤ, pos}
+use Rattle.std.specs.Prelude.{◌≡◌, Bool, true, false, ◌||◌, ◌≢◌, List, [], ◌∷◌, ℕ, zero, suc, ◌+◌, ◌-◌, ◌*◌, ◌≤◌, T, leb, length, ℤ, pos, Result, Ok, Err}
 use Rattle.std.specs.Prelude.{negsuc, nat_abs, ◌+ℤ◌, ◌-ℤ◌}
 use Rattle.std.proofs.Math.Path.{refl, ap, subst}
 use Rattle.std.proofs.Common.{sym, ◌∙◌, leb-true, leb-false}
 use Rattle.std.proofs.Math.Bool.{cond}
 use native.Mathlib.Omega.{arith}
+use Rattle.question.specs.declared.Question.{Question}
 use Rattle.whole.specs.Root.{nearest_root}
 use Rattle.whole.specs.laws.Test.{refuted}
 use Rattle.whole.specs.laws.Difference.{ring, var, ◌⊕◌, ◌⊖◌}
@@ -47,7 +48,6 @@ use Rattle.settings.specs.Settings.{capacity_of}
 use Rattle.queue.specs.declared.Queue.{Queue}
 use Rattle.queue.specs.Queue.{waiting}
 use Rattle.bench.specs.declared.Bench.{Bench}
-use Rattle.bench.specs.declared.Tick.{Tick}
 use Rattle.bench.specs.declared.Ticked.{Ticked as BenchTicked}
 use Rattle.bench.specs.Bench.{moved_of}
 use Rattle.bench.specs.computed.Calls.{ticks as bench_ticks, working, tick_of as bench_tick}
@@ -230,33 +230,33 @@ data Steps (a : Arc) (k : Bench) (byte : ℕ) (k' : Bench) : Type 0 where
   ends : cycle_mark byte ≡ 1 → Next a.square a.turn (seen_from a.centre k.at) (seen_from a.centre k'.at)
       → end_mark byte ≡ 1 → Steps a k byte k'
 
-abbrev byte_of : Tick → ℕ
-byte_of (Tick.Byte b) = b
-byte_of (Tick.Refused n) = 0
+abbrev byte_of : Result ℕ Question → ℕ
+byte_of (Ok b) = b
+byte_of (Err n) = 0
 
 -- idle or held: the byte is 0, and the bench stays
-pub idle_rest : (k : Bench) → BenchSound k → k.work ≡ Work.Nothing → bench_tick k ≡ bench_ticks (Tick.Byte 0) k
+pub idle_rest : (k : Bench) → BenchSound k → k.work ≡ Work.Nothing → bench_tick k ≡ bench_ticks (Ok 0) k
 unfolding bench_tick
 idle_rest k s e = rw ((bench_is k).1 s, ap is_nothing e) (by k.held)
   where
     by : (held : Bool)
-        → cond (held || true) (bench_ticks (Tick.Byte 0) k)
-        (working k (advance_of (capacity_of k.settings) k.at k.remainder k.work)) ≡ bench_ticks (Tick.Byte 0) k
+        → cond (held || true) (bench_ticks (Ok 0) k)
+        (working k (advance_of (capacity_of k.settings) k.at k.remainder k.work)) ≡ bench_ticks (Ok 0) k
     by true = refl
     by false = refl
 
-pub held_rest : (k : Bench) → BenchSound k → k.held ≡ true → bench_tick k ≡ bench_ticks (Tick.Byte 0) k
+pub held_rest : (k : Bench) → BenchSound k → k.held ≡ true → bench_tick k ≡ bench_ticks (Ok 0) k
 unfolding bench_tick
 held_rest k s e = rw ((bench_is k).1 s, e)
 
-module _ (a : Arc) (k : Bench) (byte : ℕ) (told : (bench_tick k).tick ≡ Tick.Byte byte) where
+module _ (a : Arc) (k : Bench) (byte : ℕ) (told : (bench_tick k).tick ≡ Ok byte) where
   abbrev t : BenchTicked
   t = bench_tick k
 
   byte_is : {r : BenchTicked} → t ≡ r → byte_of r.tick ≡ byte
   byte_is e = ap byte_of (sym (ap (λ (r : BenchTicked). r.tick) e) ∙ told)
 
-  resting : t ≡ bench_ticks (Tick.Byte 0) k → k.work ≡ Work.Arc a → Steps a k byte t.bench
+  resting : t ≡ bench_ticks (Ok 0) k → k.work ≡ Work.Arc a → Steps a k byte t.bench
   resting e work =
       stays (sym (ap cycle_mark (byte_is e))) (ap (λ (r : BenchTicked). r.bench.at) e)
       (ap (λ (r : BenchTicked). r.bench.work) e ∙ work)

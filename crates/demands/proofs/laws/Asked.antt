@@ -99,6 +99,10 @@ abbrev pub Says : ℕ → Reply → Type 0
 Says zero r = is_refused r ≡ false
 Says (suc n) r = r ≡ Reply.refused (suc n)
 
+pub says_some : (n : ℕ) → (n ≡ 0 → ⊥) → Says n (Reply.refused n)
+says_some zero some = absurd (some refl)
+says_some (suc n) some = refl
+
 pub judged : {qs : Questions} {reply : Reply} {Kept : Type 0} (n : ℕ) → Verdict qs n → Says n reply → ((n ≡ 0 → ⊥) → Kept)
     → AsAsked qs reply Kept
 judged {qs} {reply} zero v s stays =

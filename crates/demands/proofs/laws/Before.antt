@@ -1,11 +1,13 @@
 -- The tick bytes that a stream hands out are those of the book; and with the unit's laws these are those of before.
-use Rattle.std.specs.Prelude.{◌≡◌, Bool, cond, ℕ, zero, suc, ◌+◌, ◌*◌, ◌/◌, ◌%◌, ◌≤◌, leb, drop}
+use Rattle.std.specs.Prelude.{◌≡◌, Bool, cond, ℕ, zero, suc, ◌+◌, ◌*◌, ◌/◌, ◌%◌, ◌≤◌, leb, drop, Result, Ok, Err}
 use Rattle.std.proofs.Math.Path.{refl, sym, ap, subst}
 use Rattle.std.proofs.Common.{◌∙◌, arith}
 use Rattle.std.proofs.Math.Bool.{true, false}
 use mathlib.Core.List.{List, [], ◌∷◌, ◌++◌, append_assoc}
 use Rattle.std.proofs.Math.IntN.{pos}
 use Rattle.std.proofs.Math.ListN.{length}
+use Rattle.question.specs.laws.Ask.{passed as all_asked}
+use Rattle.question.specs.declared.Question.{Question}
 use Rattle.plane.specs.declared.point.Point.{Point}
 use Rattle.plane.specs.declared.travel.Travel.{Travel}
 use Rattle.block.specs.declared.Block.{Block}
@@ -19,7 +21,7 @@ use Rattle.words.specs.laws.Reading.{means_unique}
 use Rattle.words.specs.laws.Whole.{line_thousands}
 use Rattle.settings.specs.declared.Settings.{Settings}
 use Rattle.settings.specs.Settings.{feed_unit, capacity_at, capacity_of}
-use Rattle.settings.specs.computed.Settings.{settings_no}
+use Rattle.settings.specs.computed.Settings.{settings_no, ask_settings}
 use Rattle.bench.specs.declared.Bench.{Bench}
 use Rattle.bench.specs.declared.Answer.{Answer}
 use Rattle.bench.specs.declared.Ran.{Ran}
@@ -90,10 +92,10 @@ told_more [] ss = refl
 told_more (r ∷ rs) ss =
     ap (λ (bs : List ℕ). tick_bytes r ++ bs) (told_more rs ss) ∙ sym (append_assoc (tick_bytes r) (bytes_told rs) (bytes_told ss))
 
-no_byte : (a : Answer) → tick_bytes (answer_reply a) ≡ []
-no_byte Answer.Done = refl
-no_byte (Answer.Width bits) = refl
-no_byte (Answer.Refused number) = refl
+no_byte : (a : Result Answer Question) → tick_bytes (answer_reply a) ≡ []
+no_byte (Ok Answer.Done) = refl
+no_byte (Ok (Answer.Width bits)) = refl
+no_byte (Err number) = refl
 
 only_ticked : {m m' : Machine} {bytes : List ℕ} → TicksTo m bytes m' → OnlyTicked m bytes m'
 unfolding bytes_told
@@ -169,7 +171,7 @@ module _ (s : Settings) (passed : settings_no s ≡ 0) (text : List ℕ) where
 
   made_fresh : (make_of s).machine ≡ fresh_machine s
   unfolding make_of
-  made_fresh = rw passed
+  made_fresh = rw (all_asked (ask_settings s) passed)
 
   -- the book, by 02 §4's unit
   book_bytes_lem : tick_bytes_of s text ≡ book_bytes (capacity_of s) s.travel (job_of s text).blocks

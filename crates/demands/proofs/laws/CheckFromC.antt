@@ -1,10 +1,11 @@
 -- The check from C is the check's own on the words of a sound bench and of a progress.
-use Rattle.std.specs.Prelude.{◌≡◌, refl, true, false, List, [], ◌++◌, ℕ, zero, suc, ℤ, pos, take}
+use Rattle.std.specs.Prelude.{◌≡◌, refl, true, false, List, [], ◌++◌, ℕ, zero, suc, ℤ, pos, take, Result, Ok, Err, ⊤}
 use Rattle.std.proofs.Common.{sym, ap, subst, ◌∙◌, append_assoc}
 use Rattle.std.specs.Borrow.{Bor, MutBor}
+use Rattle.question.specs.declared.Question.{Question}
 use Rattle.whole.specs.laws.Test.{both, joined, refuted}
 use Rattle.settings.specs.declared.Settings.{Settings}
-use Rattle.settings.specs.computed.Settings.{settings_no}
+use Rattle.settings.specs.computed.Settings.{settings_no, ask_settings}
 use Rattle.bench.specs.declared.Bench.{Bench}
 use Rattle.bench.specs.computed.Calls.{make_with, make_of}
 use Rattle.machine.specs.Machine.{machine_of}
@@ -104,12 +105,12 @@ from_start s pass text bytes n ws ps rows =
 -- the bench of the machine that a make answers
 pub made_bench : (s : Settings) → ((make_of s).answer ≡ (machine_make s).answer) × ((make_of s).bench ≡ (machine_make s).machine.bench)
 unfolding make_of machine_make machine_of
-made_bench s = by (settings_no s)
+made_bench s = by (ask_settings s)
   where
-    by : (n : ℕ) → ((make_with s n).answer ≡ (machine_make_with s n).answer)
-        × ((make_with s n).bench ≡ (machine_make_with s n).machine.bench)
-    by zero = (refl, refl)
-    by (suc n) = (refl, refl)
+    by : (asked : Result ⊤ Question) → ((make_with s asked).answer ≡ (machine_make_with s asked).answer)
+        × ((make_with s asked).bench ≡ (machine_make_with s asked).machine.bench)
+    by (Ok passed) = (refl, refl)
+    by (Err q) = (refl, refl)
 
 pub started : (s : Settings) (n : ℤ) (ws ps : List ℤ) → tells n ws ≡ bench_made s → ps ≡ start_progress s → StartedWords s n ws ps
 unfolding check_from tally_start

@@ -1,5 +1,5 @@
 -- The calls from C are the machine's own on the words of a sound record, since words and sound records tell each other.
-use Rattle.std.specs.Prelude.{◌≡◌, ◌⊎◌, Bool, cond, ◌&&◌, ℕ, zero, suc, ◌/◌, ◌%◌, ◌^◌, ◌≤◌, ◌<◌, ltb, ℤ, pos, negsuc, length, take}
+use Rattle.std.specs.Prelude.{◌≡◌, ◌⊎◌, Bool, cond, ◌&&◌, ℕ, zero, suc, ◌/◌, ◌%◌, ◌^◌, ◌≤◌, ◌<◌, ltb, ℤ, pos, negsuc, length, take, Result, Ok, Err, ⊤}
 use Rattle.std.specs.Prelude.{Option, Some, None}
 use Rattle.std.proofs.Math.Path.{refl, sym, ap, subst}
 use Rattle.std.proofs.Common.{◌∙◌, inl, inr, arith}
@@ -8,15 +8,16 @@ use mathlib.Core.List.{List, []}
 use borrow.Author.Tests.{leb-true, leb-false, le-leb, ltb-true}
 use Rattle.std.proofs.Math.Dec.{leb}
 use denote.Ref.{Bor, MutBor, at_last}
+use Rattle.question.specs.Question.{number_of}
+use Rattle.question.specs.declared.Question.{Question}
 use Rattle.whole.specs.laws.Test.{refuted}
 use Rattle.block.specs.declared.Block.{Block}
 use Rattle.queue.specs.Queue.{empty_queue}
 use Rattle.run.specs.computed.Run.{written}
 use Rattle.settings.specs.declared.Settings.{Settings}
 use Rattle.settings.specs.Settings.{feed_unit}
-use Rattle.settings.specs.computed.Settings.{settings_no}
+use Rattle.settings.specs.computed.Settings.{settings_no, ask_settings}
 use Rattle.bench.specs.declared.Answer.{Answer}
-use Rattle.bench.specs.declared.Tick.{Tick}
 use Rattle.bench.specs.declared.Report.{Report}
 use Rattle.machine.specs.declared.Machine.{Machine}
 use Rattle.machine.specs.declared.Answered.{Answered}
@@ -92,11 +93,11 @@ ran_told ws t budget out = rw t
 
 made_blanks : (s : Settings) → Blanks (make_of s).machine.queue
 unfolding make_of machine_of empty_queue
-made_blanks s = by (settings_no s)
+made_blanks s = by (ask_settings s)
   where
-    by : (n : ℕ) → Blanks (make_with s n).machine.queue
-    by zero = refl
-    by (suc n) = refl
+    by : (asked : Result ⊤ Question) → Blanks (make_with s asked).machine.queue
+    by (Ok passed) = refl
+    by (Err q) = refl
 
 own_call : (ws : List ℤ) (m : Machine) (call : WordCall)
     → (let t = call_of ws m call in Own call m t.answer (machine_after m call) × (t.words ≡ over (encode_of (machine_after m call)) ws))
@@ -112,10 +113,10 @@ refused_load : (m : Machine) (b : Block) (a : Answered) → a ≡ load_of m b �
     → (k : ℕ) → answer_number a.answer ≡ negsuc k → a.machine ≡ m
 refused_load m b a is sound k = by a.answer refl
   where
-    by : (answer : Answer) → a.answer ≡ answer → answer_number answer ≡ negsuc k → a.machine ≡ m
-    by Answer.Done at e = cc
-    by (Answer.Width w) at e = let small = word_small (width_word m sound b (ap (λ (x : Answered). x.answer) (sym is) ∙ at)) in cc
-    by (Answer.Refused q) at e = (load_answers m b a is).kept q (ap answer_reply at)
+    by : (answer : Result Answer Question) → a.answer ≡ answer → answer_number answer ≡ negsuc k → a.machine ≡ m
+    by (Ok Answer.Done) at e = cc
+    by (Ok (Answer.Width w)) at e = let small = word_small (width_word m sound b (ap (λ (x : Answered). x.answer) (sym is) ∙ at)) in cc
+    by (Err q) at e = (load_answers m b a is).kept (number_of q) (ap answer_reply at)
 
 -- a tick and a run of a sound record are never refused
 apart : {n k : ℕ} → pos n ≡ negsuc k → ⊥
@@ -124,10 +125,10 @@ apart {n} {k} e = let z : ◌≡◌ {A = ℕ} 0 1 = cc in absurd (omega (arith, 
 no_refused_tick : (m : Machine) → sound_of m ≡ true → (k : ℕ) → tick_number (tick_of m).tick ≡ negsuc k → ⊥
 no_refused_tick m sound k = by (tick_of m).tick refl
   where
-    by : (t : Tick) → (tick_of m).tick ≡ t → tick_number t ≡ negsuc k → ⊥
-    by (Tick.Byte b) at e = apart e
-    by (Tick.Refused n) at e =
-        (tick_answers m (tick_of m) refl).accepted.1 ((sound_is m).0 sound, tt) n (ap tick_reply at)
+    by : (t : Result ℕ Question) → (tick_of m).tick ≡ t → tick_number t ≡ negsuc k → ⊥
+    by (Ok b) at e = apart e
+    by (Err q) at e =
+        (tick_answers m (tick_of m) refl).accepted.1 ((sound_is m).0 sound, tt) (number_of q) (ap tick_reply at)
 
 no_refused_run : (m : Machine) → sound_of m ≡ true → (budget : ℕ) (out : MutBor (List ℕ)) (k : ℕ)
     → report_number (run_of m budget (length out.now)).ran.report ≡ negsuc k → ⊥
@@ -139,15 +140,15 @@ no_refused_run m sound budget out k = by r.ran.report refl
     out' : MutBor (List ℕ)
     out' = at_last out (written r.bytes out.now)
 
-    by : (report : Report) → r.ran.report ≡ report → report_number report ≡ negsuc k → ⊥
-    by Report.Idle at e = apart e
-    by Report.Held at e = apart e
-    by Report.Ended at e = apart e
-    by Report.Spent at e = apart e
-    by Report.Full at e = apart e
-    by (Report.Refused n) at e =
-        (run_answers m ([], tt) budget out out' r.ran (refl, refl)).accepted.1 ((sound_is m).0 sound, tt) n
-        (ap (λ (report : Report). run_reply report r.ran.ticks (take r.ran.ticks out'.now)) at)
+    by : (report : Result Report Question) → r.ran.report ≡ report → report_number report ≡ negsuc k → ⊥
+    by (Ok Report.Idle) at e = apart e
+    by (Ok Report.Held) at e = apart e
+    by (Ok Report.Ended) at e = apart e
+    by (Ok Report.Spent) at e = apart e
+    by (Ok Report.Full) at e = apart e
+    by (Err q) at e =
+        (run_answers m ([], tt) budget out out' r.ran (refl, refl)).accepted.1 ((sound_is m).0 sound, tt) (number_of q)
+        (ap (λ (report : Result Report Question). run_reply report r.ran.ticks (take r.ran.ticks out'.now)) at)
 
 refused_call : (ws : List ℤ) (m : Machine) → sound_of m ≡ true → (call : WordCall) (k : ℕ) → (call_of ws m call).answer ≡ negsuc k
     → machine_after m call ≡ m
@@ -279,7 +280,7 @@ module _ (before : List ℤ) (ticks : ℕ) (n : ℤ) (then sums : List ℤ) (h :
         by false e =
             let more = leb-false ticks most_ticks e in
             let same = far more in (
-              refusing own 38,
+              refusing own Question.LookLength,
               sym (too_far own ticks (told_sound before t) more),
               ap (λ (t : ToldAhead). t.answer) same,
               subst (λ (l : List ℤ). Carries l own) (sym (ap (λ (t : ToldAhead). t.then) same)) (carries_told before t),

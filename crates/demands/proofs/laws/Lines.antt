@@ -1,5 +1,5 @@
 -- A line's load and its ticks, by Koren's registers.
-use Rattle.std.specs.Prelude.{◌≡◌, refl, Bool, false, ◌≢◌, ℕ, ◌+◌, ◌-◌, ◌*◌, eqb}
+use Rattle.std.specs.Prelude.{◌≡◌, refl, Bool, false, ◌≢◌, ℕ, ◌+◌, ◌-◌, ◌*◌, eqb, Ok}
 use Rattle.std.proofs.Common.{sym, subst, ◌∙◌, arith}
 use Rattle.std.proofs.Math.Path.{ap}
 use Rattle.plane.specs.declared.point.Point.{Point}
@@ -42,11 +42,12 @@ use Rattle.demands.specs.Sound.{Sound}
 use Rattle.demands.specs.Questions.{next_start, load_questions}
 use Rattle.demands.specs.Taken.{Taken, ComesIn, TicksAs}
 use Rattle.demands.specs.Lines.{register_pulses, one_more, LineTick, EveryLine}
+use Rattle.question.specs.laws.Ask.{passed as none_no}
 use Rattle.demands.proofs.laws.Asked.{passed}
 use Rattle.demands.proofs.laws.Bench.{bench_is}
 use Rattle.demands.proofs.laws.Block.{nothing_iff}
 use Rattle.demands.proofs.laws.Sound.{sound_is}
-use Rattle.demands.proofs.laws.Answers.{load_verdict, load_is}
+use Rattle.demands.proofs.laws.Answers.{load_asked, load_verdict, load_is}
 use Rattle.demands.proofs.laws.Runs.{bench_tick_lem, comes_in_lem, remainder_then, busy_is}
 
 -- ---- a load that no question refuses
@@ -56,11 +57,11 @@ module _ (m : Machine) (b : Block) (r : Answered) (h : Loads m b r) (all : AllYe
   start = next_start m
 
   loads : r ≡ taking m b (begun_of start b)
-  loads = h ∙ load_is m b ∙ ap (load_with m b) ((passed (load_verdict m b)).1 all)
+  loads = h ∙ load_is m b ∙ ap (load_with m b) (none_no (load_asked m b) ((passed (load_verdict m b)).1 all))
 
-  pub width_is : r.answer ≡ Answer.Width (width_along start b p)
+  pub width_is : r.answer ≡ Ok (Answer.Width (width_along start b p))
   unfolding begun_of block_width
-  width_is = ap (λ (r : Answered). r.answer) loads ∙ ap (λ (p : Path). Answer.Width (width_along start b p)) e
+  width_is = ap (λ (r : Answered). r.answer) loads ∙ ap (λ (p : Path). Ok (Answer.Width (width_along start b p))) e
 
   after : r.machine ≡ takes m b (is_nothing m.bench.work) (begun_of start b)
   after = ap (λ (r : Answered). r.machine) loads

@@ -1,11 +1,12 @@
 -- A run of any sound record does every tick that it may, and its bytes are its ticks' one by one.
-use Rattle.std.specs.Prelude.{◌≡◌, Bool, true, false, cond, ◌≢◌, ◌↔◌, List, [], ℕ, zero, suc, ◌*◌, ◌≤◌, ◌<◌, min, drop}
+use Rattle.std.specs.Prelude.{◌≡◌, Bool, true, false, cond, ◌≢◌, ◌↔◌, List, [], ℕ, zero, suc, ◌*◌, ◌≤◌, ◌<◌, min, drop, Result, Ok}
 use Rattle.std.proofs.Math.Path.{refl, sym, ap, subst}
 use Rattle.std.proofs.Common.{◌∙◌, arith, length-append, length-drop}
 use Rattle.std.proofs.Math.Dec.{leb}
 use Rattle.std.proofs.Math.ListN.{length, take}
 use Rattle.std.proofs.Math.Seq.{drop-append_seam}
 use borrow.Author.Tests.{leb-true, leb-false, le-leb, lt-leb}
+use Rattle.question.specs.declared.Question.{Question}
 use Rattle.whole.specs.laws.Test.{refuted}
 use Rattle.plane.specs.declared.point.Point.{Point}
 use Rattle.plane.specs.Byte.{cycles_marked}
@@ -25,7 +26,6 @@ use Rattle.queue.specs.declared.Queue.{Queue}
 use Rattle.queue.specs.Queue.{waiting}
 use Rattle.queue.specs.laws.Waiting.{none_waits, pop_waiting}
 use Rattle.bench.specs.declared.Bench.{Bench}
-use Rattle.bench.specs.declared.Tick.{Tick}
 use Rattle.bench.specs.declared.Report.{Report}
 use Rattle.bench.specs.Bench.{moved_of}
 use Rattle.bench.specs.computed.Calls.{working, tick_of as bench_tick}
@@ -80,7 +80,7 @@ pub bench_tick_lem : (k : Bench) → AtWork k → working k (advance_of (capacit
 bench_tick_lem k a = tick_works k a.sound a.free a.busy refl
 
 module _ (m : Machine) (e : sound_of m ≡ true) (a : AtWork m.bench) where
-  tick_is : ticks (Tick.Byte (next m e a).byte) (next_of (moved m e a) m.queue) ≡ tick_of m
+  tick_is : ticks (Ok (next m e a).byte) (next_of (moved m e a) m.queue) ≡ tick_of m
   unfolding tick_of
   tick_is = rw (e, sym (bench_tick_lem m.bench a)) refl
 
@@ -104,7 +104,7 @@ strip_ticks (suc n) m e a =
     rest = strip_of (capacity_of k.settings) n first.at first.remainder first.work
 
     one : Ticked
-    one = ticks (Tick.Byte first.byte) (next_of (moved m e a) m.queue)
+    one = ticks (Ok first.byte) (next_of (moved m e a) m.queue)
 
     After : Strip → Machine
     After s = next_of (moved_of k s.at s.remainder s.work) m.queue
@@ -158,10 +158,10 @@ record Reported (t n budget : ℕ) (bytes : List ℕ) (reply : Reply) : Type 0 w
   spent : (reply ≡ Reply.ran BookReport.spent n bytes) ↔ ((n < t) × (budget ≤ n))
   full : (reply ≡ Reply.ran BookReport.full n bytes) ↔ ((n < t) × (n < budget))
 
-reported : (t n budget : ℕ) (bytes : List ℕ) → Reported t n budget bytes (run_reply (report_of (leb t n) (leb budget n)) n bytes)
+reported : (t n budget : ℕ) (bytes : List ℕ) → Reported t n budget bytes (run_reply (Ok (report_of (leb t n) (leb budget n))) n bytes)
 reported t n budget bytes = by (leb t n) refl (leb budget n) refl
   where
-    by : (e : Bool) → leb t n ≡ e → (s : Bool) → leb budget n ≡ s → Reported t n budget bytes (run_reply (report_of e s) n bytes)
+    by : (e : Bool) → leb t n ≡ e → (s : Bool) → leb budget n ≡ s → Reported t n budget bytes (run_reply (Ok (report_of e s)) n bytes)
     by true e s f =
         let h = leb-true t n e in
         record {
@@ -236,7 +236,7 @@ module _ (m : Machine) (budget : ℕ) (old : List ℕ) (e : sound_of m ≡ true)
       let count = counted.ticks in
       let is : strip.ended ≡ leb (last_tick_of bench) n = counted.ended ∙ ap (leb (last_tick_of bench)) (sym count) in
       let new = take n (written strip.bytes old) in
-      let r : Reported (last_tick_of bench) n budget new (run_reply (report_of strip.ended (leb budget n)) n new) = rw is
+      let r : Reported (last_tick_of bench) n budget new (run_reply (Ok (report_of strip.ended (leb budget n))) n new) = rw is
       (reported (last_tick_of bench) n budget new) in
       record {
         ticks = omega arith;
@@ -251,7 +251,7 @@ module _ (m : Machine) (budget : ℕ) (old : List ℕ) (e : sound_of m ≡ true)
       }
 
 -- a run without a tick leaves the record
-rests : (m : Machine) → sound_of m ≡ true → (budget : ℕ) (old : List ℕ) (report : Report)
+rests : (m : Machine) → sound_of m ≡ true → (budget : ℕ) (old : List ℕ) (report : Result Report Question)
     → bench_run m.bench budget (length old) ≡ bench_no_tick m.bench report → run_of m budget (length old) ≡ no_tick m report
 unfolding run_of
 rests m e budget old report is = rw (e, is, next_own m (sound m e)) refl
@@ -271,10 +271,10 @@ every_run κs m budget out out' r h s =
     let k = (sound m e).bench in
     record {
       idle = λ none.
-          let t = rests m e budget out.now Report.Idle (rw (k, (nothing_iff m.bench.work).1 none)) in
+          let t = rests m e budget out.now (Ok Report.Idle) (rw (k, (nothing_iff m.bench.work).1 none)) in
           rw (h.1, h.0, t) (record { reply = refl; machine = refl; buffer = refl });
       held = λ some mark.
-          let t = rests m e budget out.now Report.Held (rw (k, busy_is m.bench some, mark)) in
+          let t = rests m e budget out.now (Ok Report.Held) (rw (k, busy_is m.bench some, mark)) in
           rw (h.1, h.0, t) (record { reply = refl; machine = refl; buffer = refl });
       works = λ some free.
           let a : AtWork m.bench = record { sound = k; free = free; busy = busy_is m.bench some } in

@@ -1,5 +1,5 @@
 -- A text line answers by the first no of its questions.
-use Rattle.std.specs.Prelude.{◌≡◌, Bool, cond, not, ◌||◌, ◌↔◌, List, leb, ltb, length, Option}
+use Rattle.std.specs.Prelude.{◌≡◌, Bool, cond, not, ◌||◌, ◌↔◌, List, leb, ltb, length, Option, Result, Ok, Err, ⊤}
 use Rattle.std.proofs.Math.Path.{refl}
 use Rattle.std.proofs.Common.{sym, ap, ◌∙◌, true≢false, arith, leb-true, le-leb, eqb-true, eq-eqb}
 use Rattle.std.proofs.Math.Bool.{true, false}
@@ -7,11 +7,14 @@ use Rattle.std.proofs.lemmas.Bool.{false≢true}
 use Prim.Native.Nat.{ℕ, zero, suc}
 use Rattle.std.specs.Borrow.{Bor}
 use contract.Lifetimes.{Lfts}
+use Rattle.question.specs.laws.Number.{number_some}
+use Rattle.question.specs.Question.{ask as ask_question, number_of, number_told}
+use Rattle.question.specs.declared.Question.{Question}
 use Rattle.whole.specs.laws.Test.{both, joined}
 use Rattle.plane.specs.declared.point.Point.{Point}
 use Rattle.block.specs.declared.Block.{Block}
 use Rattle.whole.specs.Ask.{ask}
-use Rattle.block.specs.Questions.{load_no}
+use Rattle.block.specs.Questions.{load_no, ask_load}
 use Rattle.settings.specs.declared.Settings.{Settings}
 use Rattle.settings.specs.Settings.{feed_unit, capacity_at, capacity_of}
 use Rattle.machine.specs.declared.Machine.{Machine}
@@ -41,7 +44,7 @@ use Rattle.demands.specs.Questions.{NoLetterTwice, MotionRight, OnPulse, OnPulse
 use Rattle.demands.specs.Questions.{next_start, word_questions, line_block, is_block, if_block, text_questions, line_questions}
 use Rattle.demands.specs.Answers.{read_reply}
 use Rattle.demands.specs.Calls.{LineTaken}
-use Rattle.demands.proofs.laws.Asked.{Verdict, asked, none_asked, or_else, then_asked, passed, Says, judged}
+use Rattle.demands.proofs.laws.Asked.{Verdict, asked, none_asked, or_else, then_asked, passed, Says, says_some, judged}
 use Rattle.demands.proofs.laws.Bench.{in_range_lem}
 use Rattle.demands.proofs.laws.Load.{block_verdict}
 use Rattle.demands.proofs.laws.Sound.{sound_is}
@@ -183,41 +186,41 @@ module _ (k k' : Reader) (m : Machine) (ws : Words) where
   abbrev b : Block
   b = block_at feed_unit m.bench.settings.scale k' ws (next_start m)
 
-  abbrev load_number : ℕ
-  load_number = load_no (capacity_of m.bench.settings) m.bench.settings.travel (ltb m.queue.len 16) (next_start m) b
+  abbrev block_asked : Result ⊤ Question
+  block_asked = ask_load (capacity_of m.bench.settings) m.bench.settings.travel (ltb m.queue.len 16) (next_start m) b
 
   -- the line by its numbers: that of its words, and that of its block
-  abbrev line_by : (number : ℕ) (moves stays : Bool) (n : ℕ) → ReadLine
-  line_by (suc number) moves stays n = reads (Read.Refused (suc number)) k m
-  line_by zero true true n = reads Read.Nothing k' m
-  line_by zero true false n = loaded k k' m (load_with m b n).machine (load_with m b n).answer
-  line_by zero false stays n = reads Read.Nothing k' m
+  abbrev line_by : (number : ℕ) (moves stays : Bool) (asked : Result ⊤ Question) → ReadLine
+  line_by (suc number) moves stays asked = reads (Read.Refused (suc number)) k m
+  line_by zero true true asked = reads Read.Nothing k' m
+  line_by zero true false asked = loaded k k' m (load_with m b asked).machine (load_with m b asked).answer
+  line_by zero false stays asked = reads Read.Nothing k' m
 
-  line_says : (number : ℕ) (moves stays : Bool) (n : ℕ)
-      → Says (or_else number (block_number moves stays n)) (read_reply (line_by number moves stays n).answer)
-  line_says (suc number) moves stays n = refl
-  line_says zero true true n = refl
-  line_says zero true false zero = refl
-  line_says zero true false (suc n) = refl
-  line_says zero false stays n = refl
+  line_says : (number : ℕ) (moves stays : Bool) (asked : Result ⊤ Question)
+      → Says (or_else number (block_number moves stays (number_told asked))) (read_reply (line_by number moves stays asked).answer)
+  line_says (suc number) moves stays asked = refl
+  line_says zero true true asked = refl
+  line_says zero true false (Ok passed) = refl
+  line_says zero true false (Err q) = says_some (number_of q) (number_some q)
+  line_says zero false stays asked = refl
 
-  line_kept : (number : ℕ) (moves stays : Bool) (n : ℕ) → (or_else number (block_number moves stays n) ≡ 0 → ⊥)
-      → (let r = line_by number moves stays n in (r.reader ≡ k) × (r.machine ≡ m))
-  line_kept (suc number) moves stays n some = (refl, refl)
-  line_kept zero true true n some = absurd (some refl)
-  line_kept zero true false zero some = absurd (some refl)
-  line_kept zero true false (suc n) some = (refl, refl)
-  line_kept zero false stays n some = absurd (some refl)
+  line_kept : (number : ℕ) (moves stays : Bool) (asked : Result ⊤ Question) → (or_else number (block_number moves stays (number_told asked)) ≡ 0 → ⊥)
+      → (let r = line_by number moves stays asked in (r.reader ≡ k) × (r.machine ≡ m))
+  line_kept (suc number) moves stays asked some = (refl, refl)
+  line_kept zero true true asked some = absurd (some refl)
+  line_kept zero true false (Ok passed) some = absurd (some refl)
+  line_kept zero true false (Err q) some = (refl, refl)
+  line_kept zero false stays asked some = absurd (some refl)
 
   line_is : sound_of m ≡ true → (number : ℕ)
       → taken_of k m (asked_with m.bench.settings.scale k k' (next_start m) ws number)
-      ≡ line_by number (moving ws) (goes_nowhere b.end (next_start m) b.path) load_number
+      ≡ line_by number (moving ws) (goes_nowhere b.end (next_start m) b.path) block_asked
   unfolding load_of
   line_is sound (suc number) = refl
   line_is sound zero = by (moving ws) (goes_nowhere b.end (next_start m) b.path)
     where
       by : (moves stays : Bool)
-          → takes k k' m (cond moves (cond stays ToLoad.Nothing (ToLoad.Block b)) ToLoad.Nothing) ≡ line_by zero moves stays load_number
+          → takes k k' m (cond moves (cond stays ToLoad.Nothing (ToLoad.Block b)) ToLoad.Nothing) ≡ line_by zero moves stays block_asked
       by true true = refl
       by true false = rw sound
       by false stays = refl
@@ -247,7 +250,7 @@ line_answers κs k m bytes r h l means =
     number = line_no m.bench.settings.scale k' (length bytes.now) l
 
     inner : ℕ
-    inner = or_else number (block_number moves stays (load_number k k' m ws))
+    inner = or_else number (block_number moves stays (number_told (block_asked k k' m ws)))
 
     by : (sound : Bool) → sound_of m ≡ sound → Verdict (line_questions k m bytes.now l) (ask sound inner 9)
         → (let r =
@@ -262,23 +265,23 @@ line_answers κs k m bytes r h l means =
 
 module _ (k k' : Reader) (m : Machine) (ws : Words) where
   -- by its numbers: without a block, and with one
-  by_nothing : (number : ℕ) (moves stays : Bool) (n : ℕ) → or_else number (block_number moves stays n) ≡ 0
+  by_nothing : (number : ℕ) (moves stays : Bool) (asked : Result ⊤ Question) → or_else number (block_number moves stays (number_told asked)) ≡ 0
       → is_block moves stays ≡ false
-      → line_by k k' m ws number moves stays n ≡ reads Read.Nothing k' m
-  by_nothing (suc number) moves stays n z e = absurd (omega arith)
-  by_nothing zero true true n z e = refl
-  by_nothing zero true false n z e = absurd (false≢true (sym e))
-  by_nothing zero false stays n z e = refl
+      → line_by k k' m ws number moves stays asked ≡ reads Read.Nothing k' m
+  by_nothing (suc number) moves stays asked z e = absurd (omega arith)
+  by_nothing zero true true asked z e = refl
+  by_nothing zero true false asked z e = absurd (false≢true (sym e))
+  by_nothing zero false stays asked z e = refl
 
-  by_block : (number : ℕ) (moves stays : Bool) (n : ℕ) → or_else number (block_number moves stays n) ≡ 0
+  by_block : (number : ℕ) (moves stays : Bool) (asked : Result ⊤ Question) → or_else number (block_number moves stays (number_told asked)) ≡ 0
       → is_block moves stays ≡ true
-      → (n ≡ 0) ×
-      (line_by k k' m ws number moves stays n ≡ loaded k k' m (load_with m (b k k' m ws) 0).machine (load_with m (b k k' m ws) 0).answer)
-  by_block (suc number) moves stays n z e = absurd (omega arith)
-  by_block zero true true n z e = absurd (false≢true e)
-  by_block zero true false zero z e = (refl, refl)
-  by_block zero true false (suc n) z e = absurd (omega arith)
-  by_block zero false stays n z e = absurd (false≢true e)
+      → (asked ≡ Ok tt) ×
+      (line_by k k' m ws number moves stays asked ≡ loaded k k' m (load_with m (b k k' m ws) (Ok tt)).machine (load_with m (b k k' m ws) (Ok tt)).answer)
+  by_block (suc number) moves stays asked z e = absurd (omega arith)
+  by_block zero true true asked z e = absurd (false≢true e)
+  by_block zero true false (Ok passed) z e = (refl, refl)
+  by_block zero true false (Err q) z e = absurd (number_some q z)
+  by_block zero false stays asked z e = absurd (false≢true e)
 
 pub line_taken : (κs : Lfts 1) (k : Reader) (m : Machine) (bytes : Bor (List ℕ)) (r : ReadLine) → ReadsLine κs k m bytes r → (l : Line)
     → Means bytes.now l → AllYes (line_questions k m bytes.now l) → LineTaken k m l r
@@ -288,10 +291,10 @@ line_taken κs k m bytes r h l means all =
       no_block = λ e. is ∙ by_nothing k k' m ws number moves stays load none e;
       block = λ e.
           let t = by_block k k' m ws number moves stays load none e in
-          let a : load_of m (b k k' m ws) ≡ load_with m (b k k' m ws) 0 = load_is m (b k k' m ws)
-          ∙ ap (λ (n : ℕ). load_with m (b k k' m ws) (ask (sound_of m) n 9)) t.0
-          ∙ ap (λ (s : Bool). load_with m (b k k' m ws) (ask s 0 9)) sound in
-          (load_with m (b k k' m ws) 0, _, sym a, refl, is ∙ t.1);
+          let a : load_of m (b k k' m ws) ≡ load_with m (b k k' m ws) (Ok tt) = load_is m (b k k' m ws)
+          ∙ ap (λ (asked : Result ⊤ Question). load_with m (b k k' m ws) (ask_question (sound_of m) asked Question.Sound)) t.0
+          ∙ ap (λ (s : Bool). load_with m (b k k' m ws) (ask_question s (Ok tt) Question.Sound)) sound in
+          (load_with m (b k k' m ws) (Ok tt), _, sym a, refl, is ∙ t.1);
     }
   where
     ws : Words
@@ -309,13 +312,13 @@ line_taken κs k m bytes r h l means all =
     number : ℕ
     number = line_no m.bench.settings.scale k' (length bytes.now) l
 
-    load : ℕ
-    load = load_number k k' m ws
+    load : Result ⊤ Question
+    load = block_asked k k' m ws
 
     sound : sound_of m ≡ true
     sound = (sound_is m).1 all.0
 
-    none : or_else number (block_number moves stays load) ≡ 0
+    none : or_else number (block_number moves stays (number_told load)) ≡ 0
     none = (passed (text_verdict feed_unit _ (fewer_is m) k m.bench.settings (next_start m) bytes.now l means)).1 all.1
 
     is : r ≡ line_by k k' m ws number moves stays load

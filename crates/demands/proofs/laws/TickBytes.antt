@@ -1,5 +1,5 @@
 -- The tick bytes that are handed out are those of the job's blocks, loaded and ticked one after the other.
-use Rattle.std.specs.Prelude.{◌≡◌, Bool, true, false, cond, List, [], ◌∷◌, ◌++◌, ℕ, ◌+◌, leb, pos, length, take, drop}
+use Rattle.std.specs.Prelude.{◌≡◌, Bool, true, false, cond, List, [], ◌∷◌, ◌++◌, ℕ, ◌+◌, leb, pos, length, take, drop, Ok}
 use Rattle.std.proofs.Math.Path.{refl, ap, subst}
 use Rattle.std.proofs.Common.{sym, ◌∙◌, append_assoc, arith}
 use Rattle.block.specs.declared.Block.{Block}
@@ -71,7 +71,7 @@ run_to_end m a =
 
 module _ (m : Bench) (n : ℕ) (b : Block) (i : AtRest m) (ok : Accepted m b) (rest : Bench → List ℕ) where
   -- the load answers the block's width
-  width_told : (load_of m b).answer ≡ Answer.Width (block_width m.at b)
+  width_told : (load_of m b).answer ≡ Ok (Answer.Width (block_width m.at b))
   unfolding begun_of
   width_told = ap (λ (a : Answered). a.answer) (load_accepted m i.sound i.idle b ok)
 

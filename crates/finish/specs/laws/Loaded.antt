@@ -2,12 +2,13 @@
 use Rattle.std.specs.Prelude.{◌≡◌, false}
 use Rattle.std.proofs.Math.Path.{refl}
 use Rattle.std.proofs.Common.{sym, arith}
+use Rattle.question.specs.laws.Ask.{passed}
 use Rattle.plane.specs.declared.point.Point.{Point}
 use Rattle.block.specs.declared.Block.{Block}
 use Rattle.block.specs.declared.Path.{Path}
 use Rattle.block.specs.Block.{arc_of, cycles_along, block_cycles}
 use Rattle.block.specs.Charge.{charges_to, block_charges}
-use Rattle.block.specs.Questions.{load_no}
+use Rattle.block.specs.Questions.{load_no, ask_load}
 use Rattle.block.proofs.laws.Charge.{charges_line, charges_arc}
 use Rattle.work.specs.Work.{is_nothing, feed_of, cycles_left, charges_left, end_of, work_along, begun_of}
 use Rattle.bench.specs.declared.Bench.{Bench}
@@ -50,7 +51,7 @@ module _ (m : Bench) (rest : AtRest m) (b : Block)
     (accepted : load_no (capacity_of m.settings) m.settings.travel (is_nothing m.work) m.at b ≡ 0) where
   loads : (load_of m b).bench ≡ moved_of m m.at m.remainder (work_along m.at b b.path)
   unfolding load_of begun_of
-  loads = rw (rest.sound, accepted)
+  loads = rw (rest.sound, passed (ask_load (capacity_of m.settings) m.settings.travel (is_nothing m.work) m.at b) accepted)
 
   pub loaded_at_work : AtWork (load_of m b).bench
   unfolding moved_of

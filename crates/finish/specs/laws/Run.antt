@@ -1,5 +1,5 @@
 -- Finishing is a run that is allowed its ticks: the same record, ticks and cycles.
-use Rattle.std.specs.Prelude.{◌≡◌, true, ℕ, ◌+◌, ◌-◌, ◌*◌, ◌≤◌, min}
+use Rattle.std.specs.Prelude.{◌≡◌, true, ℕ, ◌+◌, ◌-◌, ◌*◌, ◌≤◌, min, Ok}
 use Rattle.std.proofs.Common.{ap, subst, arith}
 use Rattle.plane.specs.Byte.{cycles_marked}
 use Rattle.work.specs.Work.{added_of, cycles_left, charges_left}
@@ -35,7 +35,7 @@ module _ (m : Bench) (a : AtWork m) (budget buffer : ℕ) (long : (finish_of m).
   all_marked = omega (arith, ran_left (at_work a) (min budget buffer), ap (cycles_left ticking.at) strip_ended.idle)
 
   pub finish_is_run : (run_of m budget buffer).ran
-      ≡ record { report = Report.Ended; ticks = (finish_of m).ticks; cycles = (finish_of m).cycles; bench = (finish_of m).bench }
+      ≡ record { report = Ok Report.Ended; ticks = (finish_of m).ticks; cycles = (finish_of m).cycles; bench = (finish_of m).bench }
   finish_is_run =
       let e = strip_ended in
       let due = charges_left m.at m.work * capacity_of m.settings in

@@ -1,12 +1,15 @@
 -- Each call on the record that a book tells gives the book's reply and leads to the record that the book then tells.
-use Rattle.std.specs.Prelude.{◌≡◌, Bool, true, List, [], ◌∷◌, ◌++◌, ltb, length}
+use Rattle.std.specs.Prelude.{◌≡◌, Bool, true, List, [], ◌∷◌, ◌++◌, ltb, length, Result, Ok, Err, ⊤}
 use Rattle.std.proofs.Math.Path.{refl, ap}
 use Rattle.std.proofs.Common.{sym, ap₂, ◌∙◌, ltb-true}
 use Prim.Native.Nat.{ℕ, zero, suc}
 use Rattle.std.proofs.Math.ListN.{take}
+use Rattle.question.specs.laws.Number.{number_some}
+use Rattle.question.specs.Question.{number_of, number_told}
+use Rattle.question.specs.declared.Question.{Question}
 use Rattle.plane.specs.declared.point.Point.{Point}
 use Rattle.block.specs.declared.Block.{Block}
-use Rattle.block.specs.Questions.{load_no}
+use Rattle.block.specs.Questions.{ask_load}
 use Rattle.block.specs.Chain.{chain_end}
 use Rattle.queue.specs.declared.Queue.{Queue}
 use Rattle.queue.specs.Queue.{queue_of}
@@ -27,7 +30,7 @@ use Rattle.machine.specs.Calls.{beginning, next_of}
 use Rattle.machine.specs.computed.Calls.{takes, load_with, load_of, tick_of, hold_of, release_of, stop_of}
 use Rattle.machine.specs.computed.Run.{run_of}
 use Rattle.book.specs.Bench.{InWork, bench_tick, work_end, bench_run as book_run, is_nothing as idle, Bench as BookBench}
-use Rattle.book.specs.Book.{Book, Call, fewer_wait, settled, entry, loaded, load_entry, start_of as book_start}
+use Rattle.book.specs.Book.{Book, Call, fewer_wait, settled, entry, loaded, load_entry, start_of as book_start, Reply}
 use Rattle.book.proofs.laws.Load.{room_asked}
 use Rattle.book.proofs.laws.Sound.{Sound, bench_of}
 use Rattle.book.proofs.laws.Ticking.{tick_does, run_does, end_stays}
@@ -70,21 +73,25 @@ module _ (s : Settings) (b : Book) (i : Sound (capacity_of s) s.travel b) (e : s
   start_is : start_of (bench_told s b.bench) (queue_of (work_end b.bench) b.waiting) ≡ book_start b
   start_is = rw (queue_waiting (work_end b.bench) b.waiting, same_end b.bench.at b.bench.work)
 
-  load_by : (k : Block) (n : ℕ) → load_no (capacity_of s) s.travel (fewer_wait b) (book_start b) k ≡ n
-      → (let r = load_with (record_of s b) k n in Follows s (loaded b k n) (answer_reply r.answer) r.machine)
+  refused_follows : (k : Block) (n : ℕ) → (n ≡ 0 → ⊥) → Follows s (loaded b k n) (Reply.refused n) (record_of s b)
+  refused_follows k zero some = absurd (some refl)
+  refused_follows k (suc n) some = record { says = refl; leads = refl }
+
+  load_by : (k : Block) (asked : Result ⊤ Question) → ask_load (capacity_of s) s.travel (fewer_wait b) (book_start b) k ≡ asked
+      → (let r = load_with (record_of s b) k asked in Follows s (loaded b k (number_told asked)) (answer_reply r.answer) r.machine)
   unfolding begun_of machine_of
-  load_by k zero asked =
-      let room = (room_asked (capacity_of s) s.travel (fewer_wait b) (book_start b) k asked).0 in
+  load_by k (Ok passed) asked =
+      let room = (room_asked (capacity_of s) s.travel (fewer_wait b) (book_start b) k (ap number_told asked)).0 in
       rw start_is
       (record {
         says = refl;
         leads = taken_parts s k b.bench.at b.bench.mark b.bench.remainder b.bench.work b.waiting room i.none start_is;
       })
-  load_by k (suc n) asked = record { says = refl; leads = refl }
+  load_by k (Err q) asked = refused_follows k (number_of q) (number_some q)
 
   pub load_follows : (k : Block) → answers_as (Call.load k) (load_of (record_of s b) k)
   unfolding load_of load_entry queue_of machine_of
-  load_follows k = rw (e, start_is) (load_by k (load_no (capacity_of s) s.travel (fewer_wait b) (book_start b) k) refl)
+  load_follows k = rw (e, start_is) (load_by k (ask_load (capacity_of s) s.travel (fewer_wait b) (book_start b) k) refl)
 
   -- ---- tick and run: the bench's, and then the next block
 

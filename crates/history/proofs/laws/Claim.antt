@@ -1,13 +1,15 @@
 -- Every history from a machine made fresh goes by the book, and every list of calls has one.
-use Rattle.std.specs.Prelude.{◌≡◌, refl, true, List, ◌∷◌, ℕ, zero, suc, length}
+use Rattle.std.specs.Prelude.{◌≡◌, refl, true, List, ◌∷◌, ℕ, zero, suc, length, Result, Ok, Err, ⊤}
 use Rattle.std.proofs.Math.Path.{sym, ap}
 use Rattle.std.proofs.Common.{subst, ◌∙◌}
+use Rattle.question.specs.Question.{number_told}
+use Rattle.question.specs.declared.Question.{Question}
 use Rattle.queue.specs.Queue.{queue_of, waiting}
 use Rattle.queue.specs.laws.Waiting.{queue_waiting, empty_queue_lem}
 use Rattle.work.specs.Work.{end_of}
 use Rattle.settings.specs.declared.Settings.{Settings}
 use Rattle.settings.specs.Settings.{capacity_of}
-use Rattle.settings.specs.computed.Settings.{settings_no}
+use Rattle.settings.specs.computed.Settings.{settings_no, ask_settings}
 use Rattle.settings.specs.laws.Right.{standard_passes}
 use Rattle.bench.specs.Bench.{fresh_of as fresh_bench}
 use Rattle.machine.specs.declared.Machine.{Machine}
@@ -126,17 +128,17 @@ record Made (m : Machine) : Type 0 where
   passed : settings_no m.bench.settings ≡ 0
   fresh : m ≡ fresh_of m.bench.settings
 
-made : (s : Settings) (n : ℕ) → settings_no s ≡ n → Made (make_with s n).machine
+made : (s : Settings) (asked : Result ⊤ Question) → ask_settings s ≡ asked → Made (make_with s asked).machine
 unfolding fresh_bench machine_of
-made s zero e = record { passed = e; fresh = refl }
-made s (suc n) e = record { passed = standard_passes; fresh = refl }
+made s (Ok passed) e = record { passed = ap number_told e; fresh = refl }
+made s (Err q) e = record { passed = standard_passes; fresh = refl }
 
 -- ---- the claims
 
 pub every_history : EveryHistory
 unfolding make_of
 every_history asked answer h cs rs m t =
-    let k : Made answer.machine = rw h (made asked (settings_no asked) refl) in
+    let k : Made answer.machine = rw h (made asked (ask_settings asked) refl) in
     let e : sound_of answer.machine ≡ true = rw h (make_keeps asked) in
     from_fresh answer.machine.bench.settings k.passed cs rs m (ap sound_of (sym k.fresh) ∙ e)
     (subst (λ (f : Machine). History f cs rs m) k.fresh t)

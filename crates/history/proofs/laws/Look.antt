@@ -1,10 +1,10 @@
 -- A look-ahead on a sound record, and so after any history, tells what that many more ticks give.
-use Rattle.std.specs.Prelude.{◌≡◌, refl, true, List, ◌++◌, ℕ, zero, suc, ◌≤◌, ◌+ℤ◌}
+use Rattle.std.specs.Prelude.{◌≡◌, refl, true, List, ◌++◌, ℕ, zero, suc, ◌≤◌, ◌+ℤ◌, Result, Ok, Err}
 use Rattle.std.proofs.Common.{sym, ap, ◌∙◌}
 use Rattle.std.proofs.Math.IntN.{+ℤ_idl, +ℤ_idr}
+use Rattle.question.specs.declared.Question.{Question}
 use Rattle.plane.specs.Pulse.{pulse_of}
 use Rattle.plane.specs.Byte.{code_x, code_y}
-use Rattle.bench.specs.declared.Tick.{Tick}
 use Rattle.machine.specs.declared.Machine.{Machine}
 use Rattle.machine.specs.computed.Machine.{sound_of}
 use Rattle.machine.specs.laws.Keeps.{make_keeps}
@@ -38,10 +38,10 @@ record OneByOne (t : Ticking) (rs : List Reply) (m' : Machine) : Type 0 where
   x : pulses_in code_x t.bytes ≡ pulses_sent code_x rs
   y : pulses_in code_y t.bytes ≡ pulses_sent code_y rs
 
-sent : (code : ℕ → ℕ) (k : Tick) (bytes : List ℕ) (rs : List Reply) → pulses_in code bytes ≡ pulses_sent code rs
+sent : (code : ℕ → ℕ) (k : Result ℕ Question) (bytes : List ℕ) (rs : List Reply) → pulses_in code bytes ≡ pulses_sent code rs
     → pulses_in code (in_front k bytes) ≡ pulses_in code (tick_bytes (tick_reply k)) +ℤ pulses_sent code rs
-sent code (Tick.Byte b) bytes rs e = rw (e, +ℤ_idr (pulse_of (code b)))
-sent code (Tick.Refused n) bytes rs e = e ∙ sym (+ℤ_idl (pulses_sent code rs))
+sent code (Ok b) bytes rs e = rw (e, +ℤ_idr (pulse_of (code b)))
+sent code (Err n) bytes rs e = e ∙ sym (+ℤ_idl (pulses_sent code rs))
 
 one_by_one : (n : ℕ) {m m' : Machine} {rs : List Reply} → History m (only_ticks n) rs m' → OneByOne (ticking_of n m) rs m'
 unfolding ticking_of pulses_sent

@@ -1,5 +1,5 @@
 -- A run of the bench that a book tells is the run of the book's bench.
-use Rattle.std.specs.Prelude.{◌≡◌, Bool, List, leb, length, take, drop}
+use Rattle.std.specs.Prelude.{◌≡◌, Bool, List, leb, length, take, drop, Ok}
 use Rattle.std.proofs.Math.Path.{refl}
 use Rattle.std.proofs.Common.{sym}
 use Rattle.std.proofs.Math.Bool.{true, false}
@@ -74,7 +74,7 @@ unfolding written
 first_bytes bytes old = take-append_seam bytes (drop (length bytes) old)
 
 report_is : (ended spent : Bool) (ticks : ℕ) (bytes : List ℕ)
-    → run_reply (report_of ended spent) ticks bytes ≡ Reply.ran (book_report ended spent) ticks bytes
+    → run_reply (Ok (report_of ended spent)) ticks bytes ≡ Reply.ran (book_report ended spent) ticks bytes
 report_is true spent ticks bytes = refl
 report_is false true ticks bytes = refl
 report_is false false ticks bytes = refl

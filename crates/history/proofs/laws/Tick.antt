@@ -1,5 +1,5 @@
 -- A tick of the bench that a book tells is the tick of the book's bench.
-use Rattle.std.specs.Prelude.{◌≡◌, Bool, cond, ℕ, ◌+◌, ◌*◌, eqb}
+use Rattle.std.specs.Prelude.{◌≡◌, Bool, cond, ℕ, ◌+◌, ◌*◌, eqb, Ok}
 use Rattle.std.proofs.Math.Path.{refl, ap₂}
 use Rattle.std.proofs.Common.{sym, ap, ◌∙◌, add-one, arith, eqb-true, eq-eqb}
 use Rattle.std.proofs.Math.Bool.{true, false}
@@ -27,7 +27,6 @@ use Rattle.work.specs.Work.{following, feed_of}
 use Rattle.work.specs.computed.Work.{line_cycle, arc_cycle, cycle_of, charge_of, advance_by, advance_of}
 use Rattle.settings.specs.declared.Settings.{Settings}
 use Rattle.settings.specs.Settings.{capacity_of}
-use Rattle.bench.specs.declared.Tick.{Tick}
 use Rattle.bench.specs.declared.Ticked.{Ticked as BenchTicked}
 use Rattle.bench.specs.computed.Bench.{sound_of}
 use Rattle.bench.specs.Bench.{moved_of}
@@ -141,7 +140,7 @@ module _ (s : Settings) where
   q = capacity_of s
 
   abbrev told : Ticked → BenchTicked
-  told k = ticks (Tick.Byte k.byte) (bench_told s k.after)
+  told k = ticks (Ok k.byte) (bench_told s k.after)
 
   tick_parts : (at : Point) (mark : Bool) (r : ℕ) (w : InWork)
       → (let k = bench_of at mark r w in

@@ -1,9 +1,10 @@
 -- Each call on a sound record leaves a sound one.
-use Rattle.std.specs.Prelude.{◌≡◌, Bool, cond, ◌||◌, ℕ, zero, suc, min}
+use Rattle.std.specs.Prelude.{◌≡◌, Bool, cond, ◌||◌, ℕ, zero, suc, min, Ok, Result, Err, ⊤}
 use Rattle.std.proofs.Math.Path.{refl}
 use Rattle.std.proofs.Math.Bool.{true, false}
-use Rattle.std.proofs.Common.{arith}
+use Rattle.std.proofs.Common.{arith, ap}
 use borrow.Author.Tests.{leb-true}
+use Rattle.question.specs.Question.{number_told}
 use Rattle.whole.specs.laws.Test.{both}
 use Rattle.plane.specs.declared.point.Point.{Point}
 use Rattle.plane.specs.declared.travel.Travel.{Travel}
@@ -24,7 +25,6 @@ use Rattle.bench.specs.Bench.{moved_of}
 use Rattle.bench.specs.computed.Calls.{load_with, load_of, ticks, working, tick_of}
 use Rattle.bench.specs.computed.Run.{ran_over, no_tick, run_of}
 use Rattle.bench.specs.declared.Report.{Report}
-use Rattle.bench.specs.declared.Tick.{Tick}
 use Rattle.settings.specs.laws.Right.{Right, settings_right}
 use Rattle.bench.specs.laws.Sound.{Sound, sound, sound_test, loadable}
 use Rattle.invariant.specs.laws.Load.{begun_sound}
@@ -57,7 +57,7 @@ module _ (m : Bench) (e : sound_of m ≡ true) where
 
   pub load_keeps : (b : Block) → sound_of (load_of m b).bench ≡ true
   unfolding load_of ask_load begun_of
-  load_keeps b = rw e (by (load_no q0 t (is_nothing m.work) m.at b) refl)
+  load_keeps b = rw e (by (ask_load q0 t (is_nothing m.work) m.at b) refl)
     where
       loaded : load_no q0 t (is_nothing m.work) m.at b ≡ 0 → work_sound q0 t m.at (begun_of m.at b).work ≡ true
       loaded none =
@@ -69,15 +69,15 @@ module _ (m : Bench) (e : sound_of m ≡ true) where
           (loadable m.at right.wide parts.in_travel b q0 (is_nothing m.work) none)
           end.1
 
-      by : (n : ℕ) → load_no q0 t (is_nothing m.work) m.at b ≡ n → sound_of (load_with m b n).bench ≡ true
-      by zero none = moved (record { inside = inside parts.in_travel; below = parts.below; sound = loaded none })
-      by (suc n) some = e
+      by : (r : Result ⊤ Question) → ask_load q0 t (is_nothing m.work) m.at b ≡ r → sound_of (load_with m b r).bench ≡ true
+      by (Ok passed) asked = moved (record { inside = inside parts.in_travel; below = parts.below; sound = loaded (ap number_told asked) })
+      by (Err q) refused = e
 
   pub tick_keeps : sound_of (tick_of m).bench ≡ true
   unfolding tick_of
   tick_keeps = rw e (by (m.held || is_nothing m.work))
     where
-      by : (still : Bool) → sound_of (cond still (ticks (Tick.Byte 0) m) (working m (advance_of q0 m.at m.remainder m.work))).bench
+      by : (still : Bool) → sound_of (cond still (ticks (Ok 0) m) (working m (advance_of q0 m.at m.remainder m.work))).bench
           ≡ true
       by true = e
       by false = moved (keeps_sound q0 t m.work here)
@@ -89,8 +89,8 @@ module _ (m : Bench) (e : sound_of m ≡ true) where
       strip : Strip
       strip = strip_of q0 (min budget buffer) m.at m.remainder m.work
 
-      by : (idle held : Bool) → sound_of (cond idle (no_tick m Report.Idle)
-          (cond held (no_tick m Report.Held) (ran_over m budget strip))).ran.bench ≡ true
+      by : (idle held : Bool) → sound_of (cond idle (no_tick m (Ok Report.Idle))
+          (cond held (no_tick m (Ok Report.Held)) (ran_over m budget strip))).ran.bench ≡ true
       by true held = e
       by false true = e
       by false false = moved (strip_keeps q0 t (min budget buffer) m.at m.remainder m.work here)

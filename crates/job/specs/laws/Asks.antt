@@ -1,12 +1,16 @@
 -- What the reader's call answers at an idle machine is what the line asks.
-use Rattle.std.specs.Prelude.{◌≡◌, refl, Bool, true, false, cond, List, length}
+use Rattle.std.specs.Prelude.{◌≡◌, refl, Bool, true, false, cond, List, length, Result, Ok, Err, ⊤}
 use Rattle.std.proofs.Common.{ap, ◌∙◌}
 use Rattle.std.proofs.Math.Path.{subst}
 use Prim.Native.Nat.{ℕ, zero, suc}
+use Rattle.question.specs.laws.Ask.{passed}
+use Rattle.question.specs.laws.Number.{number_some}
+use Rattle.question.specs.Question.{number_of, number_told}
+use Rattle.question.specs.declared.Question.{Question}
 use Rattle.plane.specs.declared.point.Point.{Point}
 use Rattle.block.specs.declared.Block.{Block}
 use Rattle.block.specs.Block.{block_width}
-use Rattle.block.specs.Questions.{load_no}
+use Rattle.block.specs.Questions.{load_no, ask_load}
 use Rattle.letters.specs.declared.word.Words.{Words}
 use Rattle.words.specs.declared.line.Line.{Line}
 use Rattle.words.specs.Meaning.{Means}
@@ -40,22 +44,28 @@ pub data Read-as (m : Bench) (k : Reader) : Asks → ReadLine → Type 0 where
   refuses : (number : ℕ) → Read-as m k (Asks.refuses number) (reads (Read.Refused number) k m)
 
 module _ (m : Bench) (sound : sound_of m ≡ true) (idle : is_nothing m.work ≡ true) where
-  load_is : (b : Block) → load_of m b ≡ load_with m b (load_no (capacity_of m.settings) m.settings.travel true m.at b)
+  load_is : (b : Block) → load_of m b ≡ load_with m b (ask_load (capacity_of m.settings) m.settings.travel true m.at b)
   unfolding load_of
   load_is b = rw (sound, idle)
 
   pub load_accepted : (b : Block) → Accepted m b → load_of m b ≡ taking m (begun_of m.at b)
-  load_accepted b e = load_is b ∙ ap (load_with m b) e
+  load_accepted b e =
+      load_is b ∙ ap (load_with m b) (passed (ask_load (capacity_of m.settings) m.settings.travel true m.at b) e)
 
 module _ (m : Bench) (k : Reader) (sound : sound_of m ≡ true) (idle : is_nothing m.work ≡ true) where
-  load_asks_lem : (k' : Reader) (b : Block) (number : ℕ) → load_no (capacity_of m.settings) m.settings.travel true m.at b ≡ number
-      → Read-as m k (load_asks k' b number) (loaded k k' m (load_with m b number).bench (load_with m b number).answer)
+  refused_asks : (k' : Reader) (b : Block) (n : ℕ) → (n ≡ 0 → ⊥) → Read-as m k (load_asks k' b n) (reads (Read.Refused n) k m)
+  refused_asks k' b zero some = absurd (some refl)
+  refused_asks k' b (suc n) some = Read-as.refuses (suc n)
+
+  load_asks_lem : (k' : Reader) (b : Block) (asked : Result ⊤ Question)
+      → ask_load (capacity_of m.settings) m.settings.travel true m.at b ≡ asked
+      → Read-as m k (load_asks k' b (number_told asked)) (loaded k k' m (load_with m b asked).bench (load_with m b asked).answer)
   unfolding begun_of
-  load_asks_lem k' b zero e =
+  load_asks_lem k' b (Ok passed) e =
       subst (λ (n : Bench). Read-as m k (Asks.makes k' b) (reads (Read.Loaded (block_width m.at b)) k' n))
-      (ap (λ (a : Answered). a.bench) (load_accepted m sound idle b e))
-      (Read-as.makes k' b e)
-  load_asks_lem k' b (suc n) e = Read-as.refuses (suc n)
+      (ap (λ (a : Answered). a.bench) (load_accepted m sound idle b (ap number_told e)))
+      (Read-as.makes k' b (ap number_told e))
+  load_asks_lem k' b (Err q) e = refused_asks k' b (number_of q) (number_some q)
 
   block_asks_lem : (k' : Reader) (b : Block) → Read-as m k (block_asks feed_unit m.settings m.at k' b) (takes k k' m (block_asked m.at b))
   block_asks_lem k' b = by (goes_nowhere b.end m.at b.path)
@@ -64,7 +74,7 @@ module _ (m : Bench) (k : Reader) (sound : sound_of m ≡ true) (idle : is_nothi
           (load_asks k' b (load_no (capacity_of m.settings) m.settings.travel true m.at b)))
           (takes k k' m (cond stays ToLoad.Nothing (ToLoad.Block b)))
       by true = Read-as.nothing k'
-      by false = rw (load_is m sound idle b) (load_asks_lem k' b (load_no (capacity_of m.settings) m.settings.travel true m.at b) refl)
+      by false = rw (load_is m sound idle b) (load_asks_lem k' b (ask_load (capacity_of m.settings) m.settings.travel true m.at b) refl)
 
   words_ask_lem : (k' : Reader) (ws : Words) (number : ℕ)
       → Read-as m k (words_ask feed_unit m.settings m.at k' ws number)

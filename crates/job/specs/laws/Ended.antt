@@ -1,6 +1,6 @@
 -- A block that a machine at rest accepts, run to its end: by the closed forms and by the machine's own run. From a remainder that pays for
 -- no cycle it ends on the tick of 02 §2's formula, and leaves such a remainder.
-use Rattle.std.specs.Prelude.{◌≡◌, true, ℕ, ◌+◌, ◌-◌, ◌*◌, ◌<◌}
+use Rattle.std.specs.Prelude.{◌≡◌, true, ℕ, ◌+◌, ◌-◌, ◌*◌, ◌<◌, Ok}
 use Rattle.std.proofs.Math.Path.{ap}
 use Rattle.std.proofs.Common.{subst, ◌∙◌}
 use Rattle.plane.specs.Byte.{cycles_marked}
@@ -49,10 +49,10 @@ module _ (m : Bench) (r : AtRest m) (b : Block) (ok : Accepted m b) where
 
   -- on the machine itself
   pub ended_run : (run_of (load_of m b).bench enough enough).ran
-      ≡ record { report = Report.Ended; ticks = (ended_of m b).ticks; cycles = (ended_of m b).cycles; bench = (ended_of m b).bench }
+      ≡ record { report = Ok Report.Ended; ticks = (ended_of m b).ticks; cycles = (ended_of m b).cycles; bench = (ended_of m b).bench }
   ended_run =
       finish_is_run (load_of m b).bench (loaded_at_work m r b asked) enough enough (ticks_most _) (ticks_most _)
-      ∙ ap (λ (f : Finished). record { report = Report.Ended; ticks = f.ticks; cycles = f.cycles; bench = f.bench }) ended
+      ∙ ap (λ (f : Finished). record { report = Ok Report.Ended; ticks = f.ticks; cycles = f.cycles; bench = f.bench }) ended
 
   pub ended_cycles : cycles_marked (run_of (load_of m b).bench enough enough).bytes ≡ (ended_of m b).cycles
   ended_cycles =

@@ -1,10 +1,12 @@
 -- What a check that has just begun has still to hand out is the listing of the text.
-use Rattle.std.specs.Prelude.{◌≡◌, refl, Bool, true, false, cond, List, [], ◌∷◌, ◌++◌, ℕ, zero, suc, ◌≤◌, eqb, leb, length, pos}
+use Rattle.std.specs.Prelude.{◌≡◌, refl, Bool, true, false, cond, List, [], ◌∷◌, ◌++◌, ℕ, zero, suc, ◌≤◌, eqb, leb, length, pos, Result, Ok, Err, ⊤}
 use Rattle.std.proofs.Common.{ap, ◌∙◌, arith, leb-true}
+use Rattle.question.specs.Question.{number_told}
+use Rattle.question.specs.declared.Question.{Question}
 use Rattle.row.specs.Lines.{header_line, refused_line}
 use Rattle.settings.specs.declared.Settings.{Settings}
 use Rattle.settings.specs.Settings.{standard_settings, capacity_of}
-use Rattle.settings.specs.computed.Settings.{settings_no}
+use Rattle.settings.specs.computed.Settings.{settings_no, ask_settings}
 use Rattle.settings.specs.laws.Right.{settings_right, standard_passes}
 use Rattle.finish.specs.laws.Record.{AtRest}
 use Rattle.bench.specs.declared.Bench.{Bench}
@@ -41,11 +43,11 @@ fresh_rests s passed = record { sound = fresh_sound s passed; idle = refl; free 
 -- of whatever settings
 pub made_rests : (s : Settings) → AtRest (make_of s).bench
 unfolding make_of
-made_rests s = by (settings_no s) refl
+made_rests s = by (ask_settings s) refl
   where
-    by : (n : ℕ) → settings_no s ≡ n → AtRest (make_with s n).bench
-    by zero e = fresh_rests s e
-    by (suc n) e = fresh_rests standard_settings standard_passes
+    by : (asked : Result ⊤ Question) → ask_settings s ≡ asked → AtRest (make_with s asked).bench
+    by (Ok passed) e = fresh_rests s (ap number_told e)
+    by (Err q) e = fresh_rests standard_settings standard_passes
 
 pub fresh_low : (s : Settings) → settings_no s ≡ 0 → Low (fresh_of s)
 unfolding fresh_of

@@ -1,6 +1,7 @@
 -- Each text line leaves a tally that a start reaches.
-use Rattle.std.specs.Prelude.{◌≡◌, refl, Bool, true, false, cond, List, ℕ, zero, suc, ◌+◌, ◌/◌, ◌%◌, ◌^◌, ◌≤◌, ◌<◌, length, Option}
+use Rattle.std.specs.Prelude.{◌≡◌, refl, Bool, true, false, cond, List, ℕ, zero, suc, ◌+◌, ◌/◌, ◌%◌, ◌^◌, ◌≤◌, ◌<◌, length, Option, Result, Ok, Err}
 use Rattle.std.proofs.Common.{arith}
+use Rattle.question.specs.declared.Question.{Question}
 use Rattle.letters.specs.declared.word.Word.{Word}
 use Rattle.letters.specs.declared.word.Words.{Words}
 use Rattle.words.specs.computed.Meaning.{meaning_of}
@@ -58,10 +59,10 @@ feed_after_lem f w h known = by w.stands
     by false = known
 
 module _ (k k' : Reader) (m : Bench) (before : FeedSmall k.feed) (after : FeedSmall k'.feed) where
-  feed_loaded : (next : Bench) (a : Answer) → FeedSmall (loaded k k' m next a).reader.feed
-  feed_loaded next Answer.Done = after
-  feed_loaded next (Answer.Width bits) = after
-  feed_loaded next (Answer.Refused number) = before
+  feed_loaded : (next : Bench) (a : Result Answer Question) → FeedSmall (loaded k k' m next a).reader.feed
+  feed_loaded next (Ok Answer.Done) = after
+  feed_loaded next (Ok (Answer.Width bits)) = after
+  feed_loaded next (Err number) = before
 
   feed_taken : (a : ToLoad) → FeedSmall (takes k k' m a).reader.feed
   feed_taken ToLoad.Nothing = after

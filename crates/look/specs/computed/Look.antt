@@ -1,5 +1,6 @@
 -- 02 §1, Where will it be?: tick calls so many times, what a look-ahead answers of them, and how it goes through the blocks that wait.
-use Rattle.std.specs.Prelude.{cond, List, [], ℕ, zero, suc, leb, pos, ◌-ℤ◌, length}
+use Rattle.std.specs.Prelude.{cond, List, [], ℕ, zero, suc, leb, pos, ◌-ℤ◌, length, Ok, Err}
+use Rattle.question.specs.declared.Question.{Question}
 use Rattle.plane.specs.declared.point.Point.{Point}
 use Rattle.plane.specs.Byte.{code_x, code_y}
 use Rattle.run.specs.computed.Run.{strip_of}
@@ -35,14 +36,14 @@ sums_of bytes = record { x = pulses_in code_x bytes; y = pulses_in code_y bytes 
 
 -- "The machine itself comes back unchanged."
 abbrev pub looked : Machine → Ticking → Ahead
-looked m t = record { answer = Answer.Done; then = t.machine; sums = sums_of t.bytes; machine = m }
+looked m t = record { answer = Ok Answer.Done; then = t.machine; sums = sums_of t.bytes; machine = m }
 
 -- "A refusal gives the machine's own record and sums of 0."
-abbrev pub refusing : Machine → (number : ℕ) → Ahead
-refusing m number = record { answer = Answer.Refused number; then = m; sums = record { x = pos 0; y = pos 0 }; machine = m }
+abbrev pub refusing : Machine → Question → Ahead
+refusing m q = record { answer = Err q; then = m; sums = record { x = pos 0; y = pos 0 }; machine = m }
 
 unfoldable pub ahead_of : Machine → (ticks : ℕ) → Ahead
-ahead_of m n = cond (sound_of m) (cond (leb n most_ticks) (looked m (ticking_of n m)) (refusing m 38)) (refusing m 9)
+ahead_of m n = cond (sound_of m) (cond (leb n most_ticks) (looked m (ticking_of n m)) (refusing m Question.LookLength)) (refusing m Question.Sound)
 
 -- ---- inner functions' answers
 

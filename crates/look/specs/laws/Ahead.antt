@@ -5,6 +5,7 @@ use Rattle.std.proofs.Common.{sym, ap, ◌∙◌, arith}
 use Rattle.std.proofs.Math.Bool.{true, false}
 use Rattle.std.proofs.Math.Dec.{leb}
 use borrow.Author.Tests.{leb-true, le-leb, lt-leb}
+use Rattle.question.specs.declared.Question.{Question}
 use Rattle.whole.specs.laws.Difference.{ring, var, num, ◌⊕◌, ◌⊖◌}
 use Rattle.plane.specs.declared.point.Point.{Point}
 use Rattle.plane.specs.Point.{Near}
@@ -31,25 +32,25 @@ module _ (m : Machine) (n : ℕ) where
   unfolding ahead_of
   looks sound most = rw (sound, le-leb n most_ticks most)
 
-  pub too_far : sound_of m ≡ true → most_ticks < n → ahead_of m n ≡ refusing m 38
+  pub too_far : sound_of m ≡ true → most_ticks < n → ahead_of m n ≡ refusing m Question.LookLength
   unfolding ahead_of
   too_far sound more = rw (sound, lt-leb n most_ticks more)
 
-  pub unsound : sound_of m ≡ false → ahead_of m n ≡ refusing m 9
+  pub unsound : sound_of m ≡ false → ahead_of m n ≡ refusing m Question.Sound
   unfolding ahead_of
   unsound not_sound = rw not_sound
 
   -- what holds of a look, and of a refusal
   pub either : (P : Ahead → Type 0) → (sound_of m ≡ true → n ≤ most_ticks → P (looked m (ticking_of n m)))
-      → ((number : ℕ) → P (refusing m number)) → P (ahead_of m n)
+      → ((q : Question) → P (refusing m q)) → P (ahead_of m n)
   unfolding ahead_of
   either P seen refused = by (sound_of m) (leb n most_ticks) refl refl
     where
       by : (sound most : Bool) → sound_of m ≡ sound → leb n most_ticks ≡ most
-          → P (cond sound (cond most (looked m (ticking_of n m)) (refusing m 38)) (refusing m 9))
+          → P (cond sound (cond most (looked m (ticking_of n m)) (refusing m Question.LookLength)) (refusing m Question.Sound))
       by true true s l = seen s (leb-true n most_ticks l)
-      by true false s l = refused 38
-      by false most s l = refused 9
+      by true false s l = refused Question.LookLength
+      by false most s l = refused Question.Sound
 
   -- "The machine itself comes back unchanged."
   pub unchanged : (ahead_of m n).machine ≡ m

@@ -1,5 +1,6 @@
 -- What inner code computes, and what it asks of its callers.
-use Rattle.std.specs.Prelude.{◌≡◌, true, false, cond, ◌&&◌, Option, Some, None, ℕ, ◌-◌, leb, eqb, ltb}
+use Rattle.std.specs.Prelude.{◌≡◌, true, false, cond, ◌&&◌, Option, Some, None, ℕ, ◌-◌, leb, eqb, ltb, Result, Ok, Err}
+use Rattle.question.specs.declared.Question.{Question}
 use Rattle.plane.specs.declared.point.Point.{Point}
 use Rattle.block.specs.declared.Block.{Block}
 use Rattle.block.specs.Questions.{load_no}
@@ -11,7 +12,6 @@ use Rattle.work.specs.Work.{is_nothing, cycles_left, end_of}
 use Rattle.work.specs.Work.{root_in}
 use Rattle.settings.specs.Settings.{capacity_of}
 use Rattle.bench.specs.declared.Bench.{Bench}
-use Rattle.bench.specs.declared.Tick.{Tick}
 use Rattle.bench.specs.computed.Bench.{sound_of as bench_sound}
 use Rattle.machine.specs.declared.Machine.{Machine}
 use Rattle.machine.specs.Machine.{to_do, start_of}
@@ -22,9 +22,9 @@ unfoldable pub work_off : (at : Point) → Work → (root count : ℕ) → Optio
 work_off at w root count = cond (eqb root (root_in w) && leb (cycles_left at w) count) (Some (count - cycles_left at w)) None
 
 -- the cycles that a tick's answer marks
-abbrev pub cycles_told : Tick → ℕ
-cycles_told (Tick.Byte byte) = cond (ltb byte 16) 0 1
-cycles_told (Tick.Refused number) = 0
+abbrev pub cycles_told : Result ℕ Question → ℕ
+cycles_told (Ok byte) = cond (ltb byte 16) 0 1
+cycles_told (Err number) = 0
 
 -- a bench after ticks, and what waits behind it
 pub record Coming (k : Bench) (root left : ℕ) (q : Queue) : Type 0 where

@@ -1,14 +1,15 @@
 -- A call's answer by what the code has found out: refused, accepted, or as the bench answers.
-use Rattle.std.specs.Prelude.{◌≡◌, refl, Bool, true, false, List, ℕ, zero, suc, length}
-use Rattle.std.proofs.Common.{ap, ◌∙◌}
+use Rattle.std.specs.Prelude.{◌≡◌, refl, Bool, true, false, List, ℕ, length, Ok, Err, ⊤, Result}
+use Rattle.std.proofs.Common.{sym, ap, ◌∙◌}
+use Rattle.question.specs.declared.Question.{Question}
+use Rattle.question.specs.laws.Ask.{passed}
 use Rattle.block.specs.declared.Block.{Block}
 use Rattle.run.specs.computed.Run.{written}
 use Rattle.settings.specs.declared.Settings.{Settings}
-use Rattle.settings.specs.computed.Settings.{settings_no}
+use Rattle.settings.specs.computed.Settings.{settings_no, ask_settings}
 use Rattle.settings.specs.Settings.{standard_settings}
 use Rattle.bench.specs.declared.Answer.{Answer}
 use Rattle.bench.specs.declared.Ran.{Ran as BenchRan}
-use Rattle.bench.specs.declared.Report.{Report}
 use Rattle.bench.specs.Bench.{marked_of}
 use Rattle.bench.specs.computed.Run.{run_of as bench_run}
 use Rattle.machine.specs.declared.Machine.{Machine}
@@ -21,28 +22,22 @@ use Rattle.machine.specs.computed.Calls.{if_sound, make_with, make_of, load_with
 use Rattle.machine.specs.computed.Run.{no_tick, run_of}
 use Rattle.machine.specs.laws.Right.{sound, marked_record}
 
-pub make_refused : (s : Settings) {n : ℕ} → n ≡ settings_no s → (n ≡ 0 → ⊥)
-    → answers (Answer.Refused n) (fresh_of standard_settings) ≡ make_of s
+pub make_refused : (s : Settings) {q : Question} → Err q ≡ ask_settings s → answers (Err q) (fresh_of standard_settings) ≡ make_of s
 unfolding make_of
-make_refused s {n} e some = by n some ∙ ap (make_with s) e
-  where
-    by : (n : ℕ) → (n ≡ 0 → ⊥) → answers (Answer.Refused n) (fresh_of standard_settings) ≡ make_with s n
-    by zero some = absurd (some refl)
-    by (suc n) some = refl
+make_refused s e = rw (← e) refl
 
-pub make_done : (s : Settings) {n : ℕ} → n ≡ settings_no s → n ≡ 0 → answers Answer.Done (fresh_of s) ≡ make_of s
+pub make_done : (s : Settings) {n : ℕ} → n ≡ settings_no s → n ≡ 0 → answers (Ok Answer.Done) (fresh_of s) ≡ make_of s
 unfolding make_of
-make_done s e none = rw (← e, none)
+make_done s e none = rw (passed (ask_settings s) (sym e ∙ none)) refl
 
-pub load_refused : (m : Machine) (b : Block) (n : ℕ) → (n ≡ 0 → ⊥) → answers (Answer.Refused n) m ≡ load_with m b n
-load_refused m b zero some = absurd (some refl)
-load_refused m b (suc n) some = refl
+pub load_refused : (m : Machine) (b : Block) (r : Result ⊤ Question) {q : Question} → r ≡ Err q → answers (Err q) m ≡ load_with m b r
+load_refused m b r e = rw e refl
 
 pub marked_done : (m : Machine) (mark : Bool) → sound_of m ≡ true
     → ◌≡◌ {A = Answered}
-    (answers Answer.Done (record { bench = marked_of m.bench mark; root = m.root; left = m.left; queue = m.queue }))
-    (if_sound m (answers Answer.Done (mark_of m mark)))
-marked_done m mark e = rw e (ap (answers Answer.Done) (marked_record m mark (sound m e)))
+    (answers (Ok Answer.Done) (record { bench = marked_of m.bench mark; root = m.root; left = m.left; queue = m.queue }))
+    (if_sound m (answers (Ok Answer.Done) (mark_of m mark)))
+marked_done m mark e = rw e (ap (answers (Ok Answer.Done)) (marked_record m mark (sound m e)))
 
 -- ---- a run
 
@@ -51,7 +46,7 @@ module _ (m : Machine) (budget : ℕ) (out : List ℕ) where
   abbrev pub Done : Ran → (buffer : List ℕ) → Type 0
   Done r buffer = (r ≡ (run_of m budget (length out)).ran) × (buffer ≡ written (run_of m budget (length out)).bytes out)
 
-  pub run_refused : sound_of m ≡ false → Done (no_tick m (Report.Refused 9)).ran out
+  pub run_refused : sound_of m ≡ false → Done (no_tick m (Err Question.Sound)).ran out
   unfolding run_of written
   run_refused unsound = rw unsound (refl, refl)
 

@@ -1,17 +1,18 @@
 -- Each call on a sound record leaves a sound one.
-use Rattle.std.specs.Prelude.{◌≡◌, Bool, cond}
+use Rattle.std.specs.Prelude.{◌≡◌, Bool, cond, Result, Ok, Err, ⊤}
 use Rattle.std.proofs.Math.Path.{refl, subst}
-use Rattle.std.proofs.Common.{sym, ◌∙◌, true≢false, arith, ltb-true}
+use Rattle.std.proofs.Common.{sym, ◌∙◌, true≢false, arith, ltb-true, ap}
 use Rattle.std.proofs.Math.Bool.{true, false}
 use Prim.Native.Nat.{ℕ, zero, suc}
 use Rattle.std.proofs.Math.Dec.{ltb}
+use Rattle.question.specs.Question.{number_told}
 use Rattle.plane.specs.declared.point.Point.{Point}
 use Rattle.plane.specs.declared.travel.Travel.{Travel}
 use Rattle.block.specs.declared.Block.{Block}
 use Rattle.block.specs.Questions.{load_no, ask_load}
 use Rattle.block.specs.Chain.{chain_end}
 use Rattle.question.specs.declared.Question.{Question}
-use Rattle.question.specs.laws.Ask.{answered}
+use Rattle.question.specs.laws.Ask.{answered, passed}
 use Rattle.queue.specs.declared.Queue.{Queue}
 use Rattle.queue.specs.Queue.{empty_queue, first_of, popped_of}
 use Rattle.queue.specs.laws.Sound.{QueueSound, queue_sound_lem, empty_sound, none_sound, push_sound, first_sound}
@@ -20,7 +21,7 @@ use Rattle.work.specs.Work.{is_nothing, end_of, begun_of}
 use Rattle.work.specs.laws.Left.{nothing_is, begun_end, begun_busy}
 use Rattle.settings.specs.declared.Settings.{Settings}
 use Rattle.settings.specs.Settings.{capacity_of, standard_settings}
-use Rattle.settings.specs.computed.Settings.{settings_no}
+use Rattle.settings.specs.computed.Settings.{settings_no, ask_settings}
 use Rattle.settings.specs.laws.Right.{standard_passes}
 use Rattle.bench.specs.declared.Bench.{Bench}
 use Rattle.bench.specs.computed.Bench.{sound_of as bench_sound}
@@ -59,7 +60,7 @@ module _ (k : Bench) (b : Block) (bench : bench_sound k ≡ true) (idle : is_not
   begun_bench = subst (λ (k' : Bench). bench_sound k' ≡ true) loaded (bench_load_keeps k bench b)
     where
       loaded : (bench_load k b).bench ≡ beginning k (begun_of k.at b).work
-      loaded = rw (bench, idle, asked) refl
+      loaded = rw (bench, idle, passed (ask_load (capacity_of k.settings) k.settings.travel true k.at b) asked) refl
 
   begun_sound : (q : Queue) → QueueSound (capacity_of k.settings) k.settings.travel b.end q
       → sound_of (machine_of (beginning k (begun_of k.at b).work) q) ≡ true
@@ -145,11 +146,11 @@ module _ (m : Machine) (e : sound_of m ≡ true) where
 
     pub load_keeps : sound_of (load_of m b).machine ≡ true
     unfolding load_of
-    load_keeps = rw e (by (load_no q0 t (ltb m.queue.len 16) start b) refl)
+    load_keeps = rw e (by (ask_load q0 t (ltb m.queue.len 16) start b) refl)
       where
-        by : (n : ℕ) → load_no q0 t (ltb m.queue.len 16) start b ≡ n → sound_of (load_with m b n).machine ≡ true
-        by zero asked = taken_sound asked (is_nothing m.bench.work) refl
-        by (suc n) refused = e
+        by : (r : Result ⊤ Question) → ask_load q0 t (ltb m.queue.len 16) start b ≡ r → sound_of (load_with m b r).machine ≡ true
+        by (Ok passed) asked = taken_sound (ap number_told asked) (is_nothing m.bench.work) refl
+        by (Err q) refused = e
 
 -- ---- make
 
@@ -160,8 +161,8 @@ fresh_sound s passed = record_sound (fresh_bench s) empty_queue (fresh_bench_lem
 -- refused or not
 pub make_keeps : (s : Settings) → sound_of (make_of s).machine ≡ true
 unfolding make_of
-make_keeps s = by (settings_no s) refl
+make_keeps s = by (ask_settings s) refl
   where
-    by : (n : ℕ) → settings_no s ≡ n → sound_of (make_with s n).machine ≡ true
-    by zero passed = fresh_sound s passed
-    by (suc n) refused = fresh_sound standard_settings standard_passes
+    by : (r : Result ⊤ Question) → ask_settings s ≡ r → sound_of (make_with s r).machine ≡ true
+    by (Ok passed) asked = fresh_sound s (ap number_told asked)
+    by (Err q) refused = fresh_sound standard_settings standard_passes

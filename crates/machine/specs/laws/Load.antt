@@ -1,5 +1,5 @@
 -- A block that no question refuses: it comes into work, or it waits; either way its cycles are added to those still to do.
-use Rattle.std.specs.Prelude.{◌≡◌, true, false, ℕ, ◌+◌, ◌^◌, ◌≤◌, ◌<◌}
+use Rattle.std.specs.Prelude.{◌≡◌, true, false, ℕ, ◌+◌, ◌^◌, ◌≤◌, ◌<◌, Ok}
 use Rattle.std.proofs.Math.Path.{refl, sym, ap}
 use Rattle.std.proofs.Common.{subst, ◌∙◌, ltb-true}
 use mathlib.Core.List.{List}
@@ -109,7 +109,7 @@ module _ {m : Machine} {start : Point} {b : Block} (g : Taking m start b) where
     c_own = c_is ∙ ap (cycles_left start) begun_is ∙ begun_left start b
 
     abbrev answered_with : Machine → Answered
-    answered_with n = answers (Answer.Width (begun_of (start_of mk m.queue) b).width) n
+    answered_with n = answers (Ok (Answer.Width (begun_of (start_of mk m.queue) b).width)) n
 
     at_start : begun_of start b ≡ begun_of (start_of mk m.queue) b
     at_start = ap (λ (p : Point). begun_of p b) g.start_is
@@ -146,8 +146,8 @@ module _ {m : Machine} {start : Point} {b : Block} (g : Taking m start b) where
 
       pub into_work :
           ◌≡◌ {A = Answered}
-          (answers (Answer.Width bits) (record { bench = beginning mk w; root = root; left = m.left + c; queue = m.queue }))
-          (load_with m b 0)
+          (answers (Ok (Answer.Width bits)) (record { bench = beginning mk w; root = root; left = m.left + c; queue = m.queue }))
+          (load_with m b (Ok tt))
       unfolding machine_of moved_of
       into_work = rw (idle, bits_is, ← at_start, root_is, left_now, ← begun_is) refl
 
@@ -168,13 +168,13 @@ module _ {m : Machine} {start : Point} {b : Block} (g : Taking m start b) where
 
       pub waits :
           ◌≡◌ {A = Answered}
-          (answers (Answer.Width bits) (record {
+          (answers (Ok (Answer.Width bits)) (record {
             bench = mk;
             root = m.root;
             left = m.left + c;
             queue = pushed_of m.queue
                 (record { block = b; root = root });
           }))
-          (load_with m b 0)
+          (load_with m b (Ok tt))
       unfolding machine_of
       waits = rw (busy, bits_is, ← at_start, ← g.start_is, root_own, left_then_lem, i'.right.root_is) refl

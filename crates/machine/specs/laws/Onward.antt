@@ -1,9 +1,10 @@
 -- What a sound bench has, and what its ticks leave of its block.
-use Rattle.std.specs.Prelude.{◌≡◌, Bool, cond, ◌||◌, ℕ, ◌+◌, ◌≤◌, ◌<◌, min, T}
+use Rattle.std.specs.Prelude.{◌≡◌, Bool, cond, ◌||◌, ℕ, ◌+◌, ◌≤◌, ◌<◌, min, T, Result, Ok, Err}
 use Rattle.std.proofs.Math.Path.{refl}
 use Rattle.std.proofs.Common.{subst, lt-ltb, le-ltb}
 use Rattle.std.proofs.Math.Bool.{true, false}
 use native.Mathlib.Omega.{arith}
+use Rattle.question.specs.declared.Question.{Question}
 use Rattle.plane.specs.declared.travel.Travel.{Travel}
 use Rattle.plane.specs.Travel.{inside_of}
 use Rattle.plane.specs.computed.Travel.{Wide}
@@ -20,7 +21,6 @@ use Rattle.run.specs.laws.Keep.{advance_end, advance_left, advance_root, strip_e
 use Rattle.settings.specs.Settings.{capacity_of}
 use Rattle.settings.specs.laws.Right.{settings_right}
 use Rattle.bench.specs.declared.Bench.{Bench}
-use Rattle.bench.specs.declared.Tick.{Tick}
 use Rattle.bench.specs.declared.Ticked.{Ticked}
 use Rattle.bench.specs.declared.Report.{Report}
 use Rattle.bench.specs.declared.Ran.{Ran as BenchRan}
@@ -34,13 +34,13 @@ use Rattle.machine.specs.computed.Asked.{cycles_told}
 
 -- ---- the cycles that a tick's answer marks
 
-pub told_none : {tick : Tick} {b : ℕ} → tick ≡ Tick.Byte b → b < 16 → cycles_told tick ≡ 0
+pub told_none : {tick : Result ℕ Question} {b : ℕ} → tick ≡ Ok b → b < 16 → cycles_told tick ≡ 0
 told_none {b = b} e h = rw (e, lt-ltb b 16 h) refl
 
-pub told_one : {tick : Tick} {b : ℕ} → tick ≡ Tick.Byte b → 16 ≤ b → cycles_told tick ≡ 1
+pub told_one : {tick : Result ℕ Question} {b : ℕ} → tick ≡ Ok b → 16 ≤ b → cycles_told tick ≡ 1
 told_one {b = b} e h = rw (e, le-ltb b 16 h) refl
 
-pub told_refused : {tick : Tick} {n : ℕ} → tick ≡ Tick.Refused n → cycles_told tick ≡ 0
+pub told_refused : {tick : Result ℕ Question} {q : Question} → tick ≡ Err q → cycles_told tick ≡ 0
 told_refused e = rw e refl
 
 -- ticks led from the bench k to k'
@@ -96,7 +96,7 @@ module _ (k : Bench) (e : sound_of k ≡ true) where
   told = rw e (by (k.held || is_nothing k.work) refl)
     where
       by : (still : Bool) → (k.held || is_nothing k.work) ≡ still
-          → Told (cond still (ticks (Tick.Byte 0) k) (working k (advance_of q0 k.at k.remainder k.work)))
+          → Told (cond still (ticks (Ok 0) k) (working k (advance_of q0 k.at k.remainder k.work)))
       by true f = record { same = refl; end = refl; root = λ more. refl; left = omega arith }
       by false f =
           record {
@@ -131,7 +131,7 @@ module _ (k : Bench) (e : sound_of k ≡ true) where
     ran = rw e (by (is_nothing k.work) refl k.held)
       where
         by : (idle : Bool) → is_nothing k.work ≡ idle → (held : Bool)
-            → Ran (cond idle (no_tick k Report.Idle) (cond held (no_tick k Report.Held) (ran_over k budget strip)))
+            → Ran (cond idle (no_tick k (Ok Report.Idle)) (cond held (no_tick k (Ok Report.Held)) (ran_over k budget strip)))
         by true f held = record { same = refl; end = refl; root = λ more. refl; left = omega arith }
         by false f true = record { same = refl; end = refl; root = λ more. refl; left = omega arith }
         by false f false =

@@ -1,8 +1,7 @@
 -- A machine whose bench stays as it was stays itself: a tick while idle or held.
-use Rattle.std.specs.Prelude.{◌≡◌, refl, Bool, true, false, cond, ◌||◌, ℕ, zero, suc}
+use Rattle.std.specs.Prelude.{◌≡◌, refl, Bool, true, false, cond, ◌||◌, ℕ, zero, suc, Ok}
 use Rattle.std.proofs.Common.{arith}
 use Rattle.work.specs.Work.{is_nothing}
-use Rattle.bench.specs.declared.Tick.{Tick}
 use Rattle.bench.specs.computed.Calls.{tick_of as bench_tick}
 use Rattle.machine.specs.declared.Machine.{Machine}
 use Rattle.machine.specs.computed.Machine.{sound_of}
@@ -27,6 +26,6 @@ next_own m i = by (is_nothing m.bench.work) refl
 
 -- 01: "Idle or held gives 0 and changes nothing."
 pub tick_rests : (m : Machine) → sound_of m ≡ true → m.bench.held || is_nothing m.bench.work ≡ true
-    → tick_of m ≡ ticks (Tick.Byte 0) m
+    → tick_of m ≡ ticks (Ok 0) m
 unfolding tick_of bench_tick
 tick_rests m e still = let i = sound m e in rw (e, i.bench, still, next_own m i) refl

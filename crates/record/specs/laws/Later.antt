@@ -1,5 +1,5 @@
 -- Ticks and runs change of the bench what `store_ticks` stores, and no more.
-use Rattle.std.specs.Prelude.{◌≡◌, Bool, true, false, cond, ◌||◌, List, ℕ, zero, suc, ◌+◌, ◌-◌, min, eqb, ℤ}
+use Rattle.std.specs.Prelude.{◌≡◌, Bool, true, false, cond, ◌||◌, List, ℕ, zero, suc, ◌+◌, ◌-◌, min, eqb, ℤ, Ok}
 use Rattle.std.proofs.Math.Path.{refl, subst}
 use Rattle.std.proofs.Common.{sym, ◌∙◌}
 use Rattle.plane.specs.declared.point.Point.{Point}
@@ -14,7 +14,6 @@ use Rattle.work.specs.computed.Work.{line_cycle, arc_cycle, cycle_of, due_of, ad
 use Rattle.run.specs.computed.Run.{Strip, in_front, strip_of}
 use Rattle.settings.specs.Settings.{capacity_of}
 use Rattle.bench.specs.declared.Bench.{Bench}
-use Rattle.bench.specs.declared.Tick.{Tick}
 use Rattle.bench.specs.declared.Ticked.{Ticked}
 use Rattle.bench.specs.declared.Ran.{Ran}
 use Rattle.bench.specs.declared.Report.{Report}
@@ -106,7 +105,7 @@ module _ (k : Bench) (sound : sound_of k ≡ true) where
       a : Advance
       a = advance_of (capacity_of k.settings) k.at k.remainder k.work
 
-      by : (still : Bool) → Ahead k (cond still (ticks (Tick.Byte 0) k) (working k a)).bench
+      by : (still : Bool) → Ahead k (cond still (ticks (Ok 0) k) (working k a)).bench
       by true = unmoved k
       by false = moved k a.at a.remainder a.work (advance_follows (capacity_of k.settings) k.at k.remainder k.work)
 
@@ -118,7 +117,7 @@ module _ (k : Bench) (sound : sound_of k ≡ true) where
       s = strip_of (capacity_of k.settings) (min budget buffer) k.at k.remainder k.work
 
       by : (nothing held : Bool)
-          → Ahead k (cond nothing (no_tick k Report.Idle) (cond held (no_tick k Report.Held) (ran_over k budget s))).ran.bench
+          → Ahead k (cond nothing (no_tick k (Ok Report.Idle)) (cond held (no_tick k (Ok Report.Held)) (ran_over k budget s))).ran.bench
       by true held = unmoved k
       by false true = unmoved k
       by false false =

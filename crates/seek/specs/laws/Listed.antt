@@ -1,9 +1,10 @@
 -- The block in work has the number and the text line that the listing gives it.
 use Rattle.std.specs.Prelude.{◌≡◌, Bool, true, false, cond, List, [], ◌∷◌, ℕ, suc, ◌+◌, ◌-◌, ◌<◌, leb, ltb, pos, length, drop, take}
 use Rattle.std.proofs.Common.{sym, ap, subst, ◌∙◌, arith}
+use Rattle.question.specs.laws.Ask.{passed as all_asked}
 use Rattle.block.specs.declared.Block.{Block}
 use Rattle.settings.specs.declared.Settings.{Settings}
-use Rattle.settings.specs.computed.Settings.{settings_no}
+use Rattle.settings.specs.computed.Settings.{settings_no, ask_settings}
 use Rattle.bench.specs.declared.Bench.{Bench}
 use Rattle.bench.specs.declared.Ran.{Ran}
 use Rattle.bench.specs.Bench.{moved_of, fresh_of}
@@ -104,7 +105,7 @@ lines_listed (l ∷ ls) blocks lines n m k i = by_line blocks lines n m k ls i (
 pub seek_listed : (s : Settings) → settings_no s ≡ 0 → (text : List ℕ) (n : ℕ)
     → (let a = seek_of s text n in Among a.found 0 a.block a.line (job_of s text).blocks)
 unfolding seek_of job_at make_of fresh_of
-seek_listed s passed text n = rw passed (by (leb (length text) longest_text))
+seek_listed s passed text n = rw (all_asked (ask_settings s) passed) (by (leb (length text) longest_text))
   where
     by : (short : Bool)
         → Listed (cond short (seek_from 0 0 n (fresh_of s) unknown (lines_of text)) (answer (Found.Refused 30) 0 1 n (fresh_of s))) 0

@@ -7,13 +7,14 @@ use native.Mathlib.Omega.{arith}
 use Rattle.std.proofs.Math.IntN.{pos}
 use Rattle.std.proofs.Math.Seq.{take-nil, take-append-add}
 use Rattle.std.proofs.lemmas.List.{take-append-le}
+use Rattle.question.specs.laws.Ask.{passed as all_asked}
 use Rattle.whole.specs.laws.Difference.{ring, var, num, ◌⊕◌}
 use Rattle.plane.specs.declared.point.Point.{Point}
 use Rattle.plane.specs.Byte.{code_x, code_y}
 use Rattle.block.specs.declared.Block.{Block}
 use Rattle.settings.specs.declared.Settings.{Settings}
 use Rattle.settings.specs.Settings.{capacity_of}
-use Rattle.settings.specs.computed.Settings.{settings_no}
+use Rattle.settings.specs.computed.Settings.{settings_no, ask_settings}
 use Rattle.bench.specs.declared.Bench.{Bench}
 use Rattle.bench.specs.declared.Answered.{Answered}
 use Rattle.bench.specs.declared.Ran.{Ran}
@@ -158,7 +159,7 @@ module _ (s : Settings) (passed : settings_no s ≡ 0) (text : List ℕ) (n : �
 
   text_stands : Stands (record { x = pos 0; y = pos 0 }) n (tick_bytes_of s text) result
   unfolding seek_of tick_bytes_of make_of fresh_of
-  text_stands = rw passed (by (leb (length text) longest_text))
+  text_stands = rw (all_asked (ask_settings s) passed) (by (leb (length text) longest_text))
     where
       by : (short : Bool)
           → Stands (record { x = pos 0; y = pos 0 }) n (cond short (bytes_from (fresh_of s) unknown (lines_of (drop 0 text))) [])

@@ -1,9 +1,10 @@
 -- A run to the end of the block in pieces: what a run has done, and the run to the end of what it leaves, are the run to the end.
-use Rattle.std.specs.Prelude.{◌≡◌, refl, Bool, false, cond, ◌&&◌, ◌||◌, not, List, [], ◌++◌, ℕ, ◌+◌, ◌-◌, ◌≤◌, min, T, length}
+use Rattle.std.specs.Prelude.{◌≡◌, refl, Bool, false, cond, ◌&&◌, ◌||◌, not, List, [], ◌++◌, ℕ, ◌+◌, ◌-◌, ◌≤◌, min, T, length, Ok, Err}
 use Rattle.std.proofs.Math.Path.{sym, ap}
 use Rattle.std.proofs.Common.{subst, ◌∙◌, append_assoc}
 use Rattle.std.proofs.Math.Bool.{true}
 use native.Mathlib.Omega.{arith}
+use Rattle.question.specs.declared.Question.{Question}
 use Rattle.work.specs.Work.{is_nothing}
 use Rattle.run.specs.computed.Run.{Strip, strip_of}
 use Rattle.run.specs.laws.Going.{after}
@@ -34,7 +35,7 @@ still m none budget buffer =
     (ran_over m budget (strip_of (capacity_of m.settings) (min budget buffer) m.at m.remainder m.work)) none
   where
     by : (sound idle held : Bool) (run : Run) → sound && not (idle || held) ≡ false
-        → (let r = cond sound (cond idle (no_tick m Report.Idle) (cond held (no_tick m Report.Held) run)) (no_tick m (Report.Refused 9)) in
+        → (let r = cond sound (cond idle (no_tick m (Ok Report.Idle)) (cond held (no_tick m (Ok Report.Held)) run)) (no_tick m (Err Question.Sound)) in
         (r.bytes ≡ []) × (r.ran.bench ≡ m))
     by true true held run e = (refl, refl)
     by true false true run e = (refl, refl)

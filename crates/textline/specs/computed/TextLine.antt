@@ -1,5 +1,7 @@
 -- 01, Questions, "Job text": one line of a job, read at a machine.
-use Rattle.std.specs.Prelude.{cond, List, ℕ, length}
+use Rattle.std.specs.Prelude.{cond, List, ℕ, length, Result, Ok, Err}
+use Rattle.question.specs.Question.{number_of}
+use Rattle.question.specs.declared.Question.{Question}
 use Rattle.words.specs.computed.Meaning.{meaning_of}
 use Rattle.bench.specs.declared.Answer.{Answer}
 use Rattle.machine.specs.declared.Machine.{Machine}
@@ -17,10 +19,10 @@ abbrev pub reads : Read → Reader → Machine → ReadLine
 reads a k m = record { answer = a; reader = k; machine = m }
 
 -- "Then load's questions": a refused line changes nothing, an accepted one leaves the G and F known after it
-abbrev pub loaded : (before after : Reader) → Machine → (next : Machine) → Answer → ReadLine
-loaded k k' m next Answer.Done = reads Read.Nothing k' next
-loaded k k' m next (Answer.Width bits) = reads (Read.Loaded bits) k' next
-loaded k k' m next (Answer.Refused number) = reads (Read.Refused number) k m
+abbrev pub loaded : (before after : Reader) → Machine → (next : Machine) → Result Answer Question → ReadLine
+loaded k k' m next (Ok Answer.Done) = reads Read.Nothing k' next
+loaded k k' m next (Ok (Answer.Width bits)) = reads (Read.Loaded bits) k' next
+loaded k k' m next (Err q) = reads (Read.Refused (number_of q)) k m
 
 -- "A refused line leaves the known G and F and the machine as before it."
 abbrev pub takes : (before after : Reader) → Machine → ToLoad → ReadLine

@@ -1,5 +1,6 @@
 -- What a line does at a machine, by the meaning that the grammar gives it; and the record after it.
-use Rattle.std.specs.Prelude.{◌≡◌, Bool, true, false, cond, List, ℕ, length}
+use Rattle.std.specs.Prelude.{◌≡◌, Bool, true, false, cond, List, ℕ, length, Result, Ok, Err}
+use Rattle.question.specs.declared.Question.{Question}
 use Rattle.block.specs.declared.Block.{Block}
 use Rattle.words.specs.declared.line.Line.{Line}
 use Rattle.words.specs.Meaning.{Means}
@@ -29,10 +30,10 @@ read_means k m bytes l means = rw (means_unique bytes (meaning_of bytes) l (mean
 -- ---- the record after a line is the one before it, or that after a load: what holds of both holds of it
 
 module _ (P : Machine → Type 0) (m : Machine) (same : P m) (load : (b : Block) → P (load_of m b).machine) (k k' : Reader) where
-  loaded_either : (b : Block) (a : Answer) → P (loaded k k' m (load_of m b).machine a).machine
-  loaded_either b Answer.Done = load b
-  loaded_either b (Answer.Width bits) = load b
-  loaded_either b (Answer.Refused number) = same
+  loaded_either : (b : Block) (a : Result Answer Question) → P (loaded k k' m (load_of m b).machine a).machine
+  loaded_either b (Ok Answer.Done) = load b
+  loaded_either b (Ok (Answer.Width bits)) = load b
+  loaded_either b (Err number) = same
 
   takes_either : (a : ToLoad) → P (takes k k' m a).machine
   takes_either ToLoad.Nothing = same

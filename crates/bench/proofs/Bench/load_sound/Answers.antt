@@ -1,11 +1,9 @@
 -- `load_sound` is right because it asks the questions of the definition, and what an accepted block asks of the code follows from them.
 use Rattle.std.proofs.Common.{sym, ap, ◌∙◌}
 use Rattle.question.specs.Question.{number_told}
-use Rattle.question.specs.laws.Number.{number_some}
 use Rattle.settings.specs.laws.Right.{settings_right}
 use Rattle.bench.specs.computed.Calls.{load_of}
 use Rattle.bench.specs.laws.Sound.{sound, loadable}
-use Rattle.bench.specs.laws.Calls.{load_refused}
 use Rattle.bench.proofs.Bench.load_sound.Goals as goal
 
 pub capacity-requires : goal.capacity-requires
@@ -17,8 +15,7 @@ ask_load-requires c = let s = sound c.requires in ((settings_right _ s.settings)
 pub returns-in-Err : goal.returns-in-Err
 unfolding load_of
 returns-in-Err c =
-    rw c.number.ensures (load_refused _ c.args.b _ (number_some _)
-    ∙ simp (sym (rw (c.is_nothing.ensures, c.capacity.ensures) at c.ask_load.ensures) ∙ c.in-Err.is, c.requires))
+    simp (c.requires, sym (rw (c.is_nothing.ensures, c.capacity.ensures) at c.ask_load.ensures) ∙ c.in-Err.is)
 
 pub begin-begun-requires : goal.begin-begun-requires
 begin-begun-requires c =

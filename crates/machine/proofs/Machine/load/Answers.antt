@@ -1,13 +1,11 @@
 -- `load` is right because it asks the questions of the definition, from the place of the definition.
 use Rattle.std.proofs.Common.{◌≡◌, refl, sym, ap, ◌∙◌, true, ltb}
 use Rattle.question.specs.Question.{number_told}
-use Rattle.question.specs.laws.Number.{number_some}
 use Rattle.bench.specs.laws.Sound.{sound as bench_parts}
 use Rattle.machine.specs.computed.Calls.{load_of}
 use Rattle.machine.specs.laws.Right.{Sound, sound}
 use Rattle.machine.specs.laws.Onward.{wide}
 use Rattle.machine.specs.laws.Load.{start_inside}
-use Rattle.machine.specs.laws.Calls.{load_refused}
 use Rattle.machine.proofs.Machine.load.Goals as goal
 
 pub returns-then-not-is_sound : goal.returns-then-not-is_sound
@@ -30,12 +28,11 @@ pub returns-in-Err : goal.returns-in-Err
 unfolding load_of
 returns-in-Err c =
     c.refused-in-Err.ensures
-    ∙ rw c.number.ensures (load_refused _ c.args.b _ (number_some _)
     ∙ simp (
       sym c.is_sound.ensures ∙ c.if-not-is_sound.false,
       ← c.start_of-start.ensures,
       sym (rw c.capacity.ensures at c.ask_load.ensures) ∙ c.in-Err.is,
-    ))
+    )
 
 pub take-requires : goal.take-requires
 take-requires c =

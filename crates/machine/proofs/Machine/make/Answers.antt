@@ -1,15 +1,13 @@
 -- `make` is right because it asks the questions of the settings, and answers the fresh machine of those that pass, else of the standard
 -- ones.
-use Rattle.std.proofs.Common.{◌≡◌, refl, sym, ap, ◌∙◌}
-use Rattle.question.specs.Question.{number_told}
-use Rattle.question.specs.laws.Number.{number_some}
-use Rattle.machine.specs.laws.Calls.{make_refused, make_done}
+use Rattle.std.proofs.Common.{sym, ◌∙◌}
+use Rattle.machine.specs.computed.Calls.{make_of}
 use Rattle.machine.proofs.Machine.make.Goals as goal
 
 pub returns-in-Ok : goal.returns-in-Ok
-returns-in-Ok c = rw c.fresh.ensures (make_done _ refl (ap number_told (sym c.ask_settings.ensures ∙ c.in-Ok.is)))
+unfolding make_of
+returns-in-Ok c = simp (c.fresh.ensures, sym c.ask_settings.ensures ∙ c.in-Ok.is)
 
 pub returns-in-Err : goal.returns-in-Err
-returns-in-Err c =
-    rw (c.fresh-in-Err.ensures, c.standard.ensures, c.number.ensures)
-    (make_refused _ (ap number_told (sym c.in-Err.is ∙ c.ask_settings.ensures)) (number_some _))
+unfolding make_of
+returns-in-Err c = simp (c.fresh-in-Err.ensures, c.standard.ensures, sym c.ask_settings.ensures ∙ c.in-Err.is)

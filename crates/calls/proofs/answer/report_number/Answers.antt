@@ -1,0 +1,8 @@
+-- `report_number` is right because each report has its own number.
+use Rattle.std.proofs.Common.{◌≡◌, ◌∙◌, ◌^◌, ◌<◌, ap, rules}
+use Rattle.encoding.specs.laws.Number.{word_fits, refusal_fits, through}
+use Rattle.encoding.specs.Words.{refusal_of}
+use Rattle.calls.proofs.answer.report_number.Goals as goal
+
+pub returns-in-Err : goal.returns-in-Err
+returns-in-Err c = through (refusal_fits _) c.refusal.ensures ∙ simp (c.in-Err.is, c.number.ensures)
