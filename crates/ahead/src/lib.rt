@@ -2,22 +2,21 @@
 // ticks, on lines and arcs alike. At a block's end nothing comes into work: a job loads its next block itself.
 #![tactic(auto)]
 
-ghost use Rattle.std.specs.Prelude.{◌≡◌, true};
-ghost use Rattle.bench.specs.computed.Bench.{sound_of};
+ghost use Rattle.std.specs.Prelude.{◌≡◌};
 ghost use Rattle.ahead.specs.computed.Ahead.{ticking_of};
 
 use bench::Bench;
+use bench::tested::SoundBench;
 use finish::works;
 use run::skip::skip_work;
 
-// The record after so many ticks, of a record that has been tested; ticks that are no working ones leave it as it was.
-pub fn after_ticks(m: Bench, ticks: u64) -> Bench
-    requires { sound_of m ≡ true }
-    ensures { result ≡ (ticking_of ticks m).bench }
+// The record after so many ticks; ticks that are no working ones leave it as it was.
+pub fn after_ticks(m: SoundBench, ticks: u64) -> Bench
+    ensures { result ≡ (ticking_of ticks m.bench).bench }
 {
     if !works(m) {
-        return m;
+        return m.bench;
     }
     let r = skip_work(m.in_work(), ticks);
-    m.moved(r.at, r.remainder, r.work)
+    m.bench.moved(r.at, r.remainder, r.work)
 }

@@ -2,13 +2,13 @@
 // works at a bench alone. It goes in by value and comes back by value, beside the answer.
 #![tactic(auto)]
 
-ghost use Rattle.std.specs.Prelude.{◌≡◌, true, false, length};
+ghost use Rattle.std.specs.Prelude.{◌≡◌, false, length};
 ghost use Rattle.work.specs.Work.{is_nothing};
 ghost use Rattle.settings.specs.Settings.{capacity_of};
-ghost use Rattle.bench.specs.computed.Bench.{sound_parts, sound_of};
+ghost use Rattle.bench.specs.computed.Bench.{sound_parts};
 ghost use Rattle.bench.specs.Bench.{fresh_of, moved_of};
 ghost use Rattle.run.specs.computed.Run.{written};
-ghost use Rattle.bench.specs.computed.Run.{report_of, run_of};
+ghost use Rattle.bench.specs.computed.Run.{report_of, no_tick, run_of};
 ghost use Rattle.bench.specs.computed.Calls.{make_of, load_of, tick_of};
 
 use block::Block;
@@ -20,7 +20,10 @@ use question::Question;
 use run::in_work::InWork;
 use run::run_work;
 use settings::{Settings, ask_settings, capacity, standard};
+use tested::SoundBench;
 use work::{Work, begin, is_nothing, work_sound, work_tick};
+
+pub mod tested;
 
 #[derive(Clone, Copy)]
 pub struct Bench {
@@ -148,121 +151,113 @@ impl Bench {
         }
     }
 
-    // Gives the bench a block, which begins where it stands, of a record that has been tested.
-    pub fn load_sound(self, b: Block) -> Answered
-        requires { sound_of self ≡ true }
-        ensures { result ≡ load_of self b }
-    {
-        let settings = self.settings;
-        let at = self.at;
-        let work = self.work;
-        let travel = settings.travel;
-        if let Err(no) = ask_load(capacity(settings), travel, is_nothing(work), at, b) {
-            return Answered {
-                answer: Err(no),
-                bench: self,
-            };
-        }
-        let begun = begin(at, b);
-        let next = begun.work;
-        Answered {
-            answer: Ok(Answer::Width(begun.width)),
-            bench: self.moved(at, self.remainder, next),
-        }
-    }
-
-    // One clock tick, of a record that has been tested.
-    pub fn tick_sound(self) -> Ticked
-        requires { sound_of self ≡ true }
-        ensures { result ≡ tick_of self }
-    {
-        let settings = self.settings;
-        let at = self.at;
-        let work = self.work;
-        if self.held {
-            return Ticked {
-                tick: Ok(0),
-                bench: self,
-            };
-        }
-        if is_nothing(work) {
-            return Ticked {
-                tick: Ok(0),
-                bench: self,
-            };
-        }
-        let a = work_tick(capacity(settings), at, self.remainder, work);
-        let here = a.at;
-        let next = a.work;
-        Ticked {
-            tick: Ok(a.byte),
-            bench: self.moved(here, a.remainder, next),
-        }
-    }
-
     // Ticks into a lent buffer, to the end of its tick budget, of the buffer or of the block.
     pub fn run(self, budget: u64, out: &mut [u8]) -> Ran
         ensures value { result ≡ (run_of self budget (length out.old)).ran }
         ensures out_after { out.new ≡ written (run_of self budget (length out.old)).bytes out.old }
     {
-        let settings = self.settings;
-        let at = self.at;
-        let work = self.work;
-        if !sound(settings, at, self.remainder, work) {
-            return Ran {
-                report: Err(Question::Sound),
-                ticks: 0,
-                cycles: 0,
-                bench: self,
+        if !sound(self.settings, self.at, self.remainder, self.work) {
+            return self.without_tick(Err(Question::Sound));
+        }
+        SoundBench { bench: self }.run(budget, out)
+    }
+
+    fn without_tick(self, report: Result<Report, Question>) -> Ran
+        ensures { result ≡ (no_tick self report).ran }
+    {
+        Ran {
+            report,
+            ticks: 0,
+            cycles: 0,
+            bench: self,
+        }
+    }
+}
+
+impl SoundBench {
+    // Gives the bench a block, which begins where it stands.
+    pub fn load(self, b: Block) -> Answered
+        ensures { result ≡ load_of self.bench b }
+    {
+        let m = self.bench;
+        if let Err(no) = ask_load(
+            capacity(m.settings),
+            m.settings.travel,
+            is_nothing(m.work),
+            m.at,
+            b,
+        ) {
+            return Answered {
+                answer: Err(no),
+                bench: m,
             };
         }
-        self.run_sound(budget, out)
+        let begun = begin(m.at, b);
+        Answered {
+            answer: Ok(Answer::Width(begun.width)),
+            bench: m.moved(m.at, m.remainder, begun.work),
+        }
+    }
+
+    // One clock tick.
+    pub fn tick(self) -> Ticked
+        ensures { result ≡ tick_of self.bench }
+    {
+        let m = self.bench;
+        if m.held {
+            return Ticked {
+                tick: Ok(0),
+                bench: m,
+            };
+        }
+        if is_nothing(m.work) {
+            return Ticked {
+                tick: Ok(0),
+                bench: m,
+            };
+        }
+        let a = work_tick(capacity(m.settings), m.at, m.remainder, m.work);
+        Ticked {
+            tick: Ok(a.byte),
+            bench: m.moved(a.at, a.remainder, a.work),
+        }
     }
 
     // What is in work, as a run takes it.
     pub fn in_work(self) -> InWork
-        requires { (sound_of self ≡ true) × (is_nothing self.work ≡ false) }
-        ensures capacity { result.capacity ≡ capacity_of self.settings }
-        ensures at { result.at ≡ self.at }
-        ensures remainder { result.remainder ≡ self.remainder }
-        ensures work { result.work ≡ self.work }
+        requires { is_nothing self.bench.work ≡ false }
+        ensures capacity { result.capacity ≡ capacity_of self.bench.settings }
+        ensures at { result.at ≡ self.bench.at }
+        ensures remainder { result.remainder ≡ self.bench.remainder }
+        ensures work { result.work ≡ self.bench.work }
     {
+        let m = self.bench;
         InWork {
-            capacity: capacity(self.settings),
-            at: self.at,
-            remainder: self.remainder,
-            work: self.work,
+            capacity: capacity(m.settings),
+            at: m.at,
+            remainder: m.remainder,
+            work: m.work,
         }
     }
 
-    // The same of a record that has been tested.
-    pub fn run_sound(self, budget: u64, out: &mut [u8]) -> Ran
-        requires { sound_of self ≡ true }
-        ensures value { result ≡ (run_of self budget (length out.old)).ran }
-        ensures out_after { out.new ≡ written (run_of self budget (length out.old)).bytes out.old }
+    // Ticks into a lent buffer, to the end of its tick budget, of the buffer or of the block.
+    pub fn run(self, budget: u64, out: &mut [u8]) -> Ran
+        ensures value { result ≡ (run_of self.bench budget (length out.old)).ran }
+        ensures out_after { out.new ≡ written (run_of self.bench budget (length out.old)).bytes out.old }
     {
-        if is_nothing(self.work) {
-            return Ran {
-                report: Ok(Report::Idle),
-                ticks: 0,
-                cycles: 0,
-                bench: self,
-            };
+        let m = self.bench;
+        if is_nothing(m.work) {
+            return m.without_tick(Ok(Report::Idle));
         }
-        if self.held {
-            return Ran {
-                report: Ok(Report::Held),
-                ticks: 0,
-                cycles: 0,
-                bench: self,
-            };
+        if m.held {
+            return m.without_tick(Ok(Report::Held));
         }
         let r = run_work(self.in_work(), budget, out);
         Ran {
             report: Ok(report_of(r.ended, budget <= r.ticks)),
             ticks: r.ticks,
             cycles: r.cycles,
-            bench: self.moved(r.at, r.remainder, r.work),
+            bench: m.moved(r.at, r.remainder, r.work),
         }
     }
 }

@@ -12,6 +12,7 @@ ghost use Rattle.calls.specs.computed.Calls.{tells, told_of, made_of, tells_run,
 ghost use Rattle.calls.specs.computed.Asked.{Asking, marks};
 
 use crate::answer::{answer_number, report_number, tick_number};
+use bench::tested::SoundBench;
 use bench::{Answer, Bench};
 use block::Block;
 use block::questions::ask_load;
@@ -45,7 +46,7 @@ pub fn tick(words: &mut [i64; 134]) -> i64
     if is_nothing(work) {
         return 0;
     }
-    let t = k.tick_sound();
+    let t = SoundBench { bench: k }.tick();
     let tick = t.tick;
     let left = left_after(left_in(words), tick);
     store_ticks(words, t.bench, left);
@@ -156,7 +157,7 @@ pub fn run(words: &mut [i64; 134], budget: u64, out: &mut [u8], ticks: &mut u64)
         return -9;
     }
     let k = bench_in(words);
-    let r = k.run_sound(budget, out);
+    let r = SoundBench { bench: k }.run(budget, out);
     let report = r.report;
     let after = r.bench;
     let left = left_in(words) - r.cycles;

@@ -8,6 +8,7 @@ ghost use Rattle.cmachine.specs.computed.Looks.{Passing, ticks_of, tells_ahead, 
 ghost use Rattle.cmachine.specs.Looks.{sum_words};
 
 use bench::Bench;
+use bench::tested::SoundBench;
 use finish::works;
 use look::{MOST_TICKS, Sums, way};
 use record::read::{bench_in, left_in};
@@ -27,7 +28,7 @@ fn pass(words: &mut [i64; 134], k: Bench, ticks: u64) -> u64
     ensures value { result ≡ (pass_of (machine_in words.old) ticks).ticks }
     ensures words_after { words.new ≡ over (encode_of (pass_of (machine_in words.old) ticks).machine) words.old }
 {
-    let r = skip_work(k.in_work(), ticks);
+    let r = skip_work(SoundBench { bench: k }.in_work(), ticks);
     let after = k.moved(r.at, r.remainder, r.work);
     let left = left_in(words) - r.cycles;
     store_ticks(words, after, left);
@@ -42,7 +43,7 @@ fn after_ticks(words: &mut [i64; 134], ticks: u64)
     let mut left = ticks;
     while 0 < left {
         let k = bench_in(words);
-        if !works(k) {
+        if !works(SoundBench { bench: k }) {
             return;
         }
         left = left - pass(words, k, left);

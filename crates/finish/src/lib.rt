@@ -1,11 +1,11 @@
 // A run to the end of the block in work, without its bytes: the charges left give the ticks, so none is walked.
 #![tactic(auto)]
 
-ghost use Rattle.std.specs.Prelude.{◌≡◌, true};
-ghost use Rattle.bench.specs.computed.Bench.{sound_of};
+ghost use Rattle.std.specs.Prelude.{◌≡◌};
 ghost use Rattle.finish.specs.computed.Finish.{works_of, finish_of};
 
 use bench::Bench;
+use bench::tested::SoundBench;
 use divider::{FEED_SCALE, ending};
 use settings::capacity;
 use work::rest::work_left;
@@ -21,20 +21,19 @@ pub struct Finished {
 
 // Whether a tick of this record is a working one: it has a block in work and is not held.
 #[tactic(auto, unfolding(crate::specs::computed::Finish::works_of))]
-pub fn works(m: Bench) -> bool
-    requires { sound_of m ≡ true }
-    ensures { result ≡ works_of m }
+pub fn works(m: SoundBench) -> bool
+    ensures { result ≡ works_of m.bench }
 {
-    !is_nothing(m.work) && !m.held
+    !is_nothing(m.bench.work) && !m.bench.held
 }
 
-// To the end of the block in work, of a record that has been tested; one whose ticks are no working ones stays as it was.
+// To the end of the block in work; a record whose ticks are no working ones stays as it was.
 #[tactic(auto, unfolding(crate::specs::computed::Finish::finish_of))]
-pub fn finish(m: Bench) -> Finished
-    requires { sound_of m ≡ true }
-    ensures { result ≡ finish_of m }
+pub fn finish(tested: SoundBench) -> Finished
+    ensures { result ≡ finish_of tested.bench }
 {
-    if !works(m) {
+    let m = tested.bench;
+    if !works(tested) {
         return Finished {
             cycles: 0,
             ticks: 0,

@@ -9,6 +9,7 @@ ghost use Rattle.machine.specs.computed.Machine.{sound_of};
 ghost use Rattle.look.specs.computed.Look.{refusing, ticking_of, ahead_of, pass_of, way_of};
 
 use bench::Answer;
+use bench::tested::SoundBench;
 use finish::works;
 use machine::Machine;
 use machine::waiting::next;
@@ -72,7 +73,7 @@ fn pass(m: Machine, ticks: u64) -> Passed
     ensures { result ≡ pass_of m ticks }
 {
     let k = m.bench;
-    let r = skip_work(k.in_work(), ticks);
+    let r = skip_work(SoundBench { bench: k }.in_work(), ticks);
     let after = k.moved(r.at, r.remainder, r.work);
     let left = m.left - r.cycles;
     Passed {
@@ -90,7 +91,7 @@ fn after_ticks(m: Machine, ticks: u64) -> Machine
     let mut now = m;
     let mut left = ticks;
     while 0 < left {
-        if !works(now.bench) {
+        if !works(SoundBench { bench: now.bench }) {
             return now;
         }
         let p = pass(now, left);

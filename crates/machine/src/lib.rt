@@ -12,6 +12,7 @@ ghost use Rattle.machine.specs.Calls.{answers, mark_of};
 ghost use Rattle.machine.specs.computed.Calls.{if_sound, make_of, load_with, load_of, tick_of, hold_of, release_of, stop_of};
 ghost use Rattle.machine.specs.computed.Asked.{Taking};
 
+use bench::tested::SoundBench;
 use bench::{Answer, Bench, Report};
 use block::Block;
 use block::questions::ask_load;
@@ -71,14 +72,8 @@ impl Machine {
         ensures { result ≡ sound_of self }
     {
         let k = self.bench;
-        let settings = k.settings;
-        let at = k.at;
-        let work = k.work;
-        if !bench::sound(settings, at, k.remainder, work) {
-            return false;
-        }
-        let q = self.queue;
-        waiting::is_right(k, self.root, self.left, q)
+        bench::sound(k.settings, k.at, k.remainder, k.work)
+            && waiting::is_right(SoundBench { bench: k }, self.root, self.left, self.queue)
     }
 
     // The answer of a call that is refused: the record stays as it was.
@@ -167,14 +162,11 @@ impl Machine {
                 machine: self,
             };
         }
-        let k = self.bench;
-        let q = self.queue;
-        let t = k.tick_sound();
-        let tick = t.tick;
-        let after = t.bench;
+        let t = SoundBench { bench: self.bench }.tick();
+        let left = waiting::left_after(self.left, t.tick);
         Ticked {
-            tick: tick,
-            machine: waiting::next(after, self.root, waiting::left_after(self.left, tick), q),
+            tick: t.tick,
+            machine: waiting::next(t.bench, self.root, left, self.queue),
         }
     }
 
@@ -190,16 +182,12 @@ impl Machine {
                 machine: self,
             };
         }
-        let k = self.bench;
-        let q = self.queue;
-        let r = k.run_sound(budget, out);
-        let report = r.report;
-        let after = r.bench;
+        let r = SoundBench { bench: self.bench }.run(budget, out);
         let left = self.left - r.cycles;
         Ran {
-            report: report,
+            report: r.report,
             ticks: r.ticks,
-            machine: waiting::next(after, self.root, left, q),
+            machine: waiting::next(r.bench, self.root, left, self.queue),
         }
     }
 

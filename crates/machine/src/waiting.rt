@@ -3,7 +3,6 @@
 ghost use Rattle.std.specs.Prelude.{◌≡◌, true, ◌-◌, ◌≤◌};
 ghost use Rattle.work.specs.computed.Rest.{Countable};
 ghost use Rattle.settings.specs.Settings.{capacity_of};
-ghost use Rattle.bench.specs.computed.Bench.{sound_of};
 ghost use Rattle.machine.specs.computed.Machine.{waiting_right};
 ghost use Rattle.machine.specs.Machine.{start_of};
 ghost use Rattle.machine.specs.Calls.{next_of};
@@ -11,6 +10,7 @@ ghost use Rattle.machine.specs.computed.Asked.{work_off, cycles_told, Coming};
 
 use crate::Machine;
 use bench::Bench;
+use bench::tested::SoundBench;
 use plane::point::Point;
 use question::Question;
 use queue::Queue;
@@ -35,11 +35,11 @@ pub fn work_off(at: Point, work: Work, root: u64, count: u64) -> Option<u64>
     }
 }
 
-// Whether root, figure and queue are right behind a bench that has been tested. With none waiting no place of the queue is looked at.
-pub fn is_right(k: Bench, root: u64, left: u64, q: Queue) -> bool
-    requires { sound_of k ≡ true }
-    ensures { result ≡ waiting_right (capacity_of k.settings) k.settings.travel k.at k.work root left q }
+// Whether root, figure and queue are right behind a bench. With none waiting no place of the queue is looked at.
+pub fn is_right(tested: SoundBench, root: u64, left: u64, q: Queue) -> bool
+    ensures { let k = tested.bench in result ≡ waiting_right (capacity_of k.settings) k.settings.travel k.at k.work root left q }
 {
+    let k = tested.bench;
     let Some(rest) = work_off(k.at, k.work, root, left) else {
         return false;
     };

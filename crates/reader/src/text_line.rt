@@ -1,13 +1,13 @@
 // One line of a job, read at a bench: the reader and the record go in and come back beside the answer.
 ghost use Rattle.std.specs.Prelude.{◌≡◌, true, length};
 ghost use Rattle.words.specs.computed.Scan.{first_line};
-ghost use Rattle.bench.specs.computed.Bench.{sound_of};
 ghost use Rattle.bench.specs.computed.Calls.{load_of};
 ghost use Rattle.reader.specs.computed.TextLine.{reads, loaded, taken_of, read_line_of};
 ghost use Rattle.reader.specs.declared.text_line.Read.TheVariants.{Refused};
 
 use crate::Reader;
 use crate::asked::{Asked, ToLoad, ask_first, ask_line};
+use bench::tested::SoundBench;
 use bench::{Answer, Bench, sound};
 use block::Block;
 
@@ -44,11 +44,10 @@ fn refused(k: Reader, m: Bench, number: u64) -> ReadLine
 }
 
 // The block of a line: k is the reader before it, next the one after it.
-fn load(k: Reader, next: Reader, m: Bench, b: Block) -> ReadLine
-    requires { sound_of m ≡ true }
-    ensures { result ≡ loaded k next m (load_of m b).bench (load_of m b).answer }
+fn load(k: Reader, next: Reader, tested: SoundBench, b: Block) -> ReadLine
+    ensures { let m = tested.bench in result ≡ loaded k next m (load_of m b).bench (load_of m b).answer }
 {
-    let a = m.load_sound(b);
+    let a = tested.load(b);
     let answer = a.answer;
     let after = a.bench;
     match answer {
@@ -62,14 +61,13 @@ fn load(k: Reader, next: Reader, m: Bench, b: Block) -> ReadLine
             reader: next,
             bench: after,
         },
-        Err(no) => refused(k, m, no.number()),
+        Err(no) => refused(k, tested.bench, no.number()),
     }
 }
 
 // What a line asked at a sound record; k is the reader before it.
-fn take(k: Reader, m: Bench, a: Asked) -> ReadLine
-    requires { sound_of m ≡ true }
-    ensures { result ≡ taken_of k m a }
+fn take(k: Reader, tested: SoundBench, a: Asked) -> ReadLine
+    ensures { result ≡ taken_of k tested.bench a }
 {
     let asks = a.asks;
     let next = a.reader;
@@ -77,10 +75,10 @@ fn take(k: Reader, m: Bench, a: Asked) -> ReadLine
         ToLoad::Nothing => ReadLine {
             answer: Read::Nothing,
             reader: next,
-            bench: m,
+            bench: tested.bench,
         },
-        ToLoad::Block(b) => load(k, next, m, b),
-        ToLoad::Refused(no) => refused(k, m, no),
+        ToLoad::Block(b) => load(k, next, tested, b),
+        ToLoad::Refused(no) => refused(k, tested.bench, no),
     }
 }
 
@@ -101,7 +99,7 @@ pub fn read_first(k: Reader, m: Bench, text: &[u8]) -> ReadFirst
     let first = ask_first(k, settings.scale, at, text);
     let a = first.asked;
     ReadFirst {
-        read: take(k, m, a),
+        read: take(k, SoundBench { bench: m }, a),
         bytes: first.bytes,
     }
 }
@@ -116,5 +114,9 @@ pub fn read_line(k: Reader, m: Bench, line: &[u8]) -> ReadLine
     if !sound(settings, at, m.remainder, work) {
         return refused(k, m, 9);
     }
-    take(k, m, ask_line(k, settings.scale, at, line))
+    take(
+        k,
+        SoundBench { bench: m },
+        ask_line(k, settings.scale, at, line),
+    )
 }

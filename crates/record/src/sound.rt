@@ -2,7 +2,6 @@
 ghost use Rattle.std.specs.Prelude.{◌≡◌, true};
 ghost use Rattle.plane.specs.Travel.{inside_of};
 ghost use Rattle.plane.specs.computed.Travel.{Wide};
-ghost use Rattle.bench.specs.computed.Bench.{sound_of};
 ghost use Rattle.encoding.specs.Words.{at};
 ghost use Rattle.record.specs.computed.Words.{sound_words};
 ghost use Rattle.record.specs.computed.Right.{figures_right, is_front, kind_right, block_row_right, row_sound, waiting_sound};
@@ -10,7 +9,8 @@ ghost use Rattle.record.specs.computed.Right.{figures_right, is_front, kind_righ
 use crate::read::{
     BlockWords, Figures, bench_in, block_words_in, figures_in, left_in, len_in, root_in, waiting_of,
 };
-use bench::{Bench, sound};
+use bench::sound;
+use bench::tested::SoundBench;
 use encoding::decode::{head_in, work_words_in};
 use encoding::number::is_count;
 use encoding::right::words_right;
@@ -89,11 +89,11 @@ fn row_right(
     left == 0
 }
 
-// Whether root, figure and queue are right behind a bench that has been tested.
-fn waiting_right(words: &[i64; 134], k: Bench) -> bool
-    requires { sound_of k ≡ true }
-    ensures { result ≡ waiting_sound words.now k }
+// Whether root, figure and queue are right behind a bench.
+fn waiting_right(words: &[i64; 134], tested: SoundBench) -> bool
+    ensures { result ≡ waiting_sound words.now tested.bench }
 {
+    let k = tested.bench;
     let Some(rest) = work_off(k.at, k.work, root_in(words), left_in(words)) else {
         return false;
     };
@@ -122,5 +122,5 @@ pub fn is_sound(words: &[i64; 134]) -> bool
         return false;
     }
     let k = bench_in(words);
-    sound(k.settings, k.at, k.remainder, k.work) && waiting_right(words, k)
+    sound(k.settings, k.at, k.remainder, k.work) && waiting_right(words, SoundBench { bench: k })
 }

@@ -3,12 +3,12 @@
 #![tactic(auto)]
 
 ghost use Rattle.std.specs.Prelude.{◌≡◌, true};
-ghost use Rattle.bench.specs.computed.Bench.{sound_of};
 ghost use Rattle.seek.specs.computed.Seek.{seek_of};
 ghost use Rattle.seek.specs.computed.Search.{Counted, Tested, search_from, passed_of, block_of, refused_of, search_after};
 
 use ahead::after_ticks;
 use bench::Bench;
+use bench::tested::SoundBench;
 use finish::finish;
 use reader::text_line::{Read, ReadLine, read_first};
 use reader::{LONGEST_TEXT, Reader};
@@ -89,9 +89,9 @@ impl Search {
     }
 
     // The next line brought a block into work: the one sought, or it ends with ticks left over.
-    fn block(self, reader: Reader, loaded: Bench) -> Search
-        requires { Counted self × (sound_of loaded ≡ true) }
-        ensures { result ≡ block_of self reader loaded }
+    fn block(self, reader: Reader, loaded: SoundBench) -> Search
+        requires { Counted self }
+        ensures { result ≡ block_of self reader loaded.bench }
     {
         let s = self.sought;
         let done = finish(loaded);
@@ -157,7 +157,7 @@ impl Search {
         let answer = read.answer;
         match answer {
             Read::Nothing => self.passed(reader, bench),
-            Read::Loaded(_) => self.block(reader, bench),
+            Read::Loaded(_) => self.block(reader, SoundBench { bench }),
             Read::Refused(number) => self.refused(bench, number),
         }
     }

@@ -3,13 +3,13 @@
 #![tactic(auto)]
 
 ghost use Rattle.std.specs.Prelude.{◌≡◌, true, ◌≤◌, length};
-ghost use Rattle.bench.specs.computed.Bench.{sound_of};
 ghost use Rattle.words.specs.computed.Scan.{first_line};
 ghost use Rattle.row.specs.computed.Buffer.{line_room, has_room, buffer_after, place_after};
 ghost use Rattle.tally.specs.computed.Tally.{Gives, counts_right, kind_of, tally_from, block_listed, total_of};
 ghost use Rattle.tally.specs.computed.Tally.{Reads, bytes_read, unread_of, passed_of};
 
 use bench::Bench;
+use bench::tested::SoundBench;
 use finish::finish;
 use reader::text_line::{Read, read_first};
 use reader::{LONGEST_TEXT, Reader};
@@ -121,14 +121,14 @@ impl Tally {
     fn block(
         self,
         reader: Reader,
-        loaded: Bench,
+        loaded: SoundBench,
         bits: u64,
         bytes: usize,
         out: &mut [u8],
         at: usize,
     ) -> Listed
-        requires { (counts_right self ≡ true) × (has_room out.old at ≡ true) × (sound_of loaded ≡ true) }
-        ensures gives { Gives (block_listed self reader loaded bits) out.old at result out.new }
+        requires { (counts_right self ≡ true) × (has_room out.old at ≡ true) }
+        ensures gives { Gives (block_listed self reader loaded.bench bits) out.old at result out.new }
         ensures bytes_value { result.bytes ≡ bytes }
     {
         let done = finish(loaded);
@@ -136,7 +136,7 @@ impl Tally {
         let row = BlockRow {
             block: self.blocks + 1,
             line: self.lines + 1,
-            kind: kind_of(loaded.work),
+            kind: kind_of(loaded.bench.work),
             cycles: done.cycles,
             x: bench.at.x,
             y: bench.at.y,
@@ -173,7 +173,14 @@ impl Tally {
         let read = first.read;
         match read.answer {
             Read::Nothing => self.passed(read.reader, read.bench, first.bytes, at),
-            Read::Loaded(bits) => self.block(read.reader, read.bench, bits, first.bytes, out, at),
+            Read::Loaded(bits) => self.block(
+                read.reader,
+                SoundBench { bench: read.bench },
+                bits,
+                first.bytes,
+                out,
+                at,
+            ),
             Read::Refused(number) => {
                 let place = row::lines::refused(out, at, self.lines + 1, number);
                 Listed {

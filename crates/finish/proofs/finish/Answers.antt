@@ -6,7 +6,7 @@ use Rattle.finish.specs.laws.Record.{at_work, works, finishes}
 use Rattle.finish.proofs.finish.Goals as goal
 
 pub capacity-q0-requires : goal.capacity-q0-requires
-capacity-q0-requires c = (sound c.requires).settings
+capacity-q0-requires c = (sound c.args.tested.sound).settings
 
 pub work_left-left-requires : goal.work_left-left-requires
 work_left-left-requires c = skip_counts (at_work (works (sym c.works.ensures ∙ c.if-not-works.false)))

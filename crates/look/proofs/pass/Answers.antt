@@ -8,7 +8,7 @@ use Rattle.look.specs.laws.Pass.{skip_onward, skip_less, passes}
 use Rattle.look.proofs.pass.Goals as goal
 
 pub in_work-requires : goal.in_work-requires
-in_work-requires c = let w = works c.requires.1 in (w.sound, w.busy)
+in_work-requires c = (works c.requires.1).busy
 
 pub overflow_sub-left : goal.overflow_sub-left
 overflow_sub-left c =

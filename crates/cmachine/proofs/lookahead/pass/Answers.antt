@@ -3,8 +3,11 @@ use Rattle.std.proofs.Common.{refl}
 use Rattle.cmachine.specs.laws.Looks.{working, pass_enough, pass_stores, pass_told}
 use Rattle.cmachine.proofs.lookahead.pass.Goals as goal
 
+pub invariant_of-in_work : goal.invariant_of-in_work
+invariant_of-in_work c = record { sound = (working c.requires).sound }
+
 pub in_work-requires : goal.in_work-requires
-in_work-requires c = let w = working c.requires in (w.sound, w.busy)
+in_work-requires c = (working c.requires).busy
 
 pub overflow_sub-left : goal.overflow_sub-left
 overflow_sub-left c =

@@ -8,7 +8,7 @@ use Rattle.machine.specs.laws.Onward.{wide, work_countable, work_end_inside}
 use Rattle.machine.proofs.waiting.is_right.Goals as goal
 
 pub work_off-requires : goal.work_off-requires
-work_off-requires c = work_countable c.args.k c.requires
+work_off-requires c = work_countable c.args.tested.bench c.args.tested.sound
 
 pub returns-in_default : goal.returns-in_default
 returns-in_default c = sym (wrong_work _ _ _ _ _ _ _ c.in_default.ensures)
@@ -21,10 +21,11 @@ returns-then-is_nothing c =
     sym (idle_waiting _ _ _ _ _ _ _ c.in-Some.ensures c.if-q-eq0.false (sym c.is_nothing.ensures ∙ c.if-is_nothing.true))
 
 pub capacity-requires : goal.capacity-requires
-capacity-requires c = (sound c.requires).settings
+capacity-requires c = (sound c.args.tested.sound).settings
 
 pub is_sound-requires : goal.is_sound-requires
-is_sound-requires c = (wide c.args.k c.requires, rw c.end_of.ensures (work_end_inside c.args.k c.requires))
+is_sound-requires c =
+    let k = c.args.tested in (wide k.bench k.sound, rw c.end_of.ensures (work_end_inside k.bench k.sound))
 
 pub returns : goal.returns
 returns c =

@@ -6,7 +6,7 @@ use Rattle.record.specs.laws.Sound.{work_wrong, none_right, idle_wrong, busy_rig
 use Rattle.record.proofs.sound.waiting_right.Goals as goal
 
 pub work_off-requires : goal.work_off-requires
-work_off-requires c = work_countable c.args.k c.requires
+work_off-requires c = work_countable c.args.tested.bench c.args.tested.sound
 
 pub returns-in_default : goal.returns-in_default
 returns-in_default c =
@@ -23,10 +23,11 @@ returns-then-is_nothing c =
     (sym (idle_wrong _ _ _ _ _ _ _ _ c.in-Some.ensures c.if-len-eq0.false (sym c.is_nothing.ensures ∙ c.if-is_nothing.true)))
 
 pub capacity-requires : goal.capacity-requires
-capacity-requires c = (sound c.requires).settings
+capacity-requires c = (sound c.args.tested.sound).settings
 
 pub row_right-requires : goal.row_right-requires
-row_right-requires c = (wide c.args.k c.requires, rw c.end_of.ensures (work_end_inside c.args.k c.requires))
+row_right-requires c =
+    let k = c.args.tested in (wide k.bench k.sound, rw c.end_of.ensures (work_end_inside k.bench k.sound))
 
 pub returns : goal.returns
 returns c =

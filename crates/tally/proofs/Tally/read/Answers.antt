@@ -63,16 +63,17 @@ returns-then-not-counts_right c =
 pub overflow_add-self : goal.overflow_add-self
 overflow_add-self c = let k = counts _ (sym c.counts_right.ensures ∙ c.if-not-counts_right.false) in omega (arith, k.lines)
 
-pub block-requires : goal.block-requires
-block-requires c =
+pub invariant_of-block : goal.invariant_of-block
+invariant_of-block c =
     let s = c.args in
     let r = c.read_first-first.ensures.read_value in
     let is = ap (λ (l : ReadLine). l.answer) (sym r) ∙ c.in-Loaded.is in
-    let loaded = loaded_sound s.self.reader s.self.bench (first_line s.text.now) is in (
-      sym c.counts_right.ensures ∙ c.if-not-counts_right.false,
-      sym c.has_room.ensures ∙ c.if-not-has_room.false,
-      subst (λ (l : ReadLine). sound_of l.bench ≡ true) (sym r) loaded,
-    )
+    let loaded = loaded_sound s.self.reader s.self.bench (first_line s.text.now) is in
+    record { sound = subst (λ (l : ReadLine). sound_of l.bench ≡ true) (sym r) loaded }
+
+pub block-requires : goal.block-requires
+block-requires c =
+    (sym c.counts_right.ensures ∙ c.if-not-counts_right.false, sym c.has_room.ensures ∙ c.if-not-has_room.false)
 
 pub returns-in-Nothing : goal.returns-in-Nothing
 returns-in-Nothing c =
