@@ -51,6 +51,7 @@ pub fn add_feeds(due: u64, added: u64, remainder: u64, ticks: u64) -> Gone
 {
     let sum = remainder + ticks * added;
     let paid = sum / due;
+    // No `min`: the definition's two cases, a cycle in each tick or as many as are paid, leave two remainders.
     if ticks < paid {
         return Gone {
             cycles: ticks,

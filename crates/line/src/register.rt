@@ -5,7 +5,7 @@ ghost use Rattle.line.specs.Line.{axis_steps};
 ghost use Rattle.line.specs.computed.Register.{AxisFits};
 ghost use Rattle.line.specs.Register.{clock_of, register_of};
 
-// What a clock of the register gives.
+// What a clock of the register gives; the same sum as `divider::add_feed`, and why it stands apart is said there.
 #[derive(Drop)]
 pub struct Clocked {
     pub register: u64,

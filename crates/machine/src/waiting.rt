@@ -36,6 +36,7 @@ pub fn work_off(at: Point, work: Work, root: u64, count: u64) -> Option<u64>
 }
 
 // Whether root, figure and queue are right behind a bench. With none waiting no place of the queue is looked at.
+// `record::sound` asks the same of words where they stand, since a call from C builds no queue.
 pub fn is_right(tested: SoundBench, root: u64, left: u64, q: Queue) -> bool
     ensures { let k = tested.bench in result ≡ waiting_right (capacity_of k.settings) k.settings.travel k.at k.work root left q }
 {

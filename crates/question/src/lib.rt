@@ -1,4 +1,5 @@
-// What a refusal answers: the question that was the first to be answered by no. 02 numbers them; C and the listings tell the number.
+// What a refusal answers: the question that was the first to be answered by no. 01 numbers them, and 02 the last; C and the listings tell
+// the number.
 #![tactic(auto)]
 
 ghost use Rattle.std.specs.Prelude.{◌≡◌};

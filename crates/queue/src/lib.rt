@@ -26,6 +26,7 @@ pub struct Waiting {
 
 #[derive(Clone, Copy)]
 pub struct Queue {
+    // An array and no `ArrayVec`: the machine is a plain value that goes in and comes back, and that has no `Copy`.
     pub blocks: [Waiting; 16],
     // How many wait: 0 to 16.
     pub len: u64,

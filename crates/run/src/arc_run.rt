@@ -15,7 +15,7 @@ use plane::byte::with_marks;
 use work::Work;
 
 impl ArcInWork {
-    pub fn run(self, most: u64, out: &mut [u8]) -> Ran
+    pub(crate) fn run(self, most: u64, out: &mut [u8]) -> Ran
         requires { most ≤ length out.old }
         ensures value { result ≡ ran_of (strip_of self.capacity most self.at self.remainder (Work.Arc self.arc)) }
         ensures out_after { out.new ≡ written (strip_of self.capacity most self.at self.remainder (Work.Arc self.arc)).bytes out.old }

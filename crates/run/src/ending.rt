@@ -29,7 +29,7 @@ fn longer_way(from: Point, to: Point) -> u64
 }
 
 impl LineInWork {
-    pub fn end(self, most: u64) -> u64
+    pub(crate) fn end(self, most: u64) -> u64
         ensures { let line = self.line in
             let left = line.cycles - line.done in
             Same most result (last_tick (1000 * left * self.capacity) (1000 * line.feed) self.remainder left) }
@@ -46,7 +46,7 @@ impl LineInWork {
 
 impl ArcInWork {
     // A cycle sends one pulse at most on each axis, so as many are left as the longer way has, and each is charged 1,000 at least.
-    pub fn end(self, most: u64) -> u64
+    pub(crate) fn end(self, most: u64) -> u64
         ensures { let due = arc_charges self.arc self.at * self.capacity in
             Same most result (last_tick due (1000 * self.arc.feed) self.remainder (arc_cycles self.arc self.at)) }
     {

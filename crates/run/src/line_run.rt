@@ -16,7 +16,7 @@ use plane::byte::cycle_byte;
 use work::Work;
 
 impl LineInWork {
-    pub fn run(self, most: u64, out: &mut [u8]) -> Ran
+    pub(crate) fn run(self, most: u64, out: &mut [u8]) -> Ran
         requires { most ≤ length out.old }
         ensures value { result ≡ ran_of (strip_of self.capacity most self.at self.remainder (Work.Line self.line)) }
         ensures out_after { out.new ≡ written (strip_of self.capacity most self.at self.remainder (Work.Line self.line)).bytes out.old }

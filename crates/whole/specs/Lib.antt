@@ -1,10 +1,9 @@
--- To be believed, in this order: First, Root, Width, Sign, Equal, Ask. What the code computes, or asks of its callers: computed. Proved:
+-- To be believed, in this order: First, Root, Width, Sign, Equal. What the code computes, or asks of its callers: computed. Proved:
 -- laws.
 pub mod First
 pub mod Root
 pub mod Width
 pub mod Sign
 pub mod Equal
-pub mod Ask
 pub mod computed
 pub mod laws

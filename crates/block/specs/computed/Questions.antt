@@ -11,7 +11,11 @@ use Rattle.arc.specs.declared.arc.Arc.{Arc}
 use Rattle.arc.specs.Centre.{seen_from}
 use Rattle.block.specs.declared.Block.{Block}
 use Rattle.block.specs.declared.Path.{Path}
-use Rattle.block.specs.Questions.{ask_path}
+use Rattle.block.specs.Questions.{ask_arc, ask_path}
+
+-- the number of the first of 15 and 16 that is answered by no, or 0
+abbrev pub arc_no : Travel → Arc → (start : Point) → ℕ
+arc_no t a start = number_told (ask_arc t a start)
 
 -- the number of the first of 13 to 16 that is answered by no, or 0
 abbrev pub path_no : Travel → (start : Point) → Block → Path → ℕ

@@ -5,7 +5,7 @@ use Rattle.std.proofs.lemmas.Bool.{false≢true}
 use Rattle.question.specs.laws.Number.{number_some}
 use Rattle.question.specs.Question.{ask as ask_question, number_of as question_number, number_told}
 use Rattle.question.specs.declared.Question.{Question}
-use Rattle.whole.specs.Ask.{ask}
+use Rattle.whole.specs.computed.Ask.{ask}
 use Rattle.book.specs.Book.{Reply}
 use Rattle.demands.specs.Asked.{Questions, none, question, and_then, FirstNo, AllYes, AsAsked}
 

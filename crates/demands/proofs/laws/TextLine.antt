@@ -13,7 +13,7 @@ use Rattle.question.specs.declared.Question.{Question}
 use Rattle.whole.specs.laws.Test.{both, joined}
 use Rattle.plane.specs.declared.point.Point.{Point}
 use Rattle.block.specs.declared.Block.{Block}
-use Rattle.whole.specs.Ask.{ask}
+use Rattle.whole.specs.computed.Ask.{ask}
 use Rattle.block.specs.Questions.{load_no, ask_load}
 use Rattle.settings.specs.declared.Settings.{Settings}
 use Rattle.settings.specs.Settings.{feed_unit, capacity_at, capacity_of}

@@ -1,6 +1,6 @@
 -- 01, Questions, "Job text": questions 31 to 37 as tests. Crate demands says them in the paper's words.
 use Rattle.std.specs.Prelude.{Bool, cond, not, ◌&&◌, ◌||◌, ℕ, ◌*◌, ◌%◌, leb, eqb, Option}
-use Rattle.whole.specs.Ask.{ask}
+use Rattle.whole.specs.computed.Ask.{ask}
 use Rattle.letters.specs.declared.word.Word.{Word}
 use Rattle.letters.specs.declared.word.Words.{Words}
 use Rattle.words.specs.declared.line.Line.{Line}

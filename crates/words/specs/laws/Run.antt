@@ -10,12 +10,15 @@ use Rattle.letters.specs.declared.letter.Letter.{Letter}
 use Rattle.letters.specs.declared.word.Words.{Words}
 use Rattle.letters.specs.computed.Scan.{letter_of, no_words}
 use Rattle.letters.specs.laws.Scan.{put_of}
+use Rattle.letters.specs.Letter.{takes_sign, takes_point}
 use Rattle.letters.specs.Word.{one_word}
 use Rattle.words.specs.declared.digits.Digits.{Digits}
+use Rattle.words.specs.declared.number.Amount.{Amount}
 use Rattle.words.specs.declared.number.Number.{Number}
+use Rattle.words.specs.declared.number.Sign.{Sign}
 use Rattle.words.specs.Meaning.{answer_of, not_words}
 use Rattle.words.specs.computed.Scan.{first_byte, is_digit, digits, push_of, more_digits, digits_of, Sized}
-use Rattle.words.specs.computed.Scan.{sign, sign_of, amount, pointed_of, amount_after, amount_of, number_of}
+use Rattle.words.specs.computed.Scan.{sign, sign_of, amount, pointed_of, amount_after, amount_of, with_sign, number_of}
 use Rattle.words.specs.computed.Scan.{number_next, letter_next, next_item, scan_of, scan_line}
 use Rattle.words.specs.laws.Digits.{digit_byte, digits_stop, digits_full, digits_more}
 use Rattle.words.specs.laws.Line.{go_on, scan_skip}
@@ -124,6 +127,10 @@ sign_read b = by (eqb b 45) refl (eqb b 43) refl
     by true e false g = refl
     by false e true g = refl
     by false e false g = refl
+
+pub number_is : (s : List ℕ) (l : Letter) (g : Sign) (m : Option Amount) → g ≡ sign_of (takes_sign l) (first_byte s)
+    → m ≡ amount_of (takes_point l) (drop g.bytes s) → with_sign g m ≡ number_of l s
+number_is s l g m h q = rw (← h, ← q)
 
 -- ---- a line
 
