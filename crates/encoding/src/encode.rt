@@ -29,7 +29,8 @@ pub struct Head {
 }
 
 // Words 11 to 18: what is in work, and its numbers in the order that its kind gives them. The kind stays a number, as the mark of `Head`
-// does, and the numbers keep letters: these are the words of the C interface, any of which a caller may hand in, of a kind that there is not.
+// does, and the numbers keep letters: these are the words of the C interface, any of which a caller may hand in, of a kind that there is
+// not.
 #[derive(Drop)]
 pub struct WorkWords {
     pub kind: i64,

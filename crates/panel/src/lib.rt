@@ -182,7 +182,8 @@ impl PanelCheck {
 
     // Of a line that goes on the scratch buffer holds the first bytes.
     fn wait(self, took: usize) -> PieceRead
-        ensures { result ≡ record { told = Told.More; took = took; wrote = 0; check = check_at Stage.Lines self.left self.held self.tally } }
+        ensures { result
+            ≡ record { told = Told.More; took = took; wrote = 0; check = check_at Stage.Lines self.left self.held self.tally } }
     {
         PieceRead {
             told: Told::More,

@@ -32,7 +32,8 @@ pub struct Ran {
 // A run of the line or the arc in work.
 pub fn run_work(here: InWork, budget: u64, out: &mut [u8]) -> Ran
     ensures value { result ≡ ran_of (strip_of here.capacity (min budget (length out.old)) here.at here.remainder here.work) }
-    ensures out_after { out.new ≡ written (strip_of here.capacity (min budget (length out.old)) here.at here.remainder here.work).bytes out.old }
+    ensures out_after { out.new
+        ≡ written (strip_of here.capacity (min budget (length out.old)) here.at here.remainder here.work).bytes out.old }
 {
     let most = budget.min(out.len() as u64);
     let capacity = here.capacity;

@@ -10,7 +10,8 @@ use Rattle.bench.proofs.sound.Goals as goal
 
 pub returns-then-is_err : goal.returns-then-is_err
 returns-then-is_err c =
-    sym (refuted _ (λ e. some_told _ (sym c.is_err.ensures.value ∙ c.if-is_err.true) (ap number_told c.ask_settings.ensures ∙ (sound e).settings)))
+    sym (refuted _ (λ e. some_told _ (sym c.is_err.ensures.value ∙ c.if-is_err.true) (ap number_told c.ask_settings.ensures
+    ∙ (sound e).settings)))
 
 pub returns-then-not-inside : goal.returns-then-not-inside
 returns-then-not-inside c = sym (refuted _ (λ e. false≢true (sym c.if-not-inside.true ∙ c.inside.ensures ∙ (sound e).in_travel)))

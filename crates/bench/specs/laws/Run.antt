@@ -58,7 +58,8 @@ ticks_are m budget buffer = by (sound_of m) (is_nothing m.work) m.held (ran_over
     (strip_of (capacity_of m.settings) (min budget buffer) m.at m.remainder m.work)) refl
   where
     by : (sound idle held : Bool) (run : Run) → run.ran.ticks ≡ length run.bytes
-        → (let r = cond sound (cond idle (no_tick m (Ok Report.Idle)) (cond held (no_tick m (Ok Report.Held)) run)) (no_tick m (Err Question.Sound)) in
+        → (let r = cond sound (cond idle (no_tick m (Ok Report.Idle)) (cond held (no_tick m (Ok Report.Held)) run)) (no_tick m
+        (Err Question.Sound)) in
         r.ran.ticks ≡ length r.bytes)
     by true true held run e = refl
     by true false true run e = refl

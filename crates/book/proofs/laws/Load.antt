@@ -49,7 +49,11 @@ module _ (q0 : ℕ) (t : Travel) (wide : Wide t) where
   path_right : (start : Point) (b : Block) → Bounded t start → Bounded t b.end → (p : Path) → path_no t start b p ≡ 0
       → PathRight t start b p
   unfolding arc_of
-  path_right start b here there Path.Line e = record { end_inside = there; apart = differ_apart start b.end (answered Question.Moves _ e).0 }
+  path_right start b here there Path.Line e = record {
+    end_inside = there;
+    apart = differ_apart start b.end
+        (answered Question.Moves _ e).0;
+  }
   path_right start b here there (Path.Arc turn centre) e =
       let offset = answered Question.Centre _ e in
       let end = answered Question.EndOnCircle _ offset.1 in

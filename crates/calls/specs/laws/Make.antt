@@ -1,5 +1,6 @@
 -- What a make lays are the words of the fresh record.
-use Rattle.std.specs.Prelude.{◌≡◌, refl, List, [], ◌∷◌, ◌++◌, ℕ, zero, suc, ◌+◌, ◌≤◌, ◌<◌, ℤ, pos, length, drop, set, get_or, Result, Ok, Err, ⊤}
+use Rattle.std.specs.Prelude.{◌≡◌, refl, List, [], ◌∷◌, ◌++◌, ℕ, zero, suc, ◌+◌, ◌≤◌, ◌<◌, ℤ, pos, length, drop}
+use Rattle.std.specs.Prelude.{set, get_or, Result, Ok, Err, ⊤}
 use Rattle.std.proofs.Common.{sym, ap, subst, ◌∙◌, add-one, arith, length-drop, drop-drop}
 use Rattle.std.proofs.Math.Seq.{paste, paste-suc, take-length}
 use Rattle.question.specs.Question.{number_of}

@@ -62,7 +62,8 @@ module _ (ws : List ℤ) (before : Reader) where
       → Hears (loads_of before after m b) (heard_of (loaded before after m m a)) now
   line_loads after b {answer} {now} is stored {a} e = by a (sym is ∙ e)
     where
-      by : (a : Result Answer Question) → (load_of m b).answer ≡ a → Hears (loads_of before after m b) (heard_of (loaded before after m m a)) now
+      by : (a : Result Answer Question) → (load_of m b).answer ≡ a
+          → Hears (loads_of before after m b) (heard_of (loaded before after m m a)) now
       by (Ok Answer.Done) e = rw e (refl, stored)
       by (Ok (Answer.Width bits)) e = rw e (refl, stored)
       by (Err q) e = rw e (refl, stored ∙ ap (λ (n : Machine). over (encode_of n) ws) (load_same m b e))

@@ -64,7 +64,8 @@ width_word m e b = rw e (by (asked_of m) refl)
 
     by : (r : Result ⊤ Question) → asked_of m ≡ r → {n : ℕ} → (load_with m b r).answer ≡ Ok (Answer.Width n) → n < 2 ^ 63
     by (Ok passed) asked {n} is =
-        let h = accepted_loadable (taken_accepted {m = m} {start = start} (record { sound = e; start_is = refl; asked = ap number_told asked })) in
+        let h = accepted_loadable (taken_accepted {m = m} {start = start}
+        (record { sound = e; start_is = refl; asked = ap number_told asked })) in
         let w : width_along start b b.path ≡ n = cc in
         subst (λ (k : ℕ). k < 2 ^ 63) w (width_few start b b.path h)
     by (Err q) asked {n} is = let none : ◌≡◌ {A = ℕ} 0 1 = cc in omega (arith, none)

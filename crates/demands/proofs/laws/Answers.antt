@@ -164,11 +164,13 @@ module _ (m : Machine) where
 
   pub hold_answers : (r : Answered) → Holds m r → AsAsked (sound_question m none) (answer_reply r.answer) (r.machine ≡ m)
   unfolding hold_of
-  hold_answers r e = by_sound says Same (answers (Ok Answer.Done) (mark_of m true)) (answers (Err Question.Sound) m) (λ s. refl) refl refl r e
+  hold_answers r e = by_sound says Same (answers (Ok Answer.Done) (mark_of m true)) (answers (Err Question.Sound) m)
+      (λ s. refl) refl refl r e
 
   pub release_answers : (r : Answered) → Releases m r → AsAsked (sound_question m none) (answer_reply r.answer) (r.machine ≡ m)
   unfolding release_of
-  release_answers r e = by_sound says Same (answers (Ok Answer.Done) (mark_of m false)) (answers (Err Question.Sound) m) (λ s. refl) refl refl r e
+  release_answers r e = by_sound says Same (answers (Ok Answer.Done) (mark_of m false)) (answers (Err Question.Sound) m)
+      (λ s. refl) refl refl r e
 
   pub stop_answers : (r : Answered) → Stops m r → AsAsked (sound_question m none) (answer_reply r.answer) (r.machine ≡ m)
   unfolding stop_of

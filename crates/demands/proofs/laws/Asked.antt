@@ -30,7 +30,8 @@ asked false number is later = record { told = inl (refl, λ y. false≢true (is.
 -- the same of a question that a refusal names
 pub questioned : {holds : Type 0} {qs : Questions} (test : Bool) (q : Question) (next : Result ⊤ Question) → (test ≡ true) ↔ holds
     → (holds → Verdict qs (number_told next)) → Verdict (question (question_number q) holds qs) (number_told (ask_question test next q))
-questioned {holds} {qs} true q next is later = let y = is.0 refl in record { told = onward holds qs (question_number q) (number_told next) y (later y).told }
+questioned {holds} {qs} true q next is later = let y = is.0 refl
+    in record { told = onward holds qs (question_number q) (number_told next) y (later y).told }
 questioned {holds} {qs} false q next is later =
     record { told = by (question_number q) (number_some q) }
   where

@@ -55,7 +55,9 @@ module _ (s : Settings) (start : Point) (b : Block) where
   path_verdict (Path.Arc turn centre) =
       let a = arc_of start b turn centre in
       questioned (offset_right centre) Question.Centre _ (centre_is centre) (λ right.
-      questioned (on_circle (square_of centre) (seen_from (back_from start centre) b.end)) Question.EndOnCircle _ (end_is centre right) (λ there.
+      questioned (on_circle (square_of centre) (seen_from (back_from start centre) b.end)) Question.EndOnCircle _
+      (end_is centre right) (λ there.
       let here = (on_circle_to _ _ (start_on start centre (offset_right_lem centre ((centre_is centre).1 right)))).circle in
-      questioned (visits_inside s.travel (arc_after a start) (arc_cycles a start)) Question.VisitsInTravel _ (visits_is s.travel a start here there)
+      questioned (visits_inside s.travel (arc_after a start) (arc_cycles a start)) Question.VisitsInTravel _
+      (visits_is s.travel a start here there)
       (λ _. none_asked)))

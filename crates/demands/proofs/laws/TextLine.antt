@@ -204,7 +204,8 @@ module _ (k k' : Reader) (m : Machine) (ws : Words) where
   line_says zero true false (Err q) = says_some (number_of q) (number_some q)
   line_says zero false stays asked = refl
 
-  line_kept : (number : ℕ) (moves stays : Bool) (asked : Result ⊤ Question) → (or_else number (block_number moves stays (number_told asked)) ≡ 0 → ⊥)
+  line_kept : (number : ℕ) (moves stays : Bool) (asked : Result ⊤ Question)
+      → (or_else number (block_number moves stays (number_told asked)) ≡ 0 → ⊥)
       → (let r = line_by number moves stays asked in (r.reader ≡ k) × (r.machine ≡ m))
   line_kept (suc number) moves stays asked some = (refl, refl)
   line_kept zero true true asked some = absurd (some refl)
@@ -265,7 +266,8 @@ line_answers κs k m bytes r h l means =
 
 module _ (k k' : Reader) (m : Machine) (ws : Words) where
   -- by its numbers: without a block, and with one
-  by_nothing : (number : ℕ) (moves stays : Bool) (asked : Result ⊤ Question) → or_else number (block_number moves stays (number_told asked)) ≡ 0
+  by_nothing : (number : ℕ) (moves stays : Bool) (asked : Result ⊤ Question)
+      → or_else number (block_number moves stays (number_told asked)) ≡ 0
       → is_block moves stays ≡ false
       → line_by k k' m ws number moves stays asked ≡ reads Read.Nothing k' m
   by_nothing (suc number) moves stays asked z e = absurd (omega arith)
@@ -273,10 +275,12 @@ module _ (k k' : Reader) (m : Machine) (ws : Words) where
   by_nothing zero true false asked z e = absurd (false≢true (sym e))
   by_nothing zero false stays asked z e = refl
 
-  by_block : (number : ℕ) (moves stays : Bool) (asked : Result ⊤ Question) → or_else number (block_number moves stays (number_told asked)) ≡ 0
+  by_block : (number : ℕ) (moves stays : Bool) (asked : Result ⊤ Question)
+      → or_else number (block_number moves stays (number_told asked)) ≡ 0
       → is_block moves stays ≡ true
       → (asked ≡ Ok tt) ×
-      (line_by k k' m ws number moves stays asked ≡ loaded k k' m (load_with m (b k k' m ws) (Ok tt)).machine (load_with m (b k k' m ws) (Ok tt)).answer)
+      (line_by k k' m ws number moves stays asked ≡ loaded k k' m (load_with m (b k k' m ws) (Ok tt)).machine (load_with m
+      (b k k' m ws) (Ok tt)).answer)
   by_block (suc number) moves stays asked z e = absurd (omega arith)
   by_block zero true true asked z e = absurd (false≢true e)
   by_block zero true false (Ok passed) z e = (refl, refl)

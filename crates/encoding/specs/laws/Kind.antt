@@ -20,7 +20,8 @@ module _ (w : WorkWords) where
   arc_told false true other e = cc
   arc_told false false other e = absurd cc
 
-  pub nothing_told : (cw ccw : Bool) (other : UnknownTurn) {error : UnknownTurn} → Err error ≡ turned cw ccw other → Work.Nothing ≡ read cw ccw
+  pub nothing_told : (cw ccw : Bool) (other : UnknownTurn) {error : UnknownTurn} → Err error ≡ turned cw ccw other
+      → Work.Nothing ≡ read cw ccw
   nothing_told true ccw other e = absurd cc
   nothing_told false true other e = absurd cc
   nothing_told false false other e = refl

@@ -31,7 +31,8 @@ word_large {n} h = rw (le-ltb n (2 ^ 63) h)
 pub word_or_less : (n : ℕ) {E : Type 0} (tried : Result ℤ E) {word : ℤ} → OkIff tried (FitsSigned w64 (pos n)) (pos n)
     → word ≡ result_unwrap_or tried (negsuc 0) → word ≡ word_of n
 word_or_less n (Ok z) iff e = e ∙ iff.1 ∙ sym (word_small iff.0.sfits)
-word_or_less n (Err x) iff e = let h : 2 ^ 63 < suc n = lt_of_not-le (λ h. iff (record { sfits = h })) in e ∙ sym (word_large (omega (arith, h)))
+word_or_less n (Err x) iff e = let h : 2 ^ 63 < suc n = lt_of_not-le (λ h. iff (record { sfits = h }))
+    in e ∙ sym (word_large (omega (arith, h)))
 
 -- a way round is told by its kind
 pub turn_told : (turn : Turn) → word_of (kind_of turn) ≡ turn_word turn

@@ -1,5 +1,6 @@
 -- What a check that has just begun has still to hand out is the listing of the text.
-use Rattle.std.specs.Prelude.{◌≡◌, refl, Bool, true, false, cond, List, [], ◌∷◌, ◌++◌, ℕ, zero, suc, ◌≤◌, eqb, leb, length, pos, Result, Ok, Err, ⊤}
+use Rattle.std.specs.Prelude.{◌≡◌, refl, Bool, true, false, cond, List, [], ◌∷◌, ◌++◌, ℕ, zero, suc, ◌≤◌, eqb}
+use Rattle.std.specs.Prelude.{leb, length, pos, Result, Ok, Err, ⊤}
 use Rattle.std.proofs.Common.{ap, ◌∙◌, arith, leb-true}
 use Rattle.question.specs.Question.{number_told}
 use Rattle.question.specs.declared.Question.{Question}

@@ -1,5 +1,6 @@
 -- Each text line leaves a tally that a start reaches.
-use Rattle.std.specs.Prelude.{◌≡◌, refl, Bool, true, false, cond, List, ℕ, zero, suc, ◌+◌, ◌/◌, ◌%◌, ◌^◌, ◌≤◌, ◌<◌, length, Option, Result, Ok, Err}
+use Rattle.std.specs.Prelude.{◌≡◌, refl, Bool, true, false, cond, List, ℕ, zero, suc, ◌+◌, ◌/◌, ◌%◌, ◌^◌, ◌≤◌}
+use Rattle.std.specs.Prelude.{◌<◌, length, Option, Result, Ok, Err}
 use Rattle.std.proofs.Common.{arith}
 use Rattle.question.specs.declared.Question.{Question}
 use Rattle.letters.specs.declared.word.Word.{Word}

@@ -43,7 +43,8 @@ abbrev pub refusing : Machine → Question → Ahead
 refusing m q = record { answer = Err q; then = m; sums = record { x = pos 0; y = pos 0 }; machine = m }
 
 unfoldable pub ahead_of : Machine → (ticks : ℕ) → Ahead
-ahead_of m n = cond (sound_of m) (cond (leb n most_ticks) (looked m (ticking_of n m)) (refusing m Question.LookLength)) (refusing m Question.Sound)
+ahead_of m n = cond (sound_of m) (cond (leb n most_ticks) (looked m (ticking_of n m)) (refusing m Question.LookLength))
+    (refusing m Question.Sound)
 
 -- ---- inner functions' answers
 

@@ -6,7 +6,8 @@ use Rattle.question.specs.declared.Question.{Question}
 use Rattle.question.specs.Question.{ask, number_told}
 use Rattle.question.specs.laws.Number.{number_some}
 
-pub answered : {yes : Bool} (q : Question) (next : Result ⊤ Question) → number_told (ask yes next q) ≡ 0 → (yes ≡ true) × (number_told next ≡ 0)
+pub answered : {yes : Bool} (q : Question) (next : Result ⊤ Question) → number_told (ask yes next q) ≡ 0
+    → (yes ≡ true) × (number_told next ≡ 0)
 answered {yes = true} q next e = (refl, e)
 answered {yes = false} q next e = absurd (number_some q e)
 

@@ -143,7 +143,8 @@ module _ (q0 : ℕ) (t : Travel) where
     one = get_or l i blank
 
     step : chain_holds q0 t start count (drop i l)
-        ≡ (fits q0 t start one count && chain_holds q0 t (end_after start one.block) (count - block_cycles start one.block) (drop (i + 1) l))
+        ≡ (fits q0 t start one count && chain_holds q0 t (end_after start one.block) (count - block_cycles start one.block) (drop
+        (i + 1) l))
     unfolding chain_holds
     step = rw add-one (ap (chain_holds q0 t start count) (drop-cons l i blank h))
 

@@ -76,7 +76,8 @@ module _ {count n : ℕ} {old : List ℕ} {at end : ℕ} {new : List ℕ} {m : �
   unfolding last_digits
   last_all {from} b h = by b.left b.room b.all
     where
-      by : (left : ℕ) → from ≡ at + left → last_digits count n ≡ last_digits left m ++ b.text → Puts (last_digits count n) count old at new end
+      by : (left : ℕ) → from ≡ at + left → last_digits count n ≡ last_digits left m ++ b.text
+          → Puts (last_digits count n) count old at new end
       by zero room all =
           let here : from ≡ at = omega arith in
           let long : length b.text ≤ count = omega (arith, ap (λ (s : List ℕ). length s) all, last_length count n) in

@@ -35,7 +35,8 @@ still m none budget buffer =
     (ran_over m budget (strip_of (capacity_of m.settings) (min budget buffer) m.at m.remainder m.work)) none
   where
     by : (sound idle held : Bool) (run : Run) → sound && not (idle || held) ≡ false
-        → (let r = cond sound (cond idle (no_tick m (Ok Report.Idle)) (cond held (no_tick m (Ok Report.Held)) run)) (no_tick m (Err Question.Sound)) in
+        → (let r = cond sound (cond idle (no_tick m (Ok Report.Idle)) (cond held (no_tick m (Ok Report.Held)) run)) (no_tick m
+        (Err Question.Sound)) in
         (r.bytes ≡ []) × (r.ran.bench ≡ m))
     by true true held run e = (refl, refl)
     by true false true run e = (refl, refl)

@@ -1,5 +1,6 @@
 -- The first line of a text, byte by byte; and a number, which no more than its line can have a part in.
-use Rattle.std.specs.Prelude.{◌≡◌, refl, Bool, true, false, cond, not, ◌&&◌, List, [], ◌∷◌, ℕ, zero, suc, ◌+◌, ◌-◌, ◌*◌, ◌^◌, ◌≤◌, ◌<◌, eqb, ltb}
+use Rattle.std.specs.Prelude.{◌≡◌, refl, Bool, true, false, cond, not, ◌&&◌, List, [], ◌∷◌, ℕ, zero, suc, ◌+◌}
+use Rattle.std.specs.Prelude.{◌-◌, ◌*◌, ◌^◌, ◌≤◌, ◌<◌, eqb, ltb}
 use Rattle.std.specs.Prelude.{length, drop, get_or, Option, Some, None, IfSome, unwrap_or}
 use Rattle.std.specs.List.{position_or_len}
 use Rattle.std.proofs.Common.{sym, ap, ◌∙◌, arith, add-one, length-drop, drop_of_length-le}
@@ -164,7 +165,8 @@ after_short true w (b ∷ s) = by (eqb b 46) (ltb (digits_of 3 w.value s).count 
     by false none h = omega arith
 
 amount_short : (fine : Bool) (s : List ℕ) → Within (length s) (amount_of fine s)
-amount_short fine s = by (ltb w.count 1) (digits_short 7 (digits 0 0) s) (amount_after fine w (drop w.count s)) (after_short fine w (drop w.count s))
+amount_short fine s = by (ltb w.count 1) (digits_short 7 (digits 0 0) s) (amount_after fine w (drop w.count s)) (after_short fine w
+    (drop w.count s))
   where
     w : Digits
     w = digits_of 7 0 s

@@ -66,7 +66,8 @@ module _ (s : List ℕ) {ws : Words} {i : ℕ} (r : Scanned (first_line s) ws i)
         module _ (n : Number) (q : number_of l (drop (i + 1) s) ≡ Some n) where
           within : i + 1 + n.bytes ≤ length (first_line s)
           within =
-              let few : n.bytes ≤ length (drop (i + 1) (first_line s)) = rw (number ∙ q) at (number_short l (drop (i + 1) (first_line s))) in
+              let few : n.bytes ≤ length (drop (i + 1) (first_line s)) = rw (number
+              ∙ q) at (number_short l (drop (i + 1) (first_line s))) in
               omega (arith, few, inside, length-drop (i + 1) (first_line s))
 
           pub line_word : Scanned (first_line s) (put_of ws l (one_word n.negative n.magnitude)) (i + 1 + n.bytes)
@@ -85,7 +86,8 @@ first_whole (b ∷ s) h = by (eqb b 10) h (first_whole s)
     by false less same = ap (λ (l : List ℕ). b ∷ l) (same (omega arith))
 
 module _ (ws : Words) (b : ℕ) (s : List ℕ) (further : (k : ℕ) (v : Words) → k ≤ length (first_line s) → scan_of k v s ≡ not_words) where
-  word_broken : (l : Letter) (n : Option Number) → IfSome n (λ m. m.bytes ≤ length (first_line s)) → go_on s (number_next ws l n) ≡ not_words
+  word_broken : (l : Letter) (n : Option Number) → IfSome n (λ m. m.bytes ≤ length (first_line s))
+      → go_on s (number_next ws l n) ≡ not_words
   word_broken l None few = refl
   word_broken l (Some n) few = further _ _ few
 

@@ -6,7 +6,12 @@ use Rattle.run.proofs.gap.next_gap.Goals as goal
 
 pub overflow_add-result-then-added-gap : goal.overflow_add-result-then-added-gap
 overflow_add-result-then-added-gap c =
-    omega (arith, ap (λ (x : Gap). x.ticks) c.first_gap-more.ensures, gap_most c.args.due c.args.added c.args.gap.remainder c.requires.0.some)
+    omega (
+      arith,
+      ap (λ (x : Gap). x.ticks) c.first_gap-more.ensures,
+      gap_most c.args.due c.args.added c.args.gap.remainder
+          c.requires.0.some,
+    )
 
 pub returns-then-added-gap : goal.returns-then-added-gap
 returns-then-added-gap c = next_over c.args.due c.args.added c.args.gap c.first_gap-more.ensures

@@ -10,5 +10,6 @@ pub returns : goal.returns
 returns c =
     let s = c.args.text.now in
     let chain = YieldsList-from_slice s c.iter.ensures.rest in
-    let place = position_from_yields_List (λ b. eqb b 10) _ _ c.position.result c.position.ensures.ran chain (λ x b q k. search (rules, tests)) in
+    let place = position_from_yields_List (λ b. eqb b 10) _ _ c.position.result c.position.ensures.ran chain (λ x b q k. search
+    (rules, tests)) in
     c.unwrap_or.ensures ∙ rw (place, first_lf s) (place_or_end _ (length s) (first_short s))

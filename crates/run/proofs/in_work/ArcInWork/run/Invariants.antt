@@ -10,7 +10,8 @@ use Rattle.run.proofs.in_work.ArcInWork.run.Given as goal
 abbrev pub invariant-loop-gap : goal.invariant-loop-gap
 invariant-loop-gap l =
     Cycling l.fn.self.capacity l.fn.self.arc.feed l.most
-    (strip_of l.fn.self.capacity l.most (tracer_at l.fn.self.arc.centre l.initial.tracer) l.fn.self.remainder (Work.Arc l.fn.self.arc)) l.initial.out
+    (strip_of l.fn.self.capacity l.most (tracer_at l.fn.self.arc.centre l.initial.tracer) l.fn.self.remainder
+    (Work.Arc l.fn.self.arc)) l.initial.out
     l.out l.last l.n 0 l.cycles (tracer_at l.fn.self.arc.centre l.tracer) (Work.Arc l.fn.self.arc) l.gap
     × StandsOn l.fn.self.arc l.tracer
 

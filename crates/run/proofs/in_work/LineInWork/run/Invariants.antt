@@ -11,7 +11,8 @@ abbrev pub invariant-loop-gap : goal.invariant-loop-gap
 invariant-loop-gap l =
     Cycling l.fn.self.capacity l.fn.self.line.feed l.most
     (strip_of l.fn.self.capacity l.most (point_after l.fn.self.line l.fn.self.line.done) l.fn.self.remainder (Work.Line l.fn.self.line))
-    l.initial.out l.out l.last l.n l.fn.self.line.done l.cycles (point_after l.fn.self.line l.cycles) (Work.Line (line_after l.fn.self.line l.cycles))
+    l.initial.out l.out l.last l.n l.fn.self.line.done l.cycles (point_after l.fn.self.line l.cycles) (Work.Line
+    (line_after l.fn.self.line l.cycles))
     l.gap
     × (l.stepper ≡ stepper_of (line_after l.fn.self.line l.cycles))
 
