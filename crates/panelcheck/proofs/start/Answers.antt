@@ -1,9 +1,9 @@
 -- A fresh machine's check has the panel's listing to hand out.
-use Rattle.std.proofs.Common.{◌≡◌, ap, ◌∙◌}
+use Rattle.std.proofs.Common.{◌≡◌, refl, ap, ◌∙◌}
 use Rattle.settings.specs.Settings.{standard_settings}
 use Rattle.settings.specs.laws.Right.{standard_passes}
 use Rattle.bench.specs.Bench.{fresh_of}
-use Rattle.bench.specs.computed.Calls.{make_of}
+use Rattle.bench.specs.laws.Calls.{make_done}
 use Rattle.panel.specs.declared.PanelCheck.{PanelCheck}
 use Rattle.panel.specs.computed.Piece.{start_of}
 use Rattle.panel.specs.computed.Rest.{rest_of}
@@ -11,8 +11,7 @@ use Rattle.panel.specs.laws.Listing.{panel_is}
 use Rattle.panelcheck.proofs.start.Goals as goal
 
 pub returns : goal.returns
-unfolding make_of
 returns c scratch text =
     let fresh : c.start.result ≡ start_of (fresh_of standard_settings) =
-    rw (c.start.ensures, c.make.ensures, c.standard.ensures, standard_passes) in
+    rw (c.start.ensures, c.make.ensures, c.standard.ensures, ← (make_done standard_settings refl standard_passes)) in
     ap (λ (p : PanelCheck). rest_of p scratch text) fresh ∙ panel_is standard_settings standard_passes scratch text
