@@ -40,6 +40,7 @@ fn arc_of(turn: Turn, w: WorkWords) -> Arc
     }
 }
 
+#[inline(always)]
 pub fn work_of(w: WorkWords) -> Work
     ensures { result ≡ work_read w }
 {
@@ -54,6 +55,7 @@ pub fn work_of(w: WorkWords) -> Work
 }
 
 // The words may have others behind them, as those of a machine with a queue have.
+#[inline(always)]
 pub fn head_in(words: &[i64]) -> Head
     requires { 19 ≤ length words.now }
     ensures { result ≡ head_in words.now }
@@ -72,6 +74,7 @@ pub fn head_in(words: &[i64]) -> Head
     }
 }
 
+#[inline(always)]
 pub fn work_words_in(words: &[i64]) -> WorkWords
     requires { 19 ≤ length words.now }
     ensures { result ≡ work_words_in words.now }
@@ -94,6 +97,7 @@ fn settings_in(h: Head) -> Settings
     settings(h.p, h.w, h.xlo, h.xhi, h.ylo, h.yhi)
 }
 
+#[inline(always)]
 pub fn bench_of(h: Head, work: Work) -> Bench
     ensures { result ≡ bench_of h work }
 {
@@ -113,13 +117,22 @@ fn is_record(words: &[i64; 19]) -> bool
     words_right(words[0], head_in(words), work_words_in(words))
 }
 
-// The bench that words tell, whatever they are.
+// The bench that words tell, whatever they are. They may have others behind them.
 #[tactic(auto, unfolding(crate::specs::computed::Words::bench_read))]
-pub fn bench_read(words: &[i64]) -> Bench
+#[inline(always)]
+pub fn bench_in(words: &[i64]) -> Bench
     requires { 19 ≤ length words.now }
     ensures { result ≡ bench_read words.now }
 {
     bench_of(head_in(words), work_of(work_words_in(words)))
+}
+
+// The same of 19 words, which need nobody's proof that there are as many.
+#[inline(always)]
+pub fn bench_read(words: &[i64; 19]) -> Bench
+    ensures { result ≡ bench_read words.now }
+{
+    bench_in(words)
 }
 
 // Whether the words are those of a sound record.

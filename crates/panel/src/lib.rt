@@ -63,7 +63,7 @@ fn taken(piece: &[u8], left: usize) -> usize
     ensures { result ≡ length (taken_of left piece.now) }
 {
     let most = left.min(piece.len());
-    end_of_line(&piece[..most])
+    end_of_line(&piece[..most], 0)
 }
 
 // Puts bytes of the line behind those that the scratch buffer holds, as far as there is room; answers how many it holds then.

@@ -93,7 +93,7 @@ pub fn read_first(k: Reader, m: Bench, text: &[u8]) -> ReadFirst
     if !sound(settings, at, m.remainder, work) {
         return ReadFirst {
             read: refused(k, m, 9),
-            bytes: words::text::end_of_line(text),
+            bytes: words::text::end_of_line(text, 0),
         };
     }
     let first = ask_first(k, settings.scale, at, text);

@@ -1,13 +1,15 @@
 // What the words tell, whatever they are: each is read where it stands, and the words are not copied as a whole.
 ghost use Rattle.std.specs.Prelude.{◌≡◌, ◌≤◌, ◌<◌};
 ghost use Rattle.encoding.specs.Words.{count_of, at};
+ghost use Rattle.encoding.specs.computed.Words.{head_in, work_words_in};
 ghost use Rattle.machine.specs.Machine.{start_of};
 ghost use Rattle.record.specs.computed.Words.{block_words_in, path_read, waiting_of, waiting_in, queue_in, figures_in, len_in, bench_in};
 
 use bench::Bench;
 use block::{Block, Path};
 use circle::plane::{Offset, Turn};
-use encoding::decode::bench_read;
+use encoding::decode;
+use encoding::encode::{Head, WorkWords};
 use encoding::number::count;
 use plane::point::Point;
 use queue::Waiting;
@@ -34,6 +36,20 @@ pub struct BlockWords {
     pub root: i64,
 }
 
+#[inline(always)]
+pub fn head_in(words: &[i64; 134]) -> Head
+    ensures { result ≡ head_in words.now }
+{
+    decode::head_in(words)
+}
+
+#[inline(always)]
+pub fn work_words_in(words: &[i64; 134]) -> WorkWords
+    ensures { result ≡ work_words_in words.now }
+{
+    decode::work_words_in(words)
+}
+
 pub fn figures_in(words: &[i64; 134]) -> Figures
     ensures { result ≡ figures_in words.now }
 {
@@ -45,10 +61,11 @@ pub fn figures_in(words: &[i64; 134]) -> Figures
 }
 
 #[tactic(auto, unfolding(crate::specs::computed::Words::bench_in, encoding::specs::computed::Words::bench_read))]
+#[inline(always)]
 pub fn bench_in(words: &[i64; 134]) -> Bench
     ensures { result ≡ bench_in words.now }
 {
-    bench_read(words)
+    decode::bench_in(words)
 }
 
 pub fn block_words_in(words: &[i64; 134], place: usize) -> BlockWords

@@ -7,11 +7,11 @@ ghost use Rattle.record.specs.computed.Words.{sound_words};
 ghost use Rattle.record.specs.computed.Right.{figures_right, is_front, kind_right, block_row_right, row_sound, waiting_sound};
 
 use crate::read::{
-    BlockWords, Figures, bench_in, block_words_in, figures_in, left_in, len_in, root_in, waiting_of,
+    BlockWords, Figures, bench_in, block_words_in, figures_in, head_in, left_in, len_in, root_in,
+    waiting_of, work_words_in,
 };
 use bench::sound;
 use bench::tested::SoundBench;
-use encoding::decode::{head_in, work_words_in};
 use encoding::number::is_count;
 use encoding::right::words_right;
 use machine::waiting::work_off;

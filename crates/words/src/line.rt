@@ -1,6 +1,6 @@
 // The scan of a line: blanks are skipped, and a letter with its number is a word, which goes to its letter's place. One pass finds the
 // words and the line's end.
-ghost use Rattle.std.specs.Prelude.{◌≡◌, true, ◌+◌, ◌≤◌, length, drop};
+ghost use Rattle.std.specs.Prelude.{◌≡◌, true, ◌+◌, length, drop};
 ghost use Rattle.letters.specs.computed.Found.{words_in};
 ghost use Rattle.letters.specs.computed.Put.{Gathered};
 ghost use Rattle.words.specs.Meaning.{answer_of, not_words};
@@ -55,13 +55,12 @@ fn formed(found: Found, magnitudes: &[u64]) -> Line
 
 // No line of words, seen before its end: that is still to be found.
 fn refused(s: &[u8], from: usize) -> First
-    requires { from ≤ length s.now }
     ensures line_value { result.line ≡ not_words }
     ensures bytes_value { result.bytes ≡ from + length (first_line (drop from s.now)) }
 {
     First {
         line: not_words(),
-        bytes: from + end_of_line(&s[from..]),
+        bytes: end_of_line(s, from),
     }
 }
 

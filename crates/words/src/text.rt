@@ -1,5 +1,5 @@
 // The lines of a job text: LF, byte 10, ends a line, and the last may lack it.
-ghost use Rattle.std.specs.Prelude.{◌≡◌, ltb, length, drop};
+ghost use Rattle.std.specs.Prelude.{◌≡◌, ◌+◌, ltb, length, drop};
 ghost use Rattle.words.specs.computed.Scan.{first_line};
 
 const LF: u8 = 10;
@@ -11,9 +11,13 @@ pub fn in_line(text: &[u8], at: usize) -> bool
     at < text.len() && text[at] != LF
 }
 
-// Where the text's first line ends: at its LF, or at the end of the text.
-pub fn end_of_line(text: &[u8]) -> usize
-    ensures { result ≡ length (first_line text.now) }
+// Where the line that begins here ends: at its LF, or at the end of the text.
+pub fn end_of_line(text: &[u8], from: usize) -> usize
+    ensures { result ≡ from + length (first_line (drop from text.now)) }
 {
-    text.iter().position(|b| *b == LF).unwrap_or(text.len())
+    if text.len() < from {
+        return from;
+    }
+    let rest = &text[from..];
+    from + rest.iter().position(|b| *b == LF).unwrap_or(rest.len())
 }
