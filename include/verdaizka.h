@@ -14,7 +14,7 @@
  * and vz_check_fill list it beforehand, and where the text can't be held, vz_panel_start and vz_panel_read, from pieces of it as they come.
  *
  * Needed: C11 or C++11, and an x86-64 machine: tools/archive writes target/libverdaizka.a for it.
- * From outside the archive needs memcpy, memmove and memset alone.
+ * From outside the archive needs memmove and memset alone.
  *     cc -std=c11 -Iinclude program.c target/libverdaizka.a
  * examples/c has whole programs: square_and_circle.c, look_ahead.c, run_a_job.c, check_a_job.c, slow_line.c.
  *

@@ -128,7 +128,10 @@ pub fn load(words: &mut [i64; 134], b: Block) -> i64
 fn lay(words: &mut [i64; 134], front: &[i64; 19])
     ensures { words.new ≡ over front.now words.old }
 {
-    words[..19].copy_from_slice(front);
+    // Not by `copy_from_slice`, for which the archive would need memcpy from outside.
+    for i in 0..19 {
+        words[i] = front[i];
+    }
 }
 
 // Whatever the words were, those in front are a record after it: the bench's own, and no root, no cycle and no block to do.

@@ -4,4 +4,5 @@ pub mod Lines
 pub mod Buffer
 pub mod Puts
 pub mod Numbers
+pub mod Behind
 pub mod Examples
