@@ -120,14 +120,20 @@ fn way_inside(room: Room, n: u64, p: Offset, e: Offset) -> bool
         && axes_clear(room, n, axes_passed(from, place_of(e)), from.quadrant)
 }
 
+fn smaller(a: i64, b: i64) -> i64
+    ensures { result ≡ smaller_of a b }
+{
+    a.min(b)
+}
+
 // Whether the least of the four sides reaches the circle: then every circle point is inside.
 fn surrounds(room: Room, n: u64) -> bool
     requires { n ≤ largest_n }
     ensures { result ≡ true → (p : Offset) → Circle n p → Inside room p }
 {
-    let x = room.right.min(room.left);
-    let y = room.up.min(room.down);
-    reaches_axis(n, x.min(y))
+    let x = smaller(room.right, room.left);
+    let y = smaller(room.up, room.down);
+    reaches_axis(n, smaller(x, y))
 }
 
 // Whether p and every point still to visit on the way to e are inside, for any room.
