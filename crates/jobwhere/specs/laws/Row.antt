@@ -1,4 +1,4 @@
--- The row in two parts.
+-- The row's first number fits its word.
 use Rattle.std.specs.Int.{w64}
 use Rattle.std.proofs.Common.{SFits}
 use Rattle.std.proofs.Math.Facts.{sfits_lit}

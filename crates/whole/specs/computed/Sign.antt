@@ -1,4 +1,4 @@
--- Sign and magnitude parted and joined again, and differences, as the code takes them.
+-- Sign and magnitude parted and joined again, and differences, as the code takes them; and offset binary, of which laws alone speak.
 use Rattle.std.specs.Prelude.{ℕ, ◌^◌, ℤ, pos, nat_abs, ◌+ℤ◌, ◌-ℤ◌}
 use Rattle.whole.specs.declared.sign.SignMagnitude.{SignMagnitude}
 use Rattle.whole.specs.Sign.{is_negative, signed}
