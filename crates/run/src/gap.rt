@@ -2,7 +2,7 @@
 ghost use Rattle.std.specs.Prelude.{◌≡◌, ◌+◌, ◌*◌, ◌^◌, ◌≤◌, ◌<◌};
 ghost use Rattle.work.specs.computed.Sound.{Feed};
 ghost use Rattle.circle.specs.computed.Charge.{move_charge};
-ghost use Rattle.run.specs.computed.Gap.{gap_of, divided_of, next_gap, remainder_at, if_less, by_move, Before, ArcGap};
+ghost use Rattle.run.specs.computed.Gap.{gap_of, divided_of, limit_of, next_gap, remainder_at, if_less, by_move, Before, ArcGap};
 
 use circle::step::{Move, move_charge};
 
@@ -68,19 +68,38 @@ fn by_move(m: Move, straight: u64, diagonal: u64) -> u64
     }
 }
 
+// The gap after a gap's cycle, by a division. Only a made-up remainder needs one: out of line it takes nothing of what a loop has at hand.
+#[cold]
+#[inline(never)]
+fn next_by_division(gap: Gap, due: u64, added: u64) -> Gap
+    requires { Feed due added × (due ≤ 1696800000000) × (gap.remainder ≤ 1696800000000) × (gap.ticks + 4000000000000 < 2 ^ 64) }
+    ensures { result ≡ next_gap due added gap }
+{
+    let more = first_gap(due, added, gap.remainder);
+    Gap {
+        ticks: gap.ticks + 1 + more.ticks,
+        remainder: more.remainder,
+    }
+}
+
+// The parts tell the next gap after any remainder below this: what a tick adds. Parts of one whole tick tell it after every remainder, so
+// that a run which does a cycle in each tick never divides.
+#[tactic(auto, unfolding(crate::specs::computed::Gap::limit_of))]
+pub fn limit(added: u64, parts: Divided) -> u64
+    ensures { result ≡ limit_of added parts }
+{
+    if parts.whole == 1 { u64::MAX } else { added }
+}
+
 // The gap after a gap's cycle, to a cycle of this due, divided before the first gap. A cycle leaves less than a tick adds; then it is
 // `whole` ticks more, or one more: no division. Only after a made-up remainder more can be left.
-pub fn next_gap(due: u64, added: u64, parts: Divided, gap: Gap) -> Gap
-    requires { Feed due added × (parts ≡ divided_of due added) × (due ≤ 1696800000000)
+pub fn next_gap(due: u64, added: u64, parts: Divided, limit: u64, gap: Gap) -> Gap
+    requires { Feed due added × (parts ≡ divided_of due added) × (2 ≤ parts.whole → limit ≤ added) × (due ≤ 1696800000000)
         × (gap.remainder ≤ 1696800000000) × (gap.ticks + 4000000000000 < 2 ^ 64) }
     ensures { result ≡ next_gap due added gap }
 {
-    if added <= gap.remainder {
-        let more = first_gap(due, added, gap.remainder);
-        return Gap {
-            ticks: gap.ticks + 1 + more.ticks,
-            remainder: more.remainder,
-        };
+    if limit <= gap.remainder {
+        return next_by_division(gap, due, added);
     }
     let late = if_less(gap.remainder, parts.over, 1);
     let more = if_less(gap.remainder, parts.over, added);
@@ -107,7 +126,8 @@ pub fn arc_gap(
         whole: by_move(m, straight.whole, diagonal.whole),
         over: by_move(m, straight.over, diagonal.over),
     };
-    next_gap(due, added, parts, gap)
+    // The next diagonal step takes a made-up remainder off: a limit chosen by the move would cost more than it spares.
+    next_gap(due, added, parts, added, gap)
 }
 
 // The remainder after n ticks, none of which does the gap's cycle.

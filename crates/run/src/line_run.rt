@@ -6,7 +6,7 @@ ghost use Rattle.run.specs.computed.Run.{strip_of, ran_of, written};
 
 use crate::Ran;
 use crate::buffer::clear;
-use crate::gap::{divide, first_gap, next_gap, remainder_at};
+use crate::gap::{divide, first_gap, limit, next_gap, remainder_at};
 use crate::in_work::LineInWork;
 use circle::step::STRAIGHT;
 use divider::FEED_SCALE;
@@ -29,6 +29,7 @@ impl LineInWork {
         let last = most.min(end - 1);
         clear(out, n);
         let parts = divide(due, added);
+        let limit = limit(added, parts);
         let mut gap = first_gap(due, added, self.remainder);
         let mut stepper = Stepper::enter(line, self.at);
         let mut cycles = line.done;
@@ -37,7 +38,7 @@ impl LineInWork {
             out[gap.ticks as usize] = cycle_byte(s.pulses, false);
             stepper = s.stepper;
             cycles += 1;
-            gap = next_gap(due, added, parts, gap);
+            gap = next_gap(due, added, parts, limit, gap);
         }
         if last < n {
             out[last as usize] = cycle_byte(stepper.advance().pulses, true);

@@ -1,5 +1,5 @@
 -- From cycle to cycle, for the contracts of inner functions; no contract that a caller reads rests on it.
-use Rattle.std.specs.Prelude.{◌≡◌, cond, List, ◌++◌, ℕ, ◌+◌, ◌-◌, ◌*◌, ◌/◌, ◌^◌, ◌≤◌, ◌<◌, ltb, drop, replicate}
+use Rattle.std.specs.Prelude.{◌≡◌, cond, List, ◌++◌, ℕ, ◌+◌, ◌-◌, ◌*◌, ◌/◌, ◌^◌, ◌≤◌, ◌<◌, eqb, ltb, drop, replicate}
 use Rattle.circle.specs.declared.step.Move.{Move}
 use Rattle.circle.specs.declared.step.Move.TheVariants.{Rise, Slant, Fall}
 use Rattle.run.specs.declared.gap.Gap.{Gap}
@@ -13,6 +13,10 @@ gap_of due a r = let g = (due - 1 - r) / a in record { ticks = g; remainder = r 
 -- a due by what a tick adds, and what is over
 unfoldable pub divided_of : (due a : ℕ) → Divided
 divided_of due a = record { whole = due / a; over = due - due / a * a }
+
+-- below which remainder a divided due tells the next gap: what a tick adds; with one whole tick below any of 64 bits
+unfoldable pub limit_of : (a : ℕ) → Divided → ℕ
+limit_of a d = cond (eqb d.whole 1) 18446744073709551615 a
 
 -- a gap that is counted from d ticks earlier
 abbrev pub later : (d : ℕ) → Gap → Gap

@@ -1,8 +1,8 @@
 -- The gap to the next cycle: by what ticks add, and without a division where the remainder is below what a tick adds.
-use Rattle.std.specs.Prelude.{◌≡◌, refl, Bool, true, false, cond, ℕ, zero, suc, ◌+◌, ◌-◌, ◌*◌, ◌/◌, ◌≤◌, ◌<◌, ltb}
+use Rattle.std.specs.Prelude.{◌≡◌, refl, Bool, true, false, cond, ℕ, zero, suc, ◌+◌, ◌-◌, ◌*◌, ◌/◌, ◌≤◌, ◌<◌, eqb, ltb}
 use Rattle.std.proofs.Math.Path.{ap}
 use Rattle.std.proofs.Common.{ap₂, ◌∙◌, lt_of_mul-lt-mul_right, le_antisymm, le_of_suc-le-suc, div-mul-le_self, mul-le-mul, mul-le-mul_left}
-use Rattle.std.proofs.Common.{arith, ltb-true, ltb-false}
+use Rattle.std.proofs.Common.{arith, eqb-true, ltb-true, ltb-false}
 use Rattle.std.proofs.Math.Nat.{lt-div-mul-add}
 use Rattle.circle.specs.declared.step.Move.{Move}
 use Rattle.circle.specs.declared.step.Move.TheVariants.{Rise, Slant, Fall}
@@ -11,7 +11,7 @@ use Rattle.divider.specs.laws.Last.{Due}
 use Rattle.work.specs.computed.Sound.{Feed}
 use Rattle.run.specs.declared.gap.Gap.{Gap}
 use Rattle.run.specs.declared.gap.Divided.{Divided}
-use Rattle.run.specs.computed.Gap.{gap_of, divided_of, later, next_gap, if_less, by_move}
+use Rattle.run.specs.computed.Gap.{gap_of, divided_of, limit_of, later, next_gap, if_less, by_move}
 
 -- the gap is the divider's
 abbrev pub DueGap : (due a r : ℕ) → Gap → Type 0
@@ -85,7 +85,7 @@ module _ {due a : ℕ} {d : Divided} (k : Feed due a) (w : Parts due a d) where
   pub whole_most : d.whole ≤ due
   whole_most = omega (arith, w.all, mul-le-mul_left d.whole k.some)
 
-  module _ (g : Gap) (below : g.remainder < a) where
+  module _ (g : Gap) (below : 2 ≤ d.whole → g.remainder < a) where
     gap_is : {next : Gap} → DueGap due a g.remainder next → later (g.ticks + 1) next ≡ next_gap due a g
     unfolding next_gap
     gap_is x = ap (later (g.ticks + 1)) (due_unique x (gap_due due a g.remainder k.some))
@@ -97,7 +97,7 @@ module _ {due a : ℕ} {d : Divided} (k : Feed due a) (w : Parts due a d) where
         let feeds = ap (λ (x : ℕ). x * a) one in
         ap (λ (t : ℕ). record { ticks = t; remainder = g.remainder - d.over }) (omega arith)
         ∙ gap_is {next = record { ticks = d.whole - 1; remainder = g.remainder - d.over }}
-        (record { before = λ m. omega (arith, w.all); leaves = omega (arith, w.all) })
+        (record { before = λ m. omega (arith, w.all, below (omega arith)); leaves = omega (arith, w.all) })
 
     pub next_whole : g.remainder < d.over
         → record { ticks = g.ticks + 1 + d.whole; remainder = g.remainder + a - d.over } ≡ next_gap due a g
@@ -128,6 +128,15 @@ module _ {due a : ℕ} {d : Divided} (k : Feed due a) (w : Parts due a d) where
         by : (t : Bool) → ltb g.remainder d.over ≡ t → d.over ≤ g.remainder + cond t a 0
         by true e = omega (arith, w.below)
         by false e = omega (arith, ltb-false g.remainder d.over e)
+
+-- with more whole ticks than one the limit is what a tick adds
+pub limit_most : {a limit : ℕ} (d : Divided) → limit ≡ limit_of a d → 2 ≤ d.whole → limit ≤ a
+unfolding limit_of
+limit_most {a} d e h = rw e (by (eqb d.whole 1) refl)
+  where
+    by : (t : Bool) → eqb d.whole 1 ≡ t → cond t 18446744073709551615 a ≤ a
+    by true e = absurd (omega (arith, eqb-true d.whole 1 e))
+    by false e = omega arith
 
 pub if_less_most : (a b n : ℕ) → if_less a b n ≤ n
 if_less_most a b n = by (ltb a b)

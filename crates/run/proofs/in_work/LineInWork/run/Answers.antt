@@ -12,6 +12,7 @@ use Rattle.run.specs.laws.Going.{Answer, answers}
 use Rattle.run.specs.laws.Sound.{run_ready}
 use Rattle.run.specs.laws.Cycles.{in_work_lem, end_range, added_some, feed_due, due_most, rest_most}
 use Rattle.run.specs.laws.Ending.{same_least, same_some, same_before}
+use Rattle.run.specs.laws.Gap.{limit_most}
 use Rattle.run.specs.laws.Cycling.{cycling_start, cycling_long, gap_left, out_asks, cycling_out}
 use Rattle.run.specs.laws.LineRun.{point_after, line_drawn, line_more, line_asks_lem, line_small, line_on_lem, line_end}
 use Rattle.run.specs.laws.Widest.{sound_in}
@@ -77,6 +78,7 @@ next_gap-gap-requires c =
     let i = c.loop-gap.invariant.0 in (
       feed_due i.work,
       c.divide-parts.ensures,
+      limit_most _ c.limit-limit.ensures,
       due_most i.work,
       gap_left i,
       omega (arith, c.loop-gap-test.true, i.left.low, i.few, i.work.capacity),
