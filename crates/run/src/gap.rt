@@ -68,7 +68,7 @@ fn by_move(m: Move, straight: u64, diagonal: u64) -> u64
     }
 }
 
-// The gap after a gap's cycle, by a division. Only a made-up remainder needs one: out of line it takes nothing of what a loop has at hand.
+// The gap after a gap's cycle, by a division, which only a made-up remainder needs: out of line, so that no loop has it in its turn.
 #[cold]
 #[inline(never)]
 fn next_by_division(gap: Gap, due: u64, added: u64) -> Gap
@@ -83,7 +83,7 @@ fn next_by_division(gap: Gap, due: u64, added: u64) -> Gap
 }
 
 // The parts tell the next gap after any remainder below this: what a tick adds. Parts of one whole tick tell it after every remainder, so
-// that a run which does a cycle in each tick never divides.
+// that no turn divides on a line at full feed, where a made-up remainder stays to the end.
 #[tactic(auto, unfolding(crate::specs::computed::Gap::limit_of))]
 pub fn limit(added: u64, parts: Divided) -> u64
     ensures { result ≡ limit_of added parts }
@@ -126,7 +126,7 @@ pub fn arc_gap(
         whole: by_move(m, straight.whole, diagonal.whole),
         over: by_move(m, straight.over, diagonal.over),
     };
-    // The next diagonal step takes a made-up remainder off: a limit chosen by the move would cost more than it spares.
+    // No limit of the parts: the next diagonal step takes a made-up remainder off.
     next_gap(due, added, parts, added, gap)
 }
 

@@ -14,7 +14,7 @@ gap_of due a r = let g = (due - 1 - r) / a in record { ticks = g; remainder = r 
 unfoldable pub divided_of : (due a : ℕ) → Divided
 divided_of due a = record { whole = due / a; over = due - due / a * a }
 
--- below which remainder a divided due tells the next gap: what a tick adds; with one whole tick below any of 64 bits
+-- below which remainder a divided due tells the next gap: what a tick adds; with one whole tick the greatest number of 64 bits
 unfoldable pub limit_of : (a : ℕ) → Divided → ℕ
 limit_of a d = cond (eqb d.whole 1) 18446744073709551615 a
 

@@ -1,4 +1,5 @@
--- The gap to the next cycle: by what ticks add, and without a division where the remainder is below what a tick adds.
+-- The gap to the next cycle: by what ticks add, and without a division where the remainder is below what a tick adds or the due has one
+-- whole tick.
 use Rattle.std.specs.Prelude.{◌≡◌, refl, Bool, true, false, cond, ℕ, zero, suc, ◌+◌, ◌-◌, ◌*◌, ◌/◌, ◌≤◌, ◌<◌, eqb, ltb}
 use Rattle.std.proofs.Math.Path.{ap}
 use Rattle.std.proofs.Common.{ap₂, ◌∙◌, lt_of_mul-lt-mul_right, le_antisymm, le_of_suc-le-suc, div-mul-le_self, mul-le-mul, mul-le-mul_left}
